@@ -1,0 +1,81 @@
+-- Laws of runs: their length and elements, when a list is one, and tests at each of some numbers in a row. Assumes nothing.
+use mathlib.Core.Path.{_≡_, refl, sym, ap, _∙_}
+use mathlib.Core.Bool.{Bool, true, false, _&&_}
+use mathlib.Core.List.{List, _∷_, map}
+use Prim.Native.Nat.{ℕ, zero, suc, _+_, _-_, _<_, _≤_}
+use native.Mathlib.Omega.{arith}
+use native.Mathlib.Nat.{add-suc, suc-add, add-zero, zero-add}
+use native.Mathlib.Decide.{decLt}
+use native.Mathlib.Numerals.{add-one}
+use lib.ListN.{length, getD}
+use lib.Seq.{ext-getD}
+use Rattle.lists.specs.Runs.{run, allFrom, allBelow}
+use Rattle.lists.proofs.Truths.{and-left, and-right, and-both}
+
+module _ {A : Type 0} (f : ℕ → A) where
+  pub length-run : (i n : ℕ) → length (run i n f) ≡ n
+  unfolding run
+  length-run i zero = refl
+  length-run i (suc n) = ap suc (length-run (suc i) n)
+
+  pub getD-run : (i n j : ℕ) (d : A) → j < n → getD (run i n f) j d ≡ f (i + j)
+  unfolding run
+  getD-run i zero j d h = absurd (omega arith)
+  getD-run i (suc n) zero d h = ap f (sym (add-zero i))
+  getD-run i (suc n) (suc j) d h = getD-run (suc i) n j d (omega arith) ∙ ap f (suc-add i j ∙ sym (add-suc i j))
+
+  -- From 0 on the index is the number.
+  pub getD-run-0 : (n j : ℕ) (d : A) → j < n → getD (run 0 n f) j d ≡ f j
+  getD-run-0 n j d h = getD-run 0 n j d h ∙ ap f (zero-add j)
+
+  -- A list whose elements are f's is the run of f.
+  pub as-run : (l : List A) (i n : ℕ) (d : A) → length l ≡ n → ((j : ℕ) → j < n → getD l j d ≡ f (i + j)) → l ≡ run i n f
+  as-run l i n d h k =
+      ext-getD d l (run i n f) (h ∙ sym (length-run i n)) (λ j g. let m : j < n = omega arith in k j m ∙ sym (getD-run i n j d m))
+
+-- Two runs with the same elements are one.
+pub same-run : {A : Type 0} (f g : ℕ → A) (i n : ℕ) → ((j : ℕ) → i ≤ j → j < i + n → f j ≡ g j) → run i n f ≡ run i n g
+unfolding run
+same-run f g i zero h = refl
+same-run {A} f g i (suc n) h =
+    ap (λ (x : A). x ∷ run (suc i) n f) (h i (omega arith) (omega arith))
+    ∙ ap (λ (l : List A). g i ∷ l) (same-run f g (suc i) n (λ j p q. h j (omega arith) (omega arith)))
+
+pub map-run : {A B : Type 0} (g : A → B) (f : ℕ → A) (i n : ℕ) → map g (run i n f) ≡ run i n (λ j. g (f j))
+unfolding run
+map-run g f i zero = refl
+map-run {B = B} g f i (suc n) = ap (λ (l : List B). g (f i) ∷ l) (map-run g f (suc i) n)
+
+-- A test at each of the n numbers from i on holds exactly when it holds at each of them.
+pub all-at : (f : ℕ → Bool) (i n : ℕ) → allFrom i n f ≡ true → (j : ℕ) → i ≤ j → j < i + n → f j ≡ true
+unfolding allFrom
+all-at f i zero t j p q = absurd (omega arith)
+all-at f i (suc n) t j p q = go (decLt i j) (λ r. all-at f (suc i) n (and-right (f i) (allFrom (suc i) n f) t) j r (omega arith))
+  where
+    go : Dec (i < j) → (i < j → f j ≡ true) → f j ≡ true
+    go (yes r) again = again r
+    go (no r) again = let e : j ≡ i = omega arith in rw e (and-left (f i) (allFrom (suc i) n f) t)
+
+pub at-all : (f : ℕ → Bool) (i n : ℕ) → ((j : ℕ) → i ≤ j → j < i + n → f j ≡ true) → allFrom i n f ≡ true
+unfolding allFrom
+at-all f i zero h = refl
+at-all f i (suc n) h = and-both (h i (omega arith) (omega arith)) (at-all f (suc i) n (λ j p q. h j (omega arith) (omega arith)))
+
+pub all-below : (f : ℕ → Bool) (n : ℕ) → allBelow n f ≡ true → (j : ℕ) → j < n → f j ≡ true
+all-below f n t j h = all-at f 0 n t j (omega arith) (omega arith)
+
+pub below-all : (f : ℕ → Bool) (n : ℕ) → ((j : ℕ) → j < n → f j ≡ true) → allBelow n f ≡ true
+below-all f n h = at-all f 0 n (λ j p q. h j (omega arith))
+
+-- One turn of a loop that tests from i on: it fails here, goes on, or is at its end.
+pub all-stop : (f : ℕ → Bool) (i n : ℕ) → i < n → f i ≡ false → allFrom i (n - i) f ≡ false
+unfolding allFrom
+all-stop f i n h e = let s : n - i ≡ suc (n - suc i) = omega arith in rw (s, e)
+
+pub all-turn : (f : ℕ → Bool) (i n : ℕ) → i < n → f i ≡ true → allFrom i (n - i) f ≡ allFrom (i + 1) (n - (i + 1)) f
+unfolding allFrom
+all-turn f i n h e = let s : n - i ≡ suc (n - (i + 1)) = omega arith in rw (s, e, add-one)
+
+pub all-end : (f : ℕ → Bool) (i n : ℕ) → n ≤ i → allFrom i (n - i) f ≡ true
+unfolding allFrom
+all-end f i n h = let s : n - i ≡ 0 = omega arith in rw s

@@ -1,0 +1,5 @@
+pub mod Sizes
+pub mod Plan
+pub mod PlanRules
+pub mod PlanTable
+pub mod PlanArrays

@@ -1,0 +1,39 @@
+-- A plan as arrays: capacities and edge counts by node; lowest keys, highest keys and targets by node and then by edge.
+-- The only file of the plan's definitions that knows how it is laid out.
+use mathlib.Core.List.{List, []}
+use Prim.Native.Nat.{ℕ, _-_}
+use Prim.Native.Nat.{min}
+use lib.ListN.{length, getD}
+use Rattle.lists.specs.Runs.{run}
+use Rattle.plan.specs.declared.Edge.{Edge}
+use Rattle.plan.specs.Sizes.{mostNodes, mostEdges}
+use Rattle.plan.specs.Plan.{Node, Plan, capacityOf, edgesOf, edgeOf}
+
+-- A number for each edge, by node and then by edge.
+abbrev pub Grid : Type 0
+Grid = List (List ℕ)
+
+abbrev pub cell : Grid → ℕ → ℕ → ℕ
+cell g n i = getD (getD g n []) i 0
+
+-- The edge i of node n.
+abbrev pub edgeIn : Grid → Grid → Grid → ℕ → ℕ → Edge
+edgeIn lows highs targets n i = record { lowest = cell lows n i; highest = cell highs n i; target = cell targets n i }
+
+-- How many edges node n has: as many as are counted, and no more than there are places for.
+abbrev pub edgeCountIn : List ℕ → ℕ → ℕ
+edgeCountIn counts n = min (getD counts n 0) mostEdges
+
+-- The edges of node n.
+unfoldable pub edgesIn : List ℕ → Grid → Grid → Grid → ℕ → List Edge
+edgesIn counts lows highs targets n = run 0 (edgeCountIn counts n) (edgeIn lows highs targets n)
+
+-- The arrays of a plan: 0 where it has no node or no edge.
+unfoldable pub capacitiesRow : Plan → List ℕ
+capacitiesRow p = run 0 mostNodes (capacityOf p)
+
+unfoldable pub countsRow : Plan → List ℕ
+countsRow p = run 0 mostNodes (λ n. length (edgesOf p n))
+
+unfoldable pub gridOf : (Edge → ℕ) → Plan → Grid
+gridOf part p = run 0 mostNodes (λ n. run 0 mostEdges (λ i. part (edgeOf p n i)))
