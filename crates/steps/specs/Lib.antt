@@ -1,0 +1,4 @@
+pub mod Entries
+pub mod Carries
+pub mod Searches
+pub mod Promises

@@ -1,0 +1,57 @@
+-- Copies, and the look in one node. Document 01, "Lines, copies, plans" and "What each step does".
+-- The lists here are of any things with a key: copies, and in the proofs also keys alone and places.
+use mathlib.Core.Path.{_≡_}
+use mathlib.Core.Bool.{Bool, true, false, cond, not, _&&_, _||_}
+use mathlib.Core.List.{List, [], _∷_}
+use mathlib.Core.Option.{Option, none, some}
+use Prim.Native.Nat.{ℕ}
+use lib.Dec.{eqb}
+use Rattle.store.specs.declared.Copy.{Copy}
+use Rattle.store.specs.declared.Found.{Found}
+use Rattle.store.specs.declared.Found.the-variants.{Held, Nothing}
+
+-- "A copy has a key, a kind (0 withdrawn, 1 result), a value .. and a stamp."
+abbrev pub WITHDRAWN : ℕ
+WITHDRAWN = 0
+
+abbrev pub RESULT : ℕ
+RESULT = 1
+
+abbrev pub copy : ℕ → ℕ → ℕ → ℕ → Copy
+copy k kind v t = record { key = k; kind = kind; value = v; stamp = t }
+
+-- What stands in an unused place.
+abbrev pub noCopy : Copy
+noCopy = copy 0 0 0 0
+
+abbrev pub keyOf : Copy → ℕ
+keyOf x = x .key
+
+-- The first thing of a list that has the key.
+unfoldable pub find : {A : Type 0} → (A → ℕ) → List A → ℕ → Option A
+find key [] k = none
+find key (x ∷ xs) k = cond (eqb (key x) k) (some x) (find key xs k)
+
+abbrev pub isSome : {A : Type 0} → Option A → Bool
+isSome none = false
+isSome (some x) = true
+
+-- "A look in one node gives a found copy or nothing."
+abbrev pub foundOf : Option Copy → Found
+foundOf none = Nothing
+foundOf (some x) = Held x
+
+-- The stamp of what was found: "'Never' counts as older than every copy."
+abbrev pub stampOf : Option Copy → ℕ
+stampOf none = 0
+stampOf (some x) = x .stamp
+
+-- The number stands in the list.
+unfoldable pub member : ℕ → List ℕ → Bool
+member n [] = false
+member n (m ∷ ms) = eqb n m || member n ms
+
+-- No number stands twice.
+unfoldable pub different : List ℕ → Bool
+different [] = true
+different (t ∷ ts) = not (member t ts) && different ts

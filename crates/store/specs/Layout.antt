@@ -1,0 +1,78 @@
+-- How the declared store holds a state: 512 places in four columns, 64 places to each of 8 nodes.
+-- The only file of the store's definitions that knows columns, width and padding.
+use mathlib.Core.Path.{_≡_}
+use mathlib.Core.List.{List, []}
+use Prim.Native.Nat.{ℕ, _+_, _*_, _/_, _%_}
+use lib.ListN.{length, getD, replicate}
+use Rattle.lists.specs.Runs.{run}
+use Rattle.plan.specs.Sizes.{mostNodes, mostCapacity}
+use Rattle.plan.specs.Plan.{size}
+use Rattle.plan.specs.PlanTable.{planOf}
+use Rattle.store.specs.declared.Copy.{Copy}
+use Rattle.store.specs.declared.Slot.{Slot}
+use Rattle.store.specs.declared.Store.{Store}
+use Rattle.store.specs.Copies.{noCopy}
+use Rattle.store.specs.State.{State, slotCount, fresh}
+
+-- 64 places to each node, 512 in all.
+abbrev pub width : ℕ
+width = mostCapacity
+
+abbrev pub places : ℕ
+places = 512
+
+-- The copy that four columns hold at a place.
+abbrev pub copyIn : List ℕ → List ℕ → List ℕ → List ℕ → ℕ → Copy
+copyIn keys kinds values stamps i = record { key = getD keys i 0; kind = getD kinds i 0; value = getD values i 0; stamp = getD stamps i 0 }
+
+-- The copies of node n: of its places the first, as many as its count says.
+unfoldable pub nodeIn : List ℕ → List ℕ → List ℕ → List ℕ → List ℕ → ℕ → List Copy
+nodeIn counts keys kinds values stamps n = run (width * n) (getD counts n 0) (copyIn keys kinds values stamps)
+
+abbrev pub copyOf : Store → ℕ → Copy
+copyOf z i = copyIn (z .keys) (z .kinds) (z .values) (z .stamps) i
+
+abbrev pub countOf : Store → ℕ → ℕ
+countOf z n = getD (z .counts) n 0
+
+abbrev pub nodeOf : Store → ℕ → List Copy
+nodeOf z n = nodeIn (z .counts) (z .keys) (z .kinds) (z .values) (z .stamps) n
+
+-- The state of a store.
+unfoldable pub stateOf : Store → State
+stateOf z = record { clock = z .clock; nodes = run 0 (size (planOf (z .plan))) (nodeOf z); slots = z .slots }
+
+-- What stands at a place where the nodes hold these lists: past a node's copies the empty copy.
+abbrev pub placeOf : List (List Copy) → ℕ → Copy
+placeOf ns i = getD (getD ns (i / width) []) (i % width) noCopy
+
+-- A column: one number of each place.
+unfoldable pub column : (Copy → ℕ) → List (List Copy) → List ℕ
+column part ns = run 0 places (λ i. part (placeOf ns i))
+
+-- The store of a state, by the plan's number.
+unfoldable pub storeOf : ℕ → State → Store
+storeOf plan s =
+    record {
+      plan = plan;
+      clock = s .clock;
+      counts = run 0 mostNodes (λ n. length (getD (s .nodes) n []));
+      keys = column (λ (x : Copy). x .key) (s .nodes);
+      kinds = column (λ (x : Copy). x .kind) (s .nodes);
+      values = column (λ (x : Copy). x .value) (s .nodes);
+      stamps = column (λ (x : Copy). x .stamp) (s .nodes);
+      slots = s .slots;
+    }
+
+-- "512 places for copies (64 to each of 8 nodes), a count per node, and 8 search slots."
+pub record Shape (z : Store) : Type 0 where
+  pub counts-8 : length (z .counts) ≡ mostNodes
+  pub keys-512 : length (z .keys) ≡ places
+  pub kinds-512 : length (z .kinds) ≡ places
+  pub values-512 : length (z .values) ≡ places
+  pub stamps-512 : length (z .stamps) ≡ places
+  pub slots-8 : length (z .slots) ≡ slotCount
+
+-- The fresh store of a plan.
+unfoldable pub freshStore : ℕ → Store
+freshStore plan = storeOf plan (fresh (planOf plan))

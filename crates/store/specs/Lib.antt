@@ -1,0 +1,7 @@
+pub mod Answers
+pub mod Copies
+pub mod State
+pub mod StateRules
+pub mod Layout
+pub mod StoreRules
+pub mod Calls
