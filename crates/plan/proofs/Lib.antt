@@ -1,2 +1,4 @@
 pub mod NextLaws
 pub mod PathLaws
+pub mod RulesLaws
+pub mod TableLaws

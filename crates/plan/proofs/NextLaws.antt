@@ -8,10 +8,8 @@ use Prim.Native.Nat.{ℕ, zero, suc, _<_, _≤_}
 use native.Mathlib.Omega.{arith}
 use native.Mathlib.Nat.{le-of-suc-le-suc, not-suc-le-zero}
 use native.Mathlib.Decide.{decLt}
-use lib.Dec.{leb}
 use lib.ListN.{length, getD, List·getD-eq-default}
-use borrow.Author.Tests.{leb-true, le-leb}
-use Rattle.lists.proofs.Truths.{bool?, and-left, and-right, and-both}
+use Rattle.lists.proofs.Truths.{bool?, both-le, le-both}
 use Rattle.plan.specs.declared.Edge.{Edge}
 use Rattle.plan.specs.declared.Hop.{Hop}
 use Rattle.plan.specs.declared.Hop.the-variants.{To, Ends}
@@ -35,14 +33,11 @@ one-target p q = cc
 -- An edge holds the keys from its lowest to its highest.
 pub holds-range : (e : Edge) (k : ℕ) → holds e k ≡ true → (e .lowest ≤ k) × (k ≤ e .highest)
 unfolding holds
-holds-range e k t = (
-  leb-true (e .lowest) k (and-left (leb (e .lowest) k) (leb k (e .highest)) t),
-  leb-true k (e .highest) (and-right (leb (e .lowest) k) (leb k (e .highest)) t),
-)
+holds-range e k = both-le (e .lowest) k k (e .highest)
 
 pub range-holds : (e : Edge) (k : ℕ) → e .lowest ≤ k → k ≤ e .highest → holds e k ≡ true
 unfolding holds
-range-holds e k p q = and-both (le-leb (e .lowest) k p) (le-leb k (e .highest) q)
+range-holds e k = le-both (e .lowest) k k (e .highest)
 
 -- The edge number i is the first that holds the key.
 pub record First (es : List Edge) (k i : ℕ) : Type 0 where
