@@ -2,3 +2,4 @@ pub mod NextLaws
 pub mod PathLaws
 pub mod RulesLaws
 pub mod TableLaws
+pub mod ArrayLaws
