@@ -1,13 +1,12 @@
 -- A plan as arrays: capacities and edge counts by node; lowest keys, highest keys and targets by node and then by edge.
 -- The only file of the plan's definitions that knows how it is laid out.
 use mathlib.Core.List.{List, []}
-use Prim.Native.Nat.{ℕ, _-_}
-use Prim.Native.Nat.{min}
+use Prim.Native.Nat.{ℕ, min}
 use lib.ListN.{length, getD}
 use Rattle.lists.specs.Runs.{run}
 use Rattle.plan.specs.declared.Edge.{Edge}
 use Rattle.plan.specs.Sizes.{mostNodes, mostEdges}
-use Rattle.plan.specs.Plan.{Node, Plan, capacityOf, edgesOf, edgeOf}
+use Rattle.plan.specs.Plan.{Plan, capacityOf, edgesOf, edgeOf}
 
 -- A number for each edge, by node and then by edge.
 abbrev pub Grid : Type 0
