@@ -93,12 +93,12 @@ pub record Spelt (most : ℕ) (s : List ℕ) (at v next : ℕ) : Type 0 where
 
 module _ (last : ℕ) (low : last < 128) (more : ℕ) where
   -- Reading gives a number exactly where the shortest list of groups that spells it stands.
-  pub value-means-in : {s : List ℕ} {at v next : ℕ} → Bytes s → (readIn s last more true at ≡ Value v next) ↔ Spelt (largest last more) s at v next
-  value-means-in {s} {at} {v} {next} b = (there, back)
+  pub value-means-in : (s : List ℕ) (at : ℕ) {v next : ℕ} → Bytes s → (readIn s last more true at ≡ Value v next) ↔ Spelt (largest last more) s at v next
+  value-means-in s at {v} {next} b = (there, back)
     where
       there : readIn s last more true at ≡ Value v next → Spelt (largest last more) s at v next
       there e =
-          let k = value-when-in last low more b .0 e in
+          let k = value-when-in last low more s at b .0 e in
           record {
             groups = formIn more v;
             stands = k .1;
@@ -113,7 +113,7 @@ module _ (last : ℕ) (low : last < 128) (more : ℕ) where
           let r = form-shortest-in last low more (k .are) (k .spell) h in
           let c = k .shortest (formIn more v) (form-groups-in last low more v h) (form-spells-in last low more v h) in
           let e : k .groups ≡ formIn more v = r .same (omega (arith, r .longer)) in
-          value-when-in last low more b .1 (h, rw e at (k .stands))
+          value-when-in last low more s at b .1 (h, rw e at (k .stands))
 
 -- ---- 32-bit numbers
 
@@ -138,6 +138,6 @@ unfolding form
 form-only h k e = form-shortest-in lastByte low-32 moreBytes k e (small-32 h) .same
 
 -- Reading gives a number exactly where the shortest list of groups that spells it stands.
-pub value-means : {s : List ℕ} {at v next : ℕ} → Bytes s → (readAt s at ≡ Value v next) ↔ Spelt 4294967295 s at v next
+pub value-means : (s : List ℕ) (at : ℕ) {v next : ℕ} → Bytes s → (readAt s at ≡ Value v next) ↔ Spelt 4294967295 s at v next
 unfolding readAt
-value-means b = rw (← largest-32) (value-means-in lastByte low-32 moreBytes b)
+value-means s at b = rw (← largest-32) (value-means-in lastByte low-32 moreBytes s at b)

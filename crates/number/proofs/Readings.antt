@@ -99,10 +99,10 @@ one-stands : {s : List ℕ} {first : Bool} {at v next : ℕ} → at < length s �
 one-stands {s} {at = at} h e = rw (e .value, e .after) (stands-cons 0 h (stands-nil s (at + 1)))
 
 -- Where reading gives a number, its form stands.
-pub read-form-in : (last more : ℕ) {s : List ℕ} (first : Bool) {at v next : ℕ} → Bytes s → readIn s last more first at ≡ Value v next
+pub read-form-in : (last more : ℕ) (s : List ℕ) (first : Bool) (at : ℕ) {v next : ℕ} → Bytes s → readIn s last more first at ≡ Value v next
     → Accepted last more s first at v next
 unfolding largest formIn
-read-form-in last zero {s} first {at} {v} {next} b e = go (full-way s last first at)
+read-form-in last zero s first at {v} {next} b e = go (full-way s last first at)
   where
     go : FullWay s last first at → Accepted last 0 s first at v next
     go (FullWay.cut h q) = absurd (value-or-cut e q)
@@ -110,7 +110,7 @@ read-form-in last zero {s} first {at} {v} {next} b e = go (full-way s last first
     go (FullWay.ends h g q) =
         let d : Ended first (getD s at 0) (at + 1) v next = ended (sym q ∙ e) in
         record { stands = one-stands h d; small = omega (arith, d .value); real = d .real }
-read-form-in last (suc more) {s} first {at} {v} {next} b e = go (more-way s last more first at) (λ w q. read-form-in last more false b q)
+read-form-in last (suc more) s first at {v} {next} b e = go (more-way s last more first at) (λ w q. read-form-in last more s false (at + 1) b q)
   where
     go : MoreWay s last more first at
         → ((w : ℕ) → readIn s last more false (at + 1) ≡ Value w next → Accepted last more s false (at + 1) w next)
@@ -143,10 +143,10 @@ module _ (last : ℕ) (low : last < 128) (more : ℕ) where
   wrote-back-in h g w = read-back-in last low more true h first-real (wrote-stands g w)
 
   -- Reading gives a number exactly where the kind allows it and its form stands.
-  pub value-when-in : {s : List ℕ} {at v next : ℕ} → Bytes s
+  pub value-when-in : (s : List ℕ) (at : ℕ) {v next : ℕ} → Bytes s
       → (readIn s last more true at ≡ Value v next) ↔ ((v ≤ largest last more) × Stands s at (formIn more v) next)
-  value-when-in b =
-      (λ e. let a = read-form-in last more true b e in (a .small, a .stands), λ k. read-back-in last low more true (k .0) first-real (k .1))
+  value-when-in s at b =
+      (λ e. let a = read-form-in last more s true at b e in (a .small, a .stands), λ k. read-back-in last low more true (k .0) first-real (k .1))
 
   -- One number, one form: two lists of bytes that are read whole as the same number are equal.
   pub one-form-in : {l k : List ℕ} {v : ℕ} → Bytes l → Bytes k → readIn l last more true 0 ≡ Value v (length l)
@@ -154,7 +154,7 @@ module _ (last : ℕ) (low : last < 128) (more : ℕ) where
   one-form-in {v = v} a b p q = whole a p ∙ sym (whole b q)
     where
       whole : {l : List ℕ} → Bytes l → readIn l last more true 0 ≡ Value v (length l) → l ≡ formIn more v
-      whole {l} a p = read-form-in last more true a p .stands .here ∙ rw (drop-length l) (append-nil (formIn more v))
+      whole {l} a p = read-form-in last more l true 0 a p .stands .here ∙ rw (drop-length l) (append-nil (formIn more v))
 
   -- A form is never the beginning of another number's form.
   pub form-apart-in : {v w : ℕ} (a b : List ℕ) → v ≤ largest last more → w ≤ largest last more → formIn more v ++ a ≡ formIn more w ++ b → v ≡ w
@@ -187,12 +187,12 @@ wrote-back h g w = read-back h (wrote-stands g w)
 -- Where reading gives a number, its form stands.
 pub read-stands : (s : List ℕ) (at : ℕ) {v next : ℕ} → Bytes s → readAt s at ≡ Value v next → Stands s at (form v) next
 unfolding form readAt
-read-stands s at b e = read-form-in lastByte moreBytes true b e .stands
+read-stands s at b e = read-form-in lastByte moreBytes s true at b e .stands
 
 -- Only numbers of 32 bits are read.
 pub read-small : (s : List ℕ) (at : ℕ) {v next : ℕ} → Bytes s → readAt s at ≡ Value v next → v ≤ 4294967295
 unfolding readAt
-read-small s at b e = rw largest-32 at (read-form-in lastByte moreBytes true b e .small)
+read-small s at b e = rw largest-32 at (read-form-in lastByte moreBytes s true at b e .small)
 
 -- A number that is read ends inside the bytes.
 pub read-fits : (s : List ℕ) (at : ℕ) {v next : ℕ} → Bytes s → readAt s at ≡ Value v next → next ≤ length s
