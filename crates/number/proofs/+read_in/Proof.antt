@@ -1,6 +1,5 @@
 -- `number::read_in` meets its contract. It calls itself with `more` one less, which is the measure.
 -- Assumes nothing.
-use mathlib.Core.Path.{_≡_}
 use Prim.Native.Nat.{ℕ, _+_, _*_, _<_}
 use native.Mathlib.Omega.{arith}
 use borrow.Author.Needs.{needs}
