@@ -155,9 +155,9 @@ module _ {A : Type 0} where
       let p : drop next c ≡ drop (at + length l) b = ap (drop next) e ∙ drop-at (take at b ++ l) (drop (at + length l) b) next v in
       record {
         here =
-          ap (drop at) (e ∙ append-assoc (take at b) l (drop (at + length l) b))
-          ∙ drop-at (take at b) (l ++ drop (at + length l) b) at t
-          ∙ ap (λ (r : List A). l ++ r) (sym p);
+            ap (drop at) (e ∙ append-assoc (take at b) l (drop (at + length l) b))
+            ∙ drop-at (take at b) (l ++ drop (at + length l) b) at t
+            ∙ ap (λ (r : List A). l ++ r) (sym p);
         width = w .to;
       }
 

@@ -1,12 +1,12 @@
 -- The form of a number: its bytes, and how many there are.
 -- Each law is shown for any kind of number (last, more) with last below 128, and then for the 32-bit numbers of document 01.
 -- Assumes nothing.
-use mathlib.Core.Path.{_≡_, refl, ap, _∙_}
+use mathlib.Core.Path.{_≡_, refl}
 use mathlib.Core.Logic.{_↔_}
-use mathlib.Core.List.{List, [], _∷_}
-use Prim.Native.Nat.{ℕ, zero, suc, _+_, _*_, _/_, _%_, _^_, _<_, _≤_}
+use mathlib.Core.List.{[], _∷_}
+use Prim.Native.Nat.{ℕ, zero, suc, _+_, _/_, _%_, _^_, _<_, _≤_}
 use native.Mathlib.Omega.{arith}
-use native.Mathlib.Nat.{pow-zero, pow-suc, one-le-pow}
+use native.Mathlib.Nat.{pow-suc, one-le-pow}
 use native.Mathlib.Decide.{decLt}
 use lib.Dec.{lit<, lit≤}
 use lib.ListN.{length, getD}

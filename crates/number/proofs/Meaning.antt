@@ -1,15 +1,15 @@
 -- What a form means: it is a list of groups, it spells its number, and it is the one shortest list of groups that does.
 -- Each law is shown for any kind of number (last, more) with last below 128, and then for the 32-bit numbers of document 01.
 -- Assumes nothing.
-use mathlib.Core.Path.{_≡_, refl, sym, ap, ap₂, _∙_}
+use mathlib.Core.Path.{_≡_, sym, ap, ap₂, _∙_}
 use mathlib.Core.Logic.{_↔_}
 use mathlib.Core.Bool.{true}
 use mathlib.Core.List.{List, [], _∷_}
-use Prim.Native.Nat.{ℕ, zero, suc, _+_, _*_, _/_, _%_, _<_, _≤_}
+use Prim.Native.Nat.{ℕ, zero, suc, _+_, _/_, _%_, _<_, _≤_}
 use native.Mathlib.Omega.{arith}
 use native.Mathlib.Decide.{decLt}
 use lib.Dec.{lit<}
-use lib.ListN.{length, getD}
+use lib.ListN.{length}
 use borrow.Author.Tests.{lt-ltb, le-ltb}
 use Rattle.lists.specs.Stands.{Stands}
 use Rattle.number.specs.declared.Reading.the-variants.{Value}
@@ -107,6 +107,7 @@ module _ (last : ℕ) (low : last < 128) (more : ℕ) where
             small = k .0;
             shortest = λ l g q. form-shortest-in last low more g q (k .0) .longer;
           }
+
       back : Spelt (largest last more) s at v next → readIn s last more true at ≡ Value v next
       back k =
           let h = k .small in

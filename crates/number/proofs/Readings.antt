@@ -16,7 +16,7 @@ use Rattle.lists.proofs.Standing.{stands-nil, stands-cons, stands-first, stands
 use Rattle.number.specs.declared.Reading.{Reading}
 use Rattle.number.specs.declared.Reading.the-variants.{Value, Cut, Malformed}
 use Rattle.number.specs.Number.{Bytes, lastByte, moreBytes, largest, formIn, form, readLast, putBelow, readIn, readAt}
-use Rattle.number.proofs.Forms.{form-one, form-some-in, form-some, form-length, low-32, small-32, largest-32}
+use Rattle.number.proofs.Forms.{form-some, form-length, low-32, small-32, largest-32}
 use Rattle.number.proofs.Ways.{never, value-or-cut, value-or-malformed, last-value, LastWay, gives, refuses, last-way, read-full, read-ends, read-goes, FullWay, full-way, MoreWay, more-way}
 
 -- ---- any kind of number
@@ -55,7 +55,7 @@ module _ (last : ℕ) (low : last < 128) where
     where
       go : Dec (v < 128) → Stands s at (formIn (suc more) v) next
           → (v / 128 ≤ largest last more → 1 ≤ v / 128 → Stands s (at + 1) (formIn more (v / 128)) next
-            → readIn s last more false (at + 1) ≡ Value (v / 128) next)
+          → readIn s last more false (at + 1) ≡ Value (v / 128) next)
           → readIn s last (suc more) first at ≡ Value v next
       go (yes g) k again = back-one last (suc more) first g h r (rw (lt-ltb v 128 g) at k)
       go (no g) k again =

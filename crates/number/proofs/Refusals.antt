@@ -1,7 +1,7 @@
 -- When each refusal comes: CUT and NUMBER are given exactly where document 01 says.
 -- Each law is shown for any kind of number (last, more), and then for the 32-bit numbers of document 01.
 -- Assumes nothing.
-use mathlib.Core.Path.{_≡_, refl, sym, ap, _∙_}
+use mathlib.Core.Path.{_≡_, refl, sym, _∙_}
 use mathlib.Core.Logic.{_↔_, _⊎_, inl, inr, ⊎-elim}
 use mathlib.Core.Bool.{Bool, true, false}
 use mathlib.Core.List.{List}
@@ -62,9 +62,10 @@ cut-when-in last zero first s at = (λ e. there e (full-way s last first at), λ
     there e (FullWay.cut h q) = record { few = omega arith; tops = λ i p r. absurd (omega arith) }
     there e (FullWay.above h g q) = absurd (cut-or-malformed e q)
     there e (FullWay.ends h g q) = absurd (last-whole first (getD s at 0) (at + 1) (sym q ∙ e))
-cut-when-in last (suc more) first s at =
-    (λ e. there e (more-way s last more first at) (cut-when-in last more false s (at + 1) .0),
-    λ k. back k (more-way s last more first at) (cut-when-in last more false s (at + 1) .1))
+cut-when-in last (suc more) first s at = (
+  λ e. there e (more-way s last more first at) (cut-when-in last more false s (at + 1) .0),
+  λ k. back k (more-way s last more first at) (cut-when-in last more false s (at + 1) .1),
+)
   where
     there : readIn s last (suc more) first at ≡ Cut → MoreWay s last more first at
         → (readIn s last more false (at + 1) ≡ Cut → EndsEarly more s (at + 1)) → EndsEarly (suc more) s at
@@ -73,13 +74,14 @@ cut-when-in last (suc more) first s at =
     there e (MoreWay.goes h g q) again =
         let k = again (below-cut (getD s at 0 - 128) (readIn s last more false (at + 1)) .0 (sym q ∙ e)) in
         record { few = let f = k .few in omega arith; tops = tops-cons s at (length s) g (k .tops) }
+
     back : EndsEarly (suc more) s at → MoreWay s last more first at
         → (EndsEarly more s (at + 1) → readIn s last more false (at + 1) ≡ Cut) → readIn s last (suc more) first at ≡ Cut
     back k (MoreWay.cut h q) again = q
     back k (MoreWay.ends h g q) again = let t = k .tops at (omega arith) h in absurd (omega arith)
     back k (MoreWay.goes h g q) again =
         q ∙ below-cut (getD s at 0 - 128) (readIn s last more false (at + 1)) .1
-          (again (record { few = let f = k .few in omega arith; tops = tops-tail s at (length s) (k .tops) }))
+        (again (record { few = let f = k .few in omega arith; tops = tops-tail s at (length s) (k .tops) }))
 
 -- For 32-bit numbers: if the bytes end after none to four, all with the top bit set.
 pub cut-when : (s : List ℕ) (at : ℕ) → (readAt s at ≡ Cut) ↔ EndsEarly moreBytes s at
@@ -136,12 +138,14 @@ malformed-from last zero first s at = (λ e. there e (full-way s last first at),
     there e (FullWay.cut h q) = absurd (cut-or-malformed q e)
     there e (FullWay.above h g q) = inr (record { tops = λ i p r. absurd (omega arith); byte = rw add-zero g })
     there e (FullWay.ends h g q) = inl (zero-here first 0 s at h (sym q ∙ e))
+
     zero-back : FullWay s last first at → ZeroEnd first 0 s at → readIn s last 0 first at ≡ Malformed
     zero-back (FullWay.cut h q) k = absurd (omega arith)
     zero-back (FullWay.above h g q) k = q
     zero-back (FullWay.ends h g q) k =
         let e : at ≡ k .place = omega arith in
         q ∙ zero-refused first (getD s at 0) (at + 1) (rw e (k .byte)) (λ t. omega (arith, k .others t))
+
     above-back : FullWay s last first at → EndsAbove last 0 s at → readIn s last 0 first at ≡ Malformed
     above-back (FullWay.cut h q) k =
         let b = rw add-zero at (k .byte) in
@@ -150,12 +154,14 @@ malformed-from last zero first s at = (λ e. there e (full-way s last first at),
     above-back (FullWay.above h g q) k = q
     above-back (FullWay.ends h g q) k = let b = rw add-zero at (k .byte) in absurd (omega arith)
 malformed-from last (suc more) first s at =
-    let again = malformed-from last more false s (at + 1) in
-    (λ e. there e (more-way s last more first at) (again .0),
-    ⊎-elim (zero-back (more-way s last more first at) (λ k. again .1 (inl k))) (above-back (more-way s last more first at) (λ k. again .1 (inr k))))
+    let again = malformed-from last more false s (at + 1) in (
+      λ e. there e (more-way s last more first at) (again .0),
+      ⊎-elim (zero-back (more-way s last more first at) (λ k. again .1 (inl k))) (above-back (more-way s last more first at) (λ k. again .1 (inr k))),
+    )
   where
     step : (at + 1) + more ≡ at + suc more
     step = omega arith
+
     there : readIn s last (suc more) first at ≡ Malformed → MoreWay s last more first at
         → (readIn s last more false (at + 1) ≡ Malformed → ZeroEnd false more s (at + 1) ⊎ EndsAbove last more s (at + 1))
         → ZeroEnd first (suc more) s at ⊎ EndsAbove last (suc more) s at
@@ -174,6 +180,7 @@ malformed-from last (suc more) first s at =
         }))
         (λ k. inr (record { tops = rw step at (tops-cons s at ((at + 1) + more) g (k .tops)); byte = rw step at (k .byte) }))
         (again (below-malformed (getD s at 0 - 128) (readIn s last more false (at + 1)) .0 (sym q ∙ e)))
+
     zero-back : MoreWay s last more first at → (ZeroEnd false more s (at + 1) → readIn s last more false (at + 1) ≡ Malformed)
         → ZeroEnd first (suc more) s at → readIn s last (suc more) first at ≡ Malformed
     zero-back (MoreWay.cut h q) again k = absurd (omega arith)
@@ -189,26 +196,27 @@ malformed-from last (suc more) first s at =
         go : Dec (at < k .place) → readIn s last (suc more) first at ≡ Malformed
         go (yes l) =
             q ∙ below-malformed (getD s at 0 - 128) (readIn s last more false (at + 1)) .1
-              (again (record {
-                place = k .place;
-                from = omega arith;
-                others = λ t. absurd (never (sym t));
-                within = omega arith;
-                inside = k .inside;
-                tops = tops-tail s at (k .place) (k .tops);
-                byte = k .byte;
-              }))
+            (again (record {
+              place = k .place;
+              from = omega arith;
+              others = λ t. absurd (never (sym t));
+              within = omega arith;
+              inside = k .inside;
+              tops = tops-tail s at (k .place) (k .tops);
+              byte = k .byte;
+            }))
         go (no l) =
             let e : at ≡ k .place = omega arith in
             let z : getD s at 0 ≡ 0 = rw e (k .byte) in
             absurd (omega arith)
+
     above-back : MoreWay s last more first at → (EndsAbove last more s (at + 1) → readIn s last more false (at + 1) ≡ Malformed)
         → EndsAbove last (suc more) s at → readIn s last (suc more) first at ≡ Malformed
     above-back (MoreWay.cut h q) again k = absurd (omega (arith, tops-inside s at (k .tops at (omega arith) (omega arith))))
     above-back (MoreWay.ends h g q) again k = absurd (omega (arith, k .tops at (omega arith) (omega arith)))
     above-back (MoreWay.goes h g q) again k =
         q ∙ below-malformed (getD s at 0 - 128) (readIn s last more false (at + 1)) .1
-          (again (record { tops = tops-tail s at ((at + 1) + more) (rw step (k .tops)); byte = rw step (k .byte) }))
+        (again (record { tops = tops-tail s at ((at + 1) + more) (rw step (k .tops)); byte = rw step (k .byte) }))
 
 -- Where a number begins, NUMBER is given exactly if a last byte is 00 after others, or a byte after `more` others is above `last`.
 pub malformed-when-in : (last more : ℕ) (s : List ℕ) (at : ℕ)
@@ -219,6 +227,7 @@ malformed-when-in last more s at =
   where
     there : ZeroEnd true more s at → EndsInZero more s at
     there k = record { place = k .place; others = k .others refl; within = k .within; inside = k .inside; tops = k .tops; byte = k .byte }
+
     back : EndsInZero more s at → ZeroEnd true more s at
     back k =
         record {

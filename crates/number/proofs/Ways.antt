@@ -1,16 +1,16 @@
 -- The ways that reading can go at an offset, and which of them it goes.
 -- Assumes nothing.
-use mathlib.Core.Path.{_≡_, refl, ap, _∙_}
+use mathlib.Core.Path.{_≡_, refl}
 use mathlib.Core.Bool.{Bool, true, false}
 use mathlib.Core.List.{List}
-use Prim.Native.Nat.{ℕ, zero, suc, _+_, _-_, _*_, _<_, _≤_}
+use Prim.Native.Nat.{ℕ, zero, suc, _+_, _-_, _<_, _≤_}
 use native.Mathlib.Omega.{arith}
 use native.Mathlib.Decide.{decLe, decLt}
 use lib.ListN.{length, getD}
-use borrow.Author.Tests.{lt-ltb, le-ltb, le-leb, lt-leb, eq-eqb, ne-eqb}
+use borrow.Author.Tests.{lt-ltb, le-ltb, le-leb, lt-leb, ne-eqb}
 use Rattle.number.specs.declared.Reading.{Reading}
 use Rattle.number.specs.declared.Reading.the-variants.{Value, Cut, Malformed}
-use Rattle.number.specs.Number.{largest, readLast, putBelow, readIn}
+use Rattle.number.specs.Number.{readLast, putBelow, readIn}
 
 -- ---- the three readings are different
 

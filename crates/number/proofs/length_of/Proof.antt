@@ -1,7 +1,6 @@
 -- `number::length_of` meets its contract. The loop keeps `Counting`; its measure is the rest.
 -- Assumes nothing.
 use borrow.Author.Needs.{needs}
-use native.Mathlib.Omega.{arith}
 use Rattle.number.proofs.Writer.{Counting, count-starts, count-turns, count-ends}
 use Rattle.number.proofs.length_of.Statement.{statement}
 use Rattle.number.proofs.length_of.Tie as tie
