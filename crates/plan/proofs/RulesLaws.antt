@@ -105,6 +105,7 @@ module _ (p : Plan) where
         where
           r : (edgeOf p 0 (w .0) .lowest ≤ k) × (k ≤ edgeOf p 0 (w .0) .highest)
           r = holds-range (edgeOf p 0 (w .0)) k (w .2)
+
           go : Dec (k < edgeOf p 0 (w .0) .highest) → Held (edgesOf p 0) (suc k)
           go (yes q) = (w .0, w .1, range-holds (edgeOf p 0 (w .0)) (suc k) (omega (arith, r)) q)
           go (no q) =
