@@ -1,13 +1,13 @@
 -- Laws of runs: their length and elements, when a list is one, and tests at each of some numbers in a row. Assumes nothing.
 use mathlib.Core.Path.{_≡_, refl, sym, ap, _∙_}
-use mathlib.Core.Bool.{Bool, true, false, _&&_}
-use mathlib.Core.List.{List, _∷_, map}
+use mathlib.Core.Bool.{Bool, true, false}
+use mathlib.Core.List.{List, [], _∷_, map}
 use Prim.Native.Nat.{ℕ, zero, suc, _+_, _-_, _<_, _≤_}
 use native.Mathlib.Omega.{arith}
-use native.Mathlib.Nat.{add-suc, suc-add, add-zero, zero-add}
+use native.Mathlib.Nat.{add-suc, suc-add, add-zero, zero-add, le-of-suc-le-suc, not-suc-le-zero}
 use native.Mathlib.Decide.{decLt}
 use native.Mathlib.Numerals.{add-one}
-use lib.ListN.{length, getD}
+use lib.ListN.{length, getD, List·getD-eq-default}
 use lib.Seq.{ext-getD}
 use Rattle.lists.specs.Runs.{run, allFrom, allBelow}
 use Rattle.lists.proofs.Truths.{and-left, and-right, and-both}
@@ -79,3 +79,17 @@ all-turn f i n h e = let s : n - i ≡ suc (n - (i + 1)) = omega arith in rw (s,
 pub all-end : (f : ℕ → Bool) (i n : ℕ) → n ≤ i → allFrom i (n - i) f ≡ true
 unfolding allFrom
 all-end f i n h = let s : n - i ≡ 0 = omega arith in rw s
+
+-- A list whose elements are f's from 0 on is the run of f from 0.
+pub as-run-0 : {A : Type 0} (f : ℕ → A) (l : List A) (n : ℕ) (d : A) → length l ≡ n → ((j : ℕ) → j < n → getD l j d ≡ f j) → l ≡ run 0 n f
+as-run-0 f l n d h k = as-run f l 0 n d h (λ j g. k j g ∙ ap f (sym (zero-add j)))
+
+-- Past a run's end stands the default.
+pub getD-run-past : {A : Type 0} (f : ℕ → A) (i n j : ℕ) (d : A) → n ≤ j → getD (run i n f) j d ≡ d
+getD-run-past f i n j d h = List·getD-eq-default (run i n f) d (omega (arith, length-run f i n))
+
+-- Within a list the default does not matter, also after a map.
+pub getD-map-within : {A B : Type 0} (f : A → B) (l : List A) (j : ℕ) (d : B) (c : A) → j < length l → getD (map f l) j d ≡ f (getD l j c)
+getD-map-within f [] j d c h = absurd (not-suc-le-zero h)
+getD-map-within f (x ∷ xs) zero d c h = refl
+getD-map-within f (x ∷ xs) (suc j) d c h = getD-map-within f xs j d c (le-of-suc-le-suc h)

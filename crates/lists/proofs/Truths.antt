@@ -1,9 +1,11 @@
 -- Laws of tests: what a test that holds says of its parts. Assumes nothing.
-use mathlib.Core.Path.{_≡_, refl, sym, _∙_}
+use mathlib.Core.Path.{_≡_, refl, sym}
 use mathlib.Core.Bool.{Bool, true, false, _&&_, _||_}
 use mathlib.Core.Logic.{_⊎_, inl, inr}
-use Prim.Native.Nat.{ℕ}
+use Prim.Native.Nat.{ℕ, _≤_}
 use native.Mathlib.Omega.{arith}
+use lib.Dec.{leb}
+use borrow.Author.Tests.{leb-true, le-leb}
 
 -- A test holds or it does not.
 pub bool? : (b : Bool) → (b ≡ true) ⊎ (b ≡ false)
@@ -42,3 +44,10 @@ or-left a b t = rw t
 pub or-right : (a b : Bool) → b ≡ true → a || b ≡ true
 or-right true b t = refl
 or-right false b t = t
+
+-- Two tests of numbers hold exactly when both orders do.
+pub both-le : (a b c d : ℕ) → leb a b && leb c d ≡ true → (a ≤ b) × (c ≤ d)
+both-le a b c d t = (leb-true a b (and-left (leb a b) (leb c d) t), leb-true c d (and-right (leb a b) (leb c d) t))
+
+pub le-both : (a b c d : ℕ) → a ≤ b → c ≤ d → leb a b && leb c d ≡ true
+le-both a b c d p q = and-both (le-leb a b p) (le-leb c d q)

@@ -1,5 +1,5 @@
 -- Lists and tests by index: what stands, or what holds, at each of some numbers in a row.
-use mathlib.Core.Bool.{Bool, true, false, _&&_}
+use mathlib.Core.Bool.{Bool, true, _&&_}
 use mathlib.Core.List.{List, [], _∷_}
 use Prim.Native.Nat.{ℕ, zero, suc}
 

@@ -1,0 +1,6 @@
+pub mod NextLaws
+pub mod PathLaws
+pub mod RulesLaws
+pub mod TableLaws
+pub mod ArrayLaws
+pub mod RowLaws

@@ -75,3 +75,8 @@ edgesOn p k = length (path p k) - 1
 pub data IsPath (hop : ℕ → Hop) : ℕ → List ℕ → Type 0 where
   last : {n : ℕ} → hop n ≡ Ends → IsPath hop n (n ∷ [])
   more : {n t : ℕ} {ns : List ℕ} → hop n ≡ To t → IsPath hop t ns → IsPath hop n (n ∷ ns)
+
+-- A node leads to another, itself included: "n is on k's path" is Reach (λ m. next p m k) 0 n.
+pub data Reach (hop : ℕ → Hop) : ℕ → ℕ → Type 0 where
+  here : {n : ℕ} → Reach hop n n
+  there : {n t m : ℕ} → hop n ≡ To t → Reach hop t m → Reach hop n m

@@ -1,7 +1,6 @@
 -- The plan rules, as a record with a field for each and as a test that computes. Document 01, "Lines, copies, plans".
 use mathlib.Core.Path.{_≡_}
 use mathlib.Core.Bool.{Bool, true, false, _&&_, _||_}
-use mathlib.Core.List.{List}
 use Prim.Native.Nat.{ℕ, suc, _<_, _≤_}
 use lib.Dec.{leb, ltb}
 use lib.ListN.{length}

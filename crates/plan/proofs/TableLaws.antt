@@ -1,0 +1,48 @@
+-- The table of plans is shown to meet the plan rules, by one computed test. Assumes nothing.
+use mathlib.Core.Path.{_≡_, refl}
+use mathlib.Core.Bool.{true}
+use mathlib.Core.List.{[]}
+use Prim.Native.Nat.{ℕ, zero, suc, _<_, _≤_}
+use native.Mathlib.Omega.{arith}
+use native.Mathlib.Nat.{not-suc-le-zero}
+use lib.ListN.{getD, List·getD-eq-default}
+use Rattle.lists.specs.Runs.{allFrom, allBelow}
+use Rattle.lists.proofs.Running.{all-below}
+use Rattle.plan.specs.Plan.{holds, firstEdge, next}
+use Rattle.plan.specs.PlanRules.{
+  PlanRules,
+  apart,
+  nodesTest,
+  capacitiesTest,
+  edgeCountsTest,
+  keysTest,
+  rangesTest,
+  apartTest,
+  targetsTest,
+  coverTest,
+  planTest,
+}
+use Rattle.plan.specs.PlanTable.{planTable, plans, planOf}
+use Rattle.plan.proofs.RulesLaws.{test-rules}
+
+pub plans-three : plans ≡ 3
+unfolding plans planTable
+plans-three = refl
+
+-- Every plan of the table passes the test.
+pub table-passes : allBelow plans (λ i. planTest (getD planTable i [])) ≡ true
+unfolding allFrom plans planTable planTest nodesTest capacitiesTest edgeCountsTest keysTest rangesTest apartTest targetsTest coverTest apart holds firstEdge next
+table-passes = refl
+
+-- So every plan by its number meets the plan rules,
+pub table-rules : (p : ℕ) → 1 ≤ p → p ≤ plans → PlanRules (planOf p)
+unfolding planOf
+table-rules zero h g = absurd (not-suc-le-zero h)
+table-rules (suc p) h g =
+    test-rules (getD planTable p []) (all-below (λ i. planTest (getD planTable i [])) plans table-passes p g)
+
+-- and any other number is a plan without nodes.
+pub no-plan : (p : ℕ) → plans < p → planOf p ≡ []
+unfolding planOf plans
+no-plan zero h = refl
+no-plan (suc p) h = List·getD-eq-default planTable [] (omega arith)
