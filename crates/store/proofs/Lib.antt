@@ -1,2 +1,3 @@
 pub mod Seeking
 pub mod Halving
+pub mod Freshening
