@@ -1,3 +1,5 @@
 pub mod Seeking
 pub mod Halving
 pub mod Freshening
+pub mod Opening
+pub mod Zeros

@@ -67,3 +67,32 @@ pub fn look_in<'a>(
         stamp: stamps[at],
     })
 }
+
+// The number put in at a place; those from there up to end move one place up, over the one at end.
+pub fn open(column: &mut [u32; Store::PLACES], at: usize, end: usize, number: u32)
+    requires { ⌜ (at ≤ end) × (end < places) × (length (now column) ≡ places) ⌝ }
+    ensures { λ _. ⌜ now (column .exit) ≡ opened (now (column .entry)) at end number ⌝ }
+{
+    let mut hole = end;
+    while at < hole {
+        let x = column[hole - 1];
+        column[hole] = x;
+        hole -= 1;
+    }
+    column[at] = number;
+}
+
+// The places from..end of the column are all zero.
+pub fn all_zero(column: &[u32; Store::PLACES], from: usize, end: usize) -> bool
+    requires { ⌜ (from ≤ end) × (end ≤ places) × (length (now column) ≡ places) ⌝ }
+    ensures { λ r. ⌜ r ≡ allZero (slice from end (now (column .entry))) ⌝ }
+{
+    let mut i = from;
+    while i < end {
+        if column[i] != 0 {
+            return false;
+        }
+        i += 1;
+    }
+    true
+}
