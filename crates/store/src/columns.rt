@@ -14,7 +14,7 @@ use crate::Store;
 
 // The first of the places from..end whose key is not below the key, or end: by halves.
 pub fn seek(keys: &[u32; Store::PLACES], from: usize, end: usize, key: u32) -> usize
-    requires { ⌜ (from ≤ end) × (end ≤ places) × (length (now keys) ≡ places) × RisesIn (now keys) from end ⌝ }
+    requires { ⌜ (from ≤ end) × (end ≤ places) × RisesIn (now keys) from end ⌝ }
     ensures { λ r. ⌜ r ≡ placeIn (now (keys .entry)) from end key ⌝ }
 {
     let mut low = from;
@@ -40,7 +40,7 @@ pub fn look_in<'a>(
     end: usize,
     key: u32,
 ) -> Found
-    requires { ⌜ (from ≤ end) × (end ≤ places) × (length (now keys) ≡ places) × (length (now kinds) ≡ places) × (length (now values) ≡ places) × (length (now stamps) ≡ places) × RisesIn (now keys) from end ⌝ }
+    requires { ⌜ (from ≤ end) × (end ≤ places) × RisesIn (now keys) from end ⌝ }
     ensures { λ r. ⌜ r ≡ foundOf (find keyOf (run from (end - from) (copyIn (now (keys .entry)) (now (kinds .entry)) (now (values .entry)) (now (stamps .entry)))) key) ⌝ }
 {
     let mut low = from;
