@@ -1,14 +1,15 @@
 -- The layout of a store: what a node's places hold, what a column is, and that a store and its state give each other back. Assumes nothing.
 use mathlib.Core.Path.{_≡_, refl, sym, ap, _∙_}
-use mathlib.Core.List.{List, [], _∷_, _++_, map}
-use Prim.Native.Nat.{ℕ, zero, suc, _+_, _*_, _/_, _%_, _<_, _≤_}
+use mathlib.Core.List.{List, [], _∷_, _++_, map, append-nil}
+use Prim.Native.Nat.{ℕ, suc, _+_, _-_, _*_, _/_, _%_, _<_, _≤_}
 use native.Mathlib.Omega.{arith}
 use native.Mathlib.Nat.{zero-add}
-use native.Mathlib.Decide.{decLt}
-use lib.ListN.{length, getD, set, length-set, length-map, length-append, List·getD-append, List·getD-eq-default, List·getD-map}
-use lib.Seq.{sets, length-sets, getD-append-seam, getD-set-same, getD-set-other}
+use native.Mathlib.Decide.{decLt, ℕ-discrete}
+use lib.ListN.{length, getD, set, replicate, length-map, length-append, length-replicate, getD-replicate, List·getD-append, List·getD-eq-default}
+use lib.Seq.{ext-getD, sets, length-sets, getD-append-seam, getD-append-add, getD-set-same, getD-set-other}
 use Rattle.lists.specs.Runs.{run}
 use Rattle.lists.proofs.Running.{length-run, getD-run, getD-run-0, as-run, map-run}
+use Rattle.lists.proofs.Storing.{sets-below, sets-past, sets-inside, set-run, getD-map}
 use Rattle.plan.specs.Sizes.{mostNodes}
 use Rattle.plan.specs.Plan.{size}
 use Rattle.plan.specs.PlanTable.{planOf}
@@ -91,3 +92,143 @@ column-is part ns c long at = as-run (λ j. part (placeOf ns j)) c 0 places 0 lo
     by-node j h =
         let e : width * (j / width) + j % width ≡ j = omega arith in
         rw e at (at (j / width) (j % width) (omega arith) (omega arith))
+
+-- Two lists of nodes that differ in node n alone, which in the second holds the copies ys.
+pub record OneNode (n : ℕ) (ys : List Copy) (ns ms : List (List Copy)) : Type 0 where
+  pub here : getD ms n [] ≡ ys
+  pub others : (m : ℕ) → (m ≡ n → ⊥) → getD ms m [] ≡ getD ns m []
+
+-- A node is replaced.
+pub set-one : (ns : List (List Copy)) (n : ℕ) (ys : List Copy) → n < length ns → OneNode n ys ns (set ns n ys)
+set-one ns n ys h = record { here = getD-set-same ns n ys [] h; others = λ m e. getD-set-other ns n m ys [] e }
+
+-- A node is added after the last.
+pub append-one : (ns : List (List Copy)) (xs : List Copy) → OneNode (length ns) xs ns (ns ++ xs ∷ [])
+append-one ns xs = record { here = getD-append-seam ns xs [] []; others = λ m e. go m e (decLt m (length ns)) }
+  where
+    go : (m : ℕ) → (m ≡ length ns → ⊥) → Dec (m < length ns) → getD (ns ++ xs ∷ []) m [] ≡ getD ns m []
+    go m e (yes h) = List·getD-append ns (xs ∷ []) [] m h
+    go m e (no h) =
+        List·getD-eq-default (ns ++ xs ∷ []) [] (rw length-append (omega arith)) ∙ sym (List·getD-eq-default ns [] (omega arith))
+
+-- What holds at each place below node n and at each place past it holds at each place of the other nodes.
+pub other-places : (P : ℕ → Type 0) (n : ℕ) → ((j : ℕ) → j < width * n → P j) → ((j : ℕ) → width * n + width ≤ j → P j)
+    → (m i : ℕ) → i < width → (m ≡ n → ⊥) → P (width * m + i)
+other-places P n below past m i h e = go (decLt m n)
+  where
+    go : Dec (m < n) → P (width * m + i)
+    go (yes l) = below (width * m + i) (omega arith)
+    go (no l) = past (width * m + i) (omega arith)
+
+-- Columns and counts where one node is written.
+module _ {n : ℕ} {ys : List Copy} {ns ms : List (List Copy)} (one : OneNode n ys ns ms) where
+  -- A column whose places of node n are those of ys, and whose other places are as they were.
+  pub node-written : (part : Copy → ℕ) (c : List ℕ) → length c ≡ places
+      → ((i : ℕ) → i < width → getD c (width * n + i) 0 ≡ part (getD ys i noCopy))
+      → ((m i : ℕ) → i < width → (m ≡ n → ⊥) → getD c (width * m + i) 0 ≡ getD (column part ns) (width * m + i) 0) → c ≡ column part ms
+  node-written part c long here others = column-is part ms c long (λ m i h g. go m i h g (ℕ-discrete m n))
+    where
+      go : (m i : ℕ) → m < mostNodes → i < width → Dec (m ≡ n) → getD c (width * m + i) 0 ≡ part (getD (getD ms m []) i noCopy)
+      go m i h g (yes e) = rw (e, one .here) (here i g)
+      go m i h g (no e) = rw (one .others m e) (others m i g e ∙ place-at part ns m i h g)
+
+  -- The copies laid into a column from the node's first place on, and empty copies over what stood there past them.
+  pub node-laid : (part : Copy → ℕ) (k : ℕ) → n < mostNodes → length (getD ns n []) ≤ length ys + k → length ys + k ≤ width
+      → sets (column part ns) (width * n) (map part ys ++ replicate k (part noCopy)) ≡ column part ms
+  node-laid part k few over fits =
+      node-written part (sets c (width * n) vs) (length-sets c (width * n) vs ∙ length-column part ns) here
+      (other-places (λ j. getD (sets c (width * n) vs) j 0 ≡ getD c j 0) n (λ j h. sets-below vs c (width * n) j 0 h)
+      (λ j h. sets-past vs c (width * n) j 0 (omega (arith, long))))
+    where
+      c : List ℕ
+      c = column part ns
+      vs : List ℕ
+      vs = map part ys ++ replicate k (part noCopy)
+      long : length vs ≡ length ys + k
+      long = simp (length-append, length-map, length-replicate)
+      new : (i : ℕ) → i < length ys + k → Dec (i < length ys) → getD vs i 0 ≡ part (getD ys i noCopy)
+      new i h (yes g) = List·getD-append (map part ys) (replicate k (part noCopy)) 0 i (rw length-map g) ∙ getD-map part ys i noCopy 0 g
+      new i h (no g) =
+          let e : length (map part ys) + (i - length ys) ≡ i = omega (arith, length-map ys part) in
+          (rw e at (getD-append-add (map part ys) (replicate k (part noCopy)) (i - length ys) 0))
+          ∙ getD-replicate k (i - length ys) (part noCopy) 0 (omega arith) ∙ ap part (sym (List·getD-eq-default ys noCopy (omega arith)))
+      old : (i : ℕ) → i < width → Dec (i < length ys + k) → getD (sets c (width * n) vs) (width * n + i) 0 ≡ part (getD ys i noCopy)
+      old i h (yes g) = sets-inside vs c (width * n) i 0 (omega (arith, long, length-column part ns)) (omega (arith, long)) ∙ new i g (decLt i (length ys))
+      old i h (no g) =
+          sets-past vs c (width * n) (width * n + i) 0 (omega (arith, long)) ∙ place-at part ns n i few h
+          ∙ ap part (List·getD-eq-default (getD ns n []) noCopy (omega arith) ∙ sym (List·getD-eq-default ys noCopy (omega arith)))
+      here : (i : ℕ) → i < width → getD (sets c (width * n) vs) (width * n + i) 0 ≡ part (getD ys i noCopy)
+      here i h = old i h (decLt i (length ys + k))
+
+  -- The same where nothing is left past them: a node that does not shrink, and one that is new.
+  pub node-grown : (part : Copy → ℕ) → n < mostNodes → length (getD ns n []) ≤ length ys → length ys ≤ width
+      → sets (column part ns) (width * n) (map part ys) ≡ column part ms
+  node-grown part few over fits =
+      ap (λ (vs : List ℕ). sets (column part ns) (width * n) vs) (sym (append-nil (map part ys))) ∙ node-laid part 0 few (omega arith) (omega arith)
+
+  pub counts-written : run 0 mostNodes (λ m. length (getD ms m [])) ≡ set (run 0 mostNodes (λ m. length (getD ns m []))) n (length ys)
+  counts-written =
+      sym
+      (set-run (λ m. length (getD ns m [])) (λ m. length (getD ms m [])) mostNodes n (length ys) (ap length (one .here))
+      (λ m e. ap length (one .others m e)))
+
+-- A column where two nodes are written, as a carry does.
+pub two-written : {n t : ℕ} {xs ys : List Copy} {ns ls ms : List (List Copy)} → OneNode n xs ns ls → OneNode t ys ls ms → (n ≡ t → ⊥)
+    → (part : Copy → ℕ) (c : List ℕ) → length c ≡ places → ((i : ℕ) → i < width → getD c (width * n + i) 0 ≡ part (getD xs i noCopy))
+    → ((i : ℕ) → i < width → getD c (width * t + i) 0 ≡ part (getD ys i noCopy))
+    → ((m i : ℕ) → i < width → (m ≡ n → ⊥) → (m ≡ t → ⊥) → getD c (width * m + i) 0 ≡ getD (column part ns) (width * m + i) 0)
+    → c ≡ column part ms
+two-written {n} {t} {ns = ns} {ls} {ms} first second apart part c long here there others =
+    column-is part ms c long (λ m i h g. go m i h g (ℕ-discrete m t) (ℕ-discrete m n))
+  where
+    go : (m i : ℕ) → m < mostNodes → i < width → Dec (m ≡ t) → Dec (m ≡ n) → getD c (width * m + i) 0 ≡ part (getD (getD ms m []) i noCopy)
+    go m i h g (yes e) d = rw (e, second .here) (there i g)
+    go m i h g (no e) (yes d) = rw (d, second .others n apart, first .here) (here i g)
+    go m i h g (no e) (no d) = rw (second .others m e, first .others m d) (others m i g d e ∙ place-at part ns m i h g)
+
+-- A store is the store of a state by its plan's number, clock, counts, columns and slots.
+pub store-is : (plan : ℕ) (s : State) (z : Store) → z .plan ≡ plan → z .clock ≡ s .clock
+    → z .counts ≡ run 0 mostNodes (λ n. length (nodeAt s n)) → z .keys ≡ column (λ (x : Copy). x .key) (s .nodes)
+    → z .kinds ≡ column (λ (x : Copy). x .kind) (s .nodes) → z .values ≡ column (λ (x : Copy). x .value) (s .nodes)
+    → z .stamps ≡ column (λ (x : Copy). x .stamp) (s .nodes) → z .slots ≡ s .slots → z ≡ storeOf plan s
+unfolding storeOf
+store-is plan s z p c n k d v t q =
+    λ i. record { plan = p i; clock = c i; counts = n i; keys = k i; kinds = d i; values = v i; stamps = t i; slots = q i }
+
+-- The store of a state, and its state again.
+module _ (plan : ℕ) (s : State) where
+  pub stored-count : (n : ℕ) → n < mostNodes → countOf (storeOf plan s) n ≡ length (nodeAt s n)
+  unfolding storeOf
+  stored-count n h = getD-run-0 (λ m. length (nodeAt s m)) mostNodes n 0 h
+
+  pub stored-copy : (n i : ℕ) → n < mostNodes → i < width → copyOf (storeOf plan s) (width * n + i) ≡ copyAt s n i
+  unfolding storeOf
+  stored-copy n i h g =
+      λ t. record {
+        key = place-at (λ (x : Copy). x .key) (s .nodes) n i h g t;
+        kind = place-at (λ (x : Copy). x .kind) (s .nodes) n i h g t;
+        value = place-at (λ (x : Copy). x .value) (s .nodes) n i h g t;
+        stamp = place-at (λ (x : Copy). x .stamp) (s .nodes) n i h g t;
+      }
+
+  pub stored-node : (n : ℕ) → n < mostNodes → length (nodeAt s n) ≤ width → nodeOf (storeOf plan s) n ≡ nodeAt s n
+  stored-node n h fits =
+      ext-getD noCopy (nodeOf z n) (nodeAt s n) long
+      (λ i g. node-copy z n i (omega (arith, length-node z n)) ∙ stored-copy n i h (omega (arith, long)))
+    where
+      z : Store
+      z = storeOf plan s
+      long : length (nodeOf z n) ≡ length (nodeAt s n)
+      long = length-node z n ∙ stored-count n h
+
+  -- A state with a list for each node of the plan, none longer than a node's places, comes back.
+  pub state-back : length (s .nodes) ≡ size (planOf plan) → size (planOf plan) ≤ mostNodes → ((n : ℕ) → length (nodeAt s n) ≤ width)
+      → stateOf (storeOf plan s) ≡ s
+  unfolding stateOf storeOf
+  state-back long few fits = λ t. record { clock = s .clock; nodes = nodes t; slots = s .slots }
+    where
+      nodes : run 0 (size (planOf plan)) (nodeOf (storeOf plan s)) ≡ s .nodes
+      nodes =
+          sym
+          (as-run (nodeOf (storeOf plan s)) (s .nodes) 0 (size (planOf plan)) [] long
+          (λ n h. rw zero-add (sym (stored-node n (omega arith) (fits n)))))
