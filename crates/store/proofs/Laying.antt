@@ -1,5 +1,5 @@
 -- The layout of a store: what a node's places hold, what a column is, and that a store and its state give each other back. Assumes nothing.
-use mathlib.Core.Path.{_≡_, refl, sym, ap, _∙_}
+use mathlib.Core.Path.{_≡_, refl, sym, ap, _∙_, subst}
 use mathlib.Core.List.{List, [], _∷_, _++_, map, append-nil}
 use Prim.Native.Nat.{ℕ, suc, _+_, _-_, _*_, _/_, _%_, _<_, _≤_}
 use native.Mathlib.Omega.{arith}
@@ -11,13 +11,17 @@ use Rattle.lists.specs.Runs.{run}
 use Rattle.lists.proofs.Running.{length-run, getD-run, getD-run-0, as-run, map-run}
 use Rattle.lists.proofs.Storing.{sets-below, sets-past, sets-inside, set-run, getD-map}
 use Rattle.plan.specs.Sizes.{mostNodes}
-use Rattle.plan.specs.Plan.{size}
-use Rattle.plan.specs.PlanTable.{planOf}
+use Rattle.plan.specs.Plan.{Plan, size}
+use Rattle.plan.specs.PlanRules.{PlanRules}
+use Rattle.plan.specs.PlanTable.{planOf, plans}
+use Rattle.plan.proofs.TableLaws.{table-rules}
 use Rattle.store.specs.declared.Copy.{Copy}
 use Rattle.store.specs.declared.Store.{Store}
 use Rattle.store.specs.Copies.{noCopy}
 use Rattle.store.specs.State.{State, nodeAt, copyAt}
-use Rattle.store.specs.Layout.{width, places, copyIn, nodeIn, copyOf, countOf, nodeOf, stateOf, placeOf, column, storeOf}
+use Rattle.store.specs.Layout.{width, places, copyIn, nodeIn, copyOf, countOf, nodeOf, stateOf, placeOf, column, storeOf, Shape}
+use Rattle.store.specs.StateRules.{StateRules}
+use Rattle.store.specs.StoreRules.{StoreRules}
 
 -- A node of bare columns: as long as its count, and the copies of its places.
 module _ (counts keys kinds values stamps : List ℕ) (n : ℕ) where
@@ -232,3 +236,84 @@ module _ (plan : ℕ) (s : State) where
           sym
           (as-run (nodeOf (storeOf plan s)) (s .nodes) 0 (size (planOf plan)) [] long
           (λ n h. rw zero-add (sym (stored-node n (omega arith) (fits n)))))
+
+-- A store that keeps the rules is the store of its state.
+module _ (z : Store) (rules : StoreRules z) where
+  -- Each node's list in the state is as long as its count, also where the plan has no node.
+  pub every-count : (n : ℕ) → n < mostNodes → length (nodeAt (stateOf z) n) ≡ countOf z n
+  every-count n h = go (decLt n (size (planOf (z .plan))))
+    where
+      go : Dec (n < size (planOf (z .plan))) → length (nodeAt (stateOf z) n) ≡ countOf z n
+      go (yes l) = state-count z n l
+      go (no l) = ap length (state-past z n (omega arith)) ∙ sym (rules .unused-counts-zero n (omega arith) h)
+
+  -- Each place of each node is its place in the node's list, unused places too.
+  pub every-copy : (n i : ℕ) → n < mostNodes → i < width → copyAt (stateOf z) n i ≡ copyOf z (width * n + i)
+  every-copy n i h g = go (decLt i (countOf z n)) (decLt n (size (planOf (z .plan))))
+    where
+      go : Dec (i < countOf z n) → Dec (n < size (planOf (z .plan))) → copyAt (stateOf z) n i ≡ copyOf z (width * n + i)
+      go (yes u) (yes l) = state-copy z n i l u
+      go (yes u) (no l) = absurd (omega (arith, rules .unused-counts-zero n (omega arith) h))
+      go (no u) l =
+          List·getD-eq-default (nodeAt (stateOf z) n) noCopy (omega (arith, every-count n h))
+          ∙ sym (rules .unused-places-all-zero n i h (omega arith) g)
+
+  pub store-back : storeOf (z .plan) (stateOf z) ≡ z
+  store-back =
+      sym
+      (store-is (z .plan) (stateOf z) z refl (sym (state-clock z)) counts
+      (back (λ (x : Copy). x .key) (z .keys) (rules .shape .keys-512) (λ j. refl))
+      (back (λ (x : Copy). x .kind) (z .kinds) (rules .shape .kinds-512) (λ j. refl))
+      (back (λ (x : Copy). x .value) (z .values) (rules .shape .values-512) (λ j. refl))
+      (back (λ (x : Copy). x .stamp) (z .stamps) (rules .shape .stamps-512) (λ j. refl))
+      (sym (state-slots z)))
+    where
+      counts : z .counts ≡ run 0 mostNodes (λ n. length (nodeAt (stateOf z) n))
+      counts =
+          as-run (λ n. length (nodeAt (stateOf z) n)) (z .counts) 0 mostNodes 0 (rules .shape .counts-8) (λ n h. rw zero-add (sym (every-count n h)))
+      back : (part : Copy → ℕ) (c : List ℕ) → length c ≡ places → ((j : ℕ) → getD c j 0 ≡ part (copyOf z j)) → c ≡ column part (stateOf z .nodes)
+      back part c long of =
+          column-is part (stateOf z .nodes) c long (λ m i h g. of (width * m + i) ∙ ap part (sym (every-copy m i h g)))
+
+-- A state that keeps the rules holds nothing past the plan's nodes, and in no node more than its places.
+pub nothing-past : {p : Plan} {s : State} → StateRules p s → (n : ℕ) → size p ≤ n → nodeAt s n ≡ []
+nothing-past {s = s} rules n h = List·getD-eq-default (s .nodes) [] (omega (arith, rules .a-list-for-each-node))
+
+pub node-fits : {p : Plan} → PlanRules p → {s : State} → StateRules p s → (n : ℕ) → length (nodeAt s n) ≤ width
+node-fits {p} plan {s} rules n = go (decLt n (size p))
+  where
+    go : Dec (n < size p) → length (nodeAt s n) ≤ width
+    go (yes h) = omega (arith, rules .counts-within-capacity n h, plan .capacity-1-to-64 n h .1)
+    go (no h) = rw (nothing-past rules n (omega arith)) (omega arith)
+
+-- A state that keeps the rules comes back, and its store keeps them.
+module _ (plan : ℕ) (low : 1 ≤ plan) (high : plan ≤ plans) {s : State} (rules : StateRules (planOf plan) s) where
+  pub rules-back : stateOf (storeOf plan s) ≡ s
+  rules-back =
+      let p = table-rules plan low high in
+      state-back plan s (rules .a-list-for-each-node) (p .two-to-eight-nodes .1) (node-fits p rules)
+
+  pub stored-shape : Shape (storeOf plan s)
+  unfolding storeOf
+  stored-shape =
+      record {
+        counts-8 = length-run (λ n. length (nodeAt s n)) 0 mostNodes;
+        keys-512 = length-column (λ (x : Copy). x .key) (s .nodes);
+        kinds-512 = length-column (λ (x : Copy). x .kind) (s .nodes);
+        values-512 = length-column (λ (x : Copy). x .value) (s .nodes);
+        stamps-512 = length-column (λ (x : Copy). x .stamp) (s .nodes);
+        slots-8 = rules .eight-slots;
+      }
+
+  pub rules-store : StoreRules (storeOf plan s)
+  unfolding storeOf
+  rules-store =
+      record {
+        shape = stored-shape;
+        plan-1-to-3 = (low, high);
+        unused-places-all-zero =
+        λ n i h u g. stored-copy plan s n i h g ∙ List·getD-eq-default (nodeAt s n) noCopy (omega (arith, stored-count plan s n h));
+        unused-counts-zero =
+        λ n past h. stored-count plan s n h ∙ ap length (nothing-past rules n past);
+        state-rules = subst (λ (t : State). StateRules (planOf plan) t) (sym rules-back) rules;
+      }
