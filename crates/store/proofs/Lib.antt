@@ -1,2 +1,4 @@
 pub mod Laying
 pub mod Lifting
+pub mod Seeking
+pub mod Halving

@@ -5,3 +5,4 @@ pub mod StateRules
 pub mod Layout
 pub mod StoreRules
 pub mod Calls
+pub mod Workers

@@ -1,4 +1,7 @@
 // The store: its data and its rules.
+pub mod columns;
+
+#[repr(C)]
 pub struct Copy {
     pub key: u32,
     pub kind: u32,
@@ -6,6 +9,7 @@ pub struct Copy {
     pub stamp: u32,
 }
 
+#[repr(C)]
 pub struct Slot {
     pub running: u32,
     pub key: u32,
@@ -13,17 +17,31 @@ pub struct Slot {
     pub visits: u32,
 }
 
+#[repr(C)]
 pub struct Store {
     pub plan: u32,
     pub clock: u32,
-    pub counts: [u32; 8],
-    pub keys: [u32; 512],
-    pub kinds: [u32; 512],
-    pub values: [u32; 512],
-    pub stamps: [u32; 512],
-    pub slots: [Slot; 8],
+    pub counts: [u32; Store::NODES],
+    pub keys: [u32; Store::PLACES],
+    pub kinds: [u32; Store::PLACES],
+    pub values: [u32; Store::PLACES],
+    pub stamps: [u32; Store::PLACES],
+    pub slots: [Slot; Store::SLOTS],
 }
 
+impl Store {
+    pub const LAST_CLOCK: u32 = 4294967295;
+
+    pub const SLOTS: usize = 8;
+
+    pub const NODES: usize = 8;
+
+    pub const WIDTH: usize = 64;
+
+    pub const PLACES: usize = Store::NODES * Store::WIDTH;
+}
+
+#[repr(C)]
 pub struct Answer {
     pub number: u32,
     pub a: u64,
@@ -32,6 +50,7 @@ pub struct Answer {
     pub d: u64,
 }
 
+#[repr(C)]
 pub struct Outcome {
     pub answer: Answer,
     pub store: Store,
