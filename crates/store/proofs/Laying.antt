@@ -5,7 +5,7 @@ use Prim.Native.Nat.{ℕ, _+_, _-_, _*_, _/_, _%_, _<_, _≤_}
 use native.Mathlib.Omega.{arith}
 use native.Mathlib.Nat.{zero-add}
 use native.Mathlib.Decide.{decLt, ℕ-discrete}
-use lib.ListN.{length, getD, set, replicate, length-map, length-append, length-replicate, getD-replicate, List·getD-append, List·getD-eq-default}
+use lib.ListN.{length, getD, set, replicate, length-set, length-map, length-append, length-replicate, getD-replicate, List·getD-append, List·getD-eq-default}
 use lib.Seq.{ext-getD, sets, length-sets, getD-append-seam, getD-append-add, getD-set-same, getD-set-other}
 use Rattle.lists.specs.Runs.{run}
 use Rattle.lists.proofs.Running.{length-run, getD-run, getD-run-0, as-run, map-run}
@@ -180,6 +180,28 @@ module _ {n : ℕ} {ys : List Copy} {ns ms : List (List Copy)} (one : OneNode n 
       sym
       (set-run (λ m. length (getD ns m [])) (λ m. length (getD ms m [])) mostNodes n (length ys) (ap length (one .here))
       (λ m e. ap length (one .others m e)))
+
+-- A column where one copy of a node is replaced.
+pub copy-written : (part : Copy → ℕ) (ns : List (List Copy)) (n i : ℕ) (x : Copy) → n < length ns → n < mostNodes → i < length (getD ns n [])
+    → i < width → set (column part ns) (width * n + i) (part x) ≡ column part (set ns n (set (getD ns n []) i x))
+copy-written part ns n i x in-list few held fits =
+    node-written (set-one ns n (set xs i x) in-list) part (set c (width * n + i) (part x))
+    (length-set c (width * n + i) (part x) ∙ length-column part ns) (λ j h. here j h (ℕ-discrete j i))
+    (λ m j h e. getD-set-other c (width * n + i) (width * m + j) (part x) 0 (λ same. e (omega arith)))
+  where
+    c : List ℕ
+    c = column part ns
+
+    xs : List Copy
+    xs = getD ns n []
+
+    here : (j : ℕ) → j < width → Dec (j ≡ i) → getD (set c (width * n + i) (part x)) (width * n + j) 0 ≡ part (getD (set xs i x) j noCopy)
+    here j h (yes e) =
+        rw e
+        (getD-set-same c (width * n + i) (part x) 0 (omega (arith, length-column part ns)) ∙ ap part (sym (getD-set-same xs i x noCopy held)))
+    here j h (no e) =
+        getD-set-other c (width * n + i) (width * n + j) (part x) 0 (λ same. e (omega arith)) ∙ place-at part ns n j few h
+        ∙ ap part (sym (getD-set-other xs i j x noCopy e))
 
 -- A column where two nodes are written, as a carry does.
 pub two-written : {n t : ℕ} {xs ys : List Copy} {ns ls ms : List (List Copy)} → OneNode n xs ns ls → OneNode t ys ls ms → (n ≡ t → ⊥)
