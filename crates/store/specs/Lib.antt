@@ -6,3 +6,4 @@ pub mod Layout
 pub mod StoreRules
 pub mod Calls
 pub mod Workers
+pub mod Promises
