@@ -1,3 +1,5 @@
+pub mod Laying
+pub mod Lifting
 pub mod Seeking
 pub mod Halving
 pub mod Freshening

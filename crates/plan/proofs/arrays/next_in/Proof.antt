@@ -2,14 +2,14 @@
 -- Assumes nothing.
 use mathlib.Core.Path.{_≡_, sym, _∙_}
 use mathlib.Core.Logic.{⊎-elim}
-use Prim.Native.Nat.{ℕ, _-_, _<_, _≤_}
+use Prim.Native.Nat.{ℕ, _-_, _≤_}
 use native.Mathlib.Omega.{arith}
 use borrow.Author.Tests.{leb-true, leb-false}
 use Rattle.lists.specs.Runs.{run}
 use Rattle.plan.specs.declared.Edge.{Edge}
 use Rattle.plan.specs.Sizes.{mostNodes, mostEdges}
 use Rattle.plan.specs.Plan.{firstEdge}
-use Rattle.plan.specs.PlanArrays.{edgeIn, edgeCountIn, edgesIn}
+use Rattle.plan.specs.PlanArrays.{edgeIn, edgesIn}
 use Rattle.plan.proofs.NextLaws.{below-lowest, above-highest}
 use Rattle.plan.proofs.ArrayLaws.{counted-within, looks-from, looked, found, looks-on}
 use borrow.Author.Needs.{needs}
