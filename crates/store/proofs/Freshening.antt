@@ -1,6 +1,6 @@
 -- The fresh store in full, and the two answers of its making. Assumes nothing.
-use mathlib.Core.Path.{_≡_, refl, sym, ap, _∙_}
-use mathlib.Core.Bool.{Bool, true, false}
+use mathlib.Core.Path.{_≡_, refl, ap, _∙_}
+use mathlib.Core.Bool.{true, false}
 use mathlib.Core.List.{List, []}
 use Prim.Native.Nat.{ℕ, zero, suc, _/_, _%_, _<_, _≤_}
 use lib.Dec.{leb}
@@ -14,7 +14,6 @@ use Rattle.plan.specs.PlanTable.{planOf, plans}
 use Rattle.store.specs.declared.Answer.{Answer}
 use Rattle.store.specs.declared.Copy.{Copy}
 use Rattle.store.specs.declared.Store.{Store}
-use Rattle.store.specs.declared.Outcome.{Outcome}
 use Rattle.store.specs.Answers.{DONE, PLAN, bare}
 use Rattle.store.specs.Copies.{noCopy}
 use Rattle.store.specs.State.{slotCount, idle, fresh}

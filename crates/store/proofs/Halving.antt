@@ -2,11 +2,10 @@
 use mathlib.Core.Path.{_≡_, refl, sym, ap, _∙_}
 use mathlib.Core.List.{List}
 use mathlib.Core.Option.{none, some}
-use Prim.Native.Nat.{ℕ, suc, _+_, _-_, _<_, _≤_}
+use Prim.Native.Nat.{ℕ, _+_, _-_, _<_, _≤_}
 use native.Mathlib.Omega.{arith}
 use Rattle.lists.specs.Runs.{run}
 use Rattle.lists.proofs.Running.{map-run}
-use Rattle.store.specs.declared.Found.{Found}
 use Rattle.store.specs.declared.Found.the-variants.{Held, Nothing}
 use Rattle.store.specs.Copies.{copy, noCopy, keyOf, find, foundOf}
 use Rattle.store.specs.Layout.{copyIn}

@@ -3,3 +3,5 @@ pub mod Lifting
 pub mod Seeking
 pub mod Halving
 pub mod Freshening
+pub mod Opening
+pub mod Zeros

@@ -14,7 +14,7 @@ use crate::Store;
 
 // The first of the places from..end whose key is not below the key, or end: by halves.
 pub fn seek(keys: &[u32; Store::PLACES], from: usize, end: usize, key: u32) -> usize
-    requires { ⌜ (from ≤ end) × (end ≤ places) × (length (now keys) ≡ places) × RisesIn (now keys) from end ⌝ }
+    requires { ⌜ (from ≤ end) × (end ≤ places) × RisesIn (now keys) from end ⌝ }
     ensures { λ r. ⌜ r ≡ placeIn (now (keys .entry)) from end key ⌝ }
 {
     let mut low = from;
@@ -40,7 +40,7 @@ pub fn look_in<'a>(
     end: usize,
     key: u32,
 ) -> Found
-    requires { ⌜ (from ≤ end) × (end ≤ places) × (length (now keys) ≡ places) × (length (now kinds) ≡ places) × (length (now values) ≡ places) × (length (now stamps) ≡ places) × RisesIn (now keys) from end ⌝ }
+    requires { ⌜ (from ≤ end) × (end ≤ places) × RisesIn (now keys) from end ⌝ }
     ensures { λ r. ⌜ r ≡ foundOf (find keyOf (run from (end - from) (copyIn (now (keys .entry)) (now (kinds .entry)) (now (values .entry)) (now (stamps .entry)))) key) ⌝ }
 {
     let mut low = from;
@@ -66,4 +66,33 @@ pub fn look_in<'a>(
         value: values[at],
         stamp: stamps[at],
     })
+}
+
+// The number put in at a place; those from there up to end move one place up, over the one at end.
+pub fn open(column: &mut [u32; Store::PLACES], at: usize, end: usize, number: u32)
+    requires { ⌜ (at ≤ end) × (end < places) × (length (now column) ≡ places) ⌝ }
+    ensures { λ _. ⌜ now (column .exit) ≡ opened (now (column .entry)) at end number ⌝ }
+{
+    let mut hole = end;
+    while at < hole {
+        let x = column[hole - 1];
+        column[hole] = x;
+        hole -= 1;
+    }
+    column[at] = number;
+}
+
+// The places from..end of the column are all zero.
+pub fn all_zero(column: &[u32; Store::PLACES], from: usize, end: usize) -> bool
+    requires { ⌜ (from ≤ end) × (end ≤ places) × (length (now column) ≡ places) ⌝ }
+    ensures { λ r. ⌜ r ≡ allZero (slice from end (now (column .entry))) ⌝ }
+{
+    let mut i = from;
+    while i < end {
+        if column[i] != 0 {
+            return false;
+        }
+        i += 1;
+    }
+    true
 }

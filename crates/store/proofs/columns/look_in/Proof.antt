@@ -23,7 +23,7 @@ returns : tie.Need-returns Inv-loop μ-loop
 returns c =
     let l = c .before in
     let a = l .before .args in
-    look-nothing (a .keys .now) (a .from) (a .end) (omega arith) (l .before .pre .6) (a .kinds .now) (a .values .now) (a .stamps .now) (a .key) (l .loop .high) (omega arith) (l .loop .inv .4)
+    look-nothing (a .keys .now) (a .from) (a .end) (omega arith) (l .before .pre .2) (a .kinds .now) (a .values .now) (a .stamps .now) (a .key) (l .loop .high) (omega arith) (l .loop .inv .4)
 
 sub-mid : tie.Need-sub-mid Inv-loop μ-loop
 sub-mid c = search needs
@@ -48,7 +48,7 @@ loop-again c =
     let l = c .before .before .before .before in
     let a = l .before .args in
     let m = l .loop .low + (l .loop .high - l .loop .low) / 2 in
-    let d = half-up (a .keys .now) (a .from) (a .end) (omega arith) (l .before .pre .6) (a .key) m (omega arith) (omega arith) (c .if3 .taken) in
+    let d = half-up (a .keys .now) (a .from) (a .end) (omega arith) (l .before .pre .2) (a .key) m (omega arith) (omega arith) (c .if3 .taken) in
     (omega arith, search needs, omega arith, search needs, l .loop .inv .4)
 
 loop-less-2 : tie.Need-loop-less-2 Inv-loop μ-loop
@@ -86,7 +86,7 @@ returns-2 c =
     let l = t .before .before .before in
     let a = l .before .args in
     let m = l .loop .low + (l .loop .high - l .loop .low) / 2 in
-    look-held (a .keys .now) (a .from) (a .end) (omega arith) (l .before .pre .6) (a .kinds .now) (a .values .now) (a .stamps .now) (a .key) m (omega arith) (omega arith) (t .if2 .taken)
+    look-held (a .keys .now) (a .from) (a .end) (omega arith) (l .before .pre .2) (a .kinds .now) (a .values .now) (a .stamps .now) (a .key) m (omega arith) (omega arith) (t .if2 .taken)
 
 pub look-in-spec : {M : Type 1} → statement M
 look-in-spec =

@@ -42,7 +42,7 @@ loop-again c =
     let l = c .before .before .before in
     let s = l .before in
     let m = l .loop .low + (l .loop .high - l .loop .low) / 2 in
-    let d = half-up (s .args .keys .now) (s .args .from) (s .args .end) (omega arith) (s .pre .3) (s .args .key) m (omega arith) (omega arith) (c .if1 .taken) in
+    let d = half-up (s .args .keys .now) (s .args .from) (s .args .end) (omega arith) (s .pre .2) (s .args .key) m (omega arith) (omega arith) (c .if1 .taken) in
     (omega arith, search needs, omega arith, search needs)
 
 loop-less-2 : tie.Need-loop-less-2 Inv-loop μ-loop
