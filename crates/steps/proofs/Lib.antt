@@ -1,1 +1,3 @@
+pub mod NodeLists
+pub mod Merges
 pub mod Worked
