@@ -1,13 +1,14 @@
 -- The fresh store in full, and the two answers of its making. Assumes nothing.
 use mathlib.Core.Path.{_≡_, refl, ap, _∙_}
 use mathlib.Core.Bool.{true, false}
-use mathlib.Core.List.{List, []}
-use Prim.Native.Nat.{ℕ, zero, suc, _/_, _%_, _<_, _≤_}
+use mathlib.Core.List.{List}
+use Prim.Native.Nat.{ℕ, _/_, _%_, _<_, _≤_}
 use lib.Dec.{leb}
 use lib.ListN.{length, getD, replicate}
 use borrow.Author.Tests.{le-leb, lt-leb}
 use Rattle.lists.specs.Runs.{run}
 use Rattle.lists.proofs.Running.{same-run}
+use Rattle.lists.proofs.Storing.{getD-same}
 use Rattle.plan.specs.Sizes.{mostNodes}
 use Rattle.plan.specs.Plan.{size}
 use Rattle.plan.specs.PlanTable.{planOf, plans}
@@ -21,22 +22,16 @@ use Rattle.store.specs.Layout.{width, places, column, storeOf, freshStor
 use Rattle.store.specs.StoreRules.{planNumberTest}
 use Rattle.store.specs.Promises.{freshOutcome}
 
--- Nodes that hold nothing.
-nothing : (m n : ℕ) → getD {A = List Copy} (replicate m []) n [] ≡ []
-nothing zero n = refl
-nothing (suc m) zero = refl
-nothing (suc m) (suc n) = nothing m n
-
--- A column of them is all zero.
+-- Nodes that hold nothing: their columns and counts are all zero.
 column-empty : (part : Copy → ℕ) → part noCopy ≡ 0 → (m : ℕ) → column part (replicate m []) ≡ replicate places 0
 unfolding column run
 column-empty part z m =
     same-run (λ i. part (getD (getD (replicate m []) (i / width) []) (i % width) noCopy)) (λ i. 0) 0 places
-    (λ i p q. ap (λ (l : List Copy). part (getD l (i % width) noCopy)) (nothing m (i / width)) ∙ z)
+    (λ i p q. ap (λ (l : List Copy). part (getD l (i % width) noCopy)) (getD-same m (i / width) []) ∙ z)
 
 counts-empty : (m : ℕ) → run 0 mostNodes (λ n. length (getD {A = List Copy} (replicate m []) n [])) ≡ replicate mostNodes 0
 unfolding run
-counts-empty m = same-run (λ n. length (getD {A = List Copy} (replicate m []) n [])) (λ n. 0) 0 mostNodes (λ n p q. ap length (nothing m n))
+counts-empty m = same-run (λ n. length (getD {A = List Copy} (replicate m []) n [])) (λ n. 0) 0 mostNodes (λ n p q. ap length (getD-same m n []))
 
 -- Clock 1, nothing held, all slots idle: repeated zeros over all places.
 pub fresh-store-is : (plan : ℕ)
