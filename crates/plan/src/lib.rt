@@ -1,11 +1,128 @@
-// Plans.
+// Plans: the fixed table of the three plans, and what it says of a plan by its number. Document 01, "Lines, copies, plans".
+ghost use mathlib.Core.Path.{_≡_};
+ghost use lib.ListN.{length};
+ghost use Rattle.plan.specs.Plan.{size, capacityOf, edgesOf, edgeOf};
+ghost use Rattle.plan.specs.Plan.{next as nextOf};
+ghost use Rattle.plan.specs.PlanTable.{planOf};
+ghost use Rattle.plan.specs.PlanArrays.{rowOf};
+
+mod arrays; // arrays.rt: a plan's arrays, lent
+
+// "up to four edges", "2 to 8 nodes", and the number of plans.
+pub const MOST_EDGES: usize = 4;
+pub const MOST_NODES: usize = 8;
+pub const PLANS: usize = 3;
+
+// "An edge has a lowest key, a highest key (both included) and a target."
 pub struct Edge {
     pub lowest: u32,
     pub highest: u32,
     pub target: u32,
 }
 
+// The key's next step: to a node, or its path ends here.
 pub enum Hop {
     To(u32),
     Ends,
+}
+
+// "The three plans are a fixed table": a row for each plan. 0 stands where a plan has no node or no edge.
+// How many nodes each has.
+const NODE_COUNTS: [u32; PLANS] = [4, 3, 4];
+
+// By node.
+const CAPACITIES: [[u32; MOST_NODES]; PLANS] = [
+    [8, 16, 32, 64, 0, 0, 0, 0],
+    [8, 32, 32, 0, 0, 0, 0, 0],
+    [8, 16, 16, 64, 0, 0, 0, 0],
+];
+
+const EDGE_COUNTS: [[u32; MOST_NODES]; PLANS] = [
+    [1, 1, 1, 0, 0, 0, 0, 0],
+    [2, 0, 0, 0, 0, 0, 0, 0],
+    [2, 1, 1, 0, 0, 0, 0, 0],
+];
+
+// By node and then by edge.
+const LOWEST: [[[u32; MOST_EDGES]; MOST_NODES]; PLANS] = [
+    [[0, 0, 0, 0], [0, 0, 0, 0], [0, 0, 0, 0], [0, 0, 0, 0], [0, 0, 0, 0], [0, 0, 0, 0], [0, 0, 0, 0], [0, 0, 0, 0]],
+    [[0, 2147483648, 0, 0], [0, 0, 0, 0], [0, 0, 0, 0], [0, 0, 0, 0], [0, 0, 0, 0], [0, 0, 0, 0], [0, 0, 0, 0], [0, 0, 0, 0]],
+    [[0, 2147483648, 0, 0], [0, 0, 0, 0], [0, 0, 0, 0], [0, 0, 0, 0], [0, 0, 0, 0], [0, 0, 0, 0], [0, 0, 0, 0], [0, 0, 0, 0]],
+];
+
+const HIGHEST: [[[u32; MOST_EDGES]; MOST_NODES]; PLANS] = [
+    [[4294967295, 0, 0, 0], [4294967295, 0, 0, 0], [4294967295, 0, 0, 0], [0, 0, 0, 0], [0, 0, 0, 0], [0, 0, 0, 0], [0, 0, 0, 0], [0, 0, 0, 0]],
+    [[2147483647, 4294967295, 0, 0], [0, 0, 0, 0], [0, 0, 0, 0], [0, 0, 0, 0], [0, 0, 0, 0], [0, 0, 0, 0], [0, 0, 0, 0], [0, 0, 0, 0]],
+    [[2147483647, 4294967295, 0, 0], [4294967295, 0, 0, 0], [4294967295, 0, 0, 0], [0, 0, 0, 0], [0, 0, 0, 0], [0, 0, 0, 0], [0, 0, 0, 0], [0, 0, 0, 0]],
+];
+
+const TARGETS: [[[u32; MOST_EDGES]; MOST_NODES]; PLANS] = [
+    [[1, 0, 0, 0], [2, 0, 0, 0], [3, 0, 0, 0], [0, 0, 0, 0], [0, 0, 0, 0], [0, 0, 0, 0], [0, 0, 0, 0], [0, 0, 0, 0]],
+    [[1, 2, 0, 0], [0, 0, 0, 0], [0, 0, 0, 0], [0, 0, 0, 0], [0, 0, 0, 0], [0, 0, 0, 0], [0, 0, 0, 0], [0, 0, 0, 0]],
+    [[1, 2, 0, 0], [3, 0, 0, 0], [3, 0, 0, 0], [0, 0, 0, 0], [0, 0, 0, 0], [0, 0, 0, 0], [0, 0, 0, 0], [0, 0, 0, 0]],
+];
+
+// The plan's row of the table: past the last for a number that no plan has.
+fn row(plan: u32) -> usize
+    ensures { λ r. ⌜ r ≡ rowOf plan ⌝ }
+{
+    if 1 <= plan {
+        return plan as usize - 1;
+    }
+    PLANS
+}
+
+// The number of the plan's nodes; none for a number that no plan has.
+pub fn nodes(plan: u32) -> u32
+    ensures { λ r. ⌜ r ≡ size (planOf plan) ⌝ }
+{
+    let p = row(plan);
+    if p < PLANS {
+        return NODE_COUNTS[p];
+    }
+    0
+}
+
+// The node's capacity; 0 where the plan has no such node.
+pub fn capacity(plan: u32, node: u32) -> u32
+    ensures { λ r. ⌜ r ≡ capacityOf (planOf plan) node ⌝ }
+{
+    let p = row(plan);
+    if p < PLANS {
+        return arrays::capacity_in(&CAPACITIES[p], node);
+    }
+    0
+}
+
+// How many edges the node has; 0 where the plan has no such node.
+pub fn edge_count(plan: u32, node: u32) -> u32
+    ensures { λ r. ⌜ r ≡ length (edgesOf (planOf plan) node) ⌝ }
+{
+    let p = row(plan);
+    if p < PLANS {
+        return arrays::edge_count_in(&EDGE_COUNTS[p], node);
+    }
+    0
+}
+
+// The node's edge by its number, from 0; all zeros where the node has no such edge.
+pub fn edge_at(plan: u32, node: u32, edge: u32) -> Edge
+    ensures { λ r. ⌜ r ≡ edgeOf (planOf plan) node edge ⌝ }
+{
+    let p = row(plan);
+    if p < PLANS {
+        return arrays::edge_in(&EDGE_COUNTS[p], &LOWEST[p], &HIGHEST[p], &TARGETS[p], node, edge);
+    }
+    Edge { lowest: 0, highest: 0, target: 0 }
+}
+
+// The key's next step: the target of the first edge, in edge order, whose range holds the key.
+pub fn next(plan: u32, node: u32, key: u32) -> Hop
+    ensures { λ r. ⌜ r ≡ nextOf (planOf plan) node key ⌝ }
+{
+    let p = row(plan);
+    if p < PLANS {
+        return arrays::next_in(&EDGE_COUNTS[p], &LOWEST[p], &HIGHEST[p], &TARGETS[p], node, key);
+    }
+    Hop::Ends
 }

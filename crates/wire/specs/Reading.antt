@@ -1,0 +1,26 @@
+-- Reading numbers from the left, one after another: the first fault wins. Document 01, "Bytes".
+use mathlib.Core.List.{List}
+use Prim.Native.Nat.{ℕ}
+use Rattle.number.specs.declared.Reading.{Reading}
+use Rattle.number.specs.declared.Reading.the-variants.{Value, Cut, Malformed}
+use Rattle.number.specs.Number.{readAt}
+use Rattle.store.specs.Answers.{CUT, NUMBER}
+
+-- What was read and the offset after it, or a fault: an answer number and an offset.
+pub data Got (A : Type 0) : Type 0 where
+  got : A → ℕ → Got A
+  fault : ℕ → ℕ → Got A
+
+-- One reading after another: "the first fault wins".
+unfoldable pub bind : {A B : Type 0} → Got A → (A → ℕ → Got B) → Got B
+bind (got x next) f = f x next
+bind (fault number at) f = fault number at
+
+-- A number, or CUT or NUMBER with its offset.
+unfoldable pub numbered : ℕ → Reading → Got ℕ
+numbered at (Value v next) = got v next
+numbered at Cut = fault CUT at
+numbered at Malformed = fault NUMBER at
+
+unfoldable pub numberAt : List ℕ → ℕ → Got ℕ
+numberAt s at = numbered at (readAt s at)

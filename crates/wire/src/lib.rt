@@ -1,0 +1,1 @@
+// Numbers read one after another, where the first fault wins; bytes written into a lent buffer.
