@@ -1,1 +1,2 @@
 pub mod RulingLists
+pub mod RulingLines
