@@ -1,2 +1,3 @@
 pub mod RulingLists
 pub mod RulingLines
+pub mod RulingStamps
