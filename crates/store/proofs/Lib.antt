@@ -1,3 +1,4 @@
 pub mod RulingLists
 pub mod RulingLines
 pub mod RulingStamps
+pub mod Ruling
