@@ -1,3 +1,4 @@
 pub mod Running
 pub mod Standing
 pub mod Truths
+pub mod Storing

@@ -1,4 +1,4 @@
--- The form of a number: its bytes, and how many there are.
+-- The form of a number: its first byte and the rest, and how many bytes it has.
 -- Each law is shown for any kind of number (last, more) with last below 128, and then for the 32-bit numbers of document 01.
 -- Assumes nothing.
 use mathlib.Core.Path.{_≡_, refl}
@@ -9,9 +9,9 @@ use native.Mathlib.Omega.{arith}
 use native.Mathlib.Nat.{pow-suc, one-le-pow}
 use native.Mathlib.Decide.{decLt}
 use lib.Dec.{lit<, lit≤}
-use lib.ListN.{length, getD}
+use lib.ListN.{length}
 use borrow.Author.Tests.{lt-ltb, le-ltb}
-use Rattle.number.specs.Number.{Bytes, lastByte, moreBytes, largest, formIn, form}
+use Rattle.number.specs.Number.{lastByte, moreBytes, largest, formIn, form}
 
 -- ---- any kind of number
 
@@ -20,13 +20,6 @@ pub form-one : (more v : ℕ) → v < 128 → formIn more v ≡ v ∷ []
 unfolding formIn
 form-one zero v h = refl
 form-one (suc more) v h = rw (lt-ltb v 128 h)
-
--- A number of 128 or above: its lowest group has the top bit, and the form of the rest follows, which is as large as the kind allows.
-pub record Turn (last more v : ℕ) : Type 0 where
-  pub less : ℕ
-  pub is : more ≡ suc less
-  pub small : v / 128 ≤ largest last less
-  pub bytes : formIn more v ≡ (128 + v % 128) ∷ formIn less (v / 128)
 
 -- The form has at least one byte.
 pub form-some-in : (more v : ℕ) → 1 ≤ length (formIn more v)
@@ -48,7 +41,7 @@ form-length-in (suc more) v = go (decLt v 128) (form-length-in more (v / 128))
     go (yes h) k = rw (lt-ltb v 128 h) (omega arith)
     go (no h) k = rw (le-ltb v 128 (omega arith)) (omega arith)
 
--- The form has at most k bytes exactly when the number is below 128 to the k.
+-- For k from 1 to `more`, the form has at most k bytes exactly when the number is below 128 to the k.
 pub form-width-in : (more v k : ℕ) → 1 ≤ k → k ≤ more → (length (formIn more v) ≤ k) ↔ (v < 128 ^ k)
 unfolding formIn
 form-width-in zero v k h g = absurd (omega arith)
@@ -68,24 +61,18 @@ form-width-in (suc more) v (suc k) h g = go (decLt v 128) k g (λ p q. form-widt
         rw (le-ltb v 128 (omega arith), pow-suc 128 (suc k))
         (λ t. let u = r .0 (omega arith) in omega arith, λ t. let u = r .1 (omega arith) in omega arith)
 
-module _ (last : ℕ) (low : last < 128) where
-  pub form-turn : (more v : ℕ) → v ≤ largest last more → 128 ≤ v → Turn last more v
-  unfolding largest formIn
-  form-turn zero v h g = absurd (omega arith)
-  form-turn (suc more) v h g = record { less = more; is = refl; small = omega arith; bytes = rw (le-ltb v 128 g) }
+-- The form of a number of 128 or above: its lowest group with the top bit, then the form of the rest, which is within the smaller kind.
+pub record Turn (last more v : ℕ) : Type 0 where
+  pub less : ℕ
+  pub is : more ≡ suc less
+  pub small : v / 128 ≤ largest last less
+  pub bytes : formIn more v ≡ (128 + v % 128) ∷ formIn less (v / 128)
 
-  -- The bytes of a form are bytes.
-  pub form-bytes-in : (more v : ℕ) → v ≤ largest last more → Bytes (formIn more v)
-  unfolding largest formIn
-  form-bytes-in zero v h zero = omega arith
-  form-bytes-in zero v h (suc i) = lit< tt
-  form-bytes-in (suc more) v h i = go (decLt v 128) i (λ g. form-bytes-in more (v / 128) g)
-    where
-      go : Dec (v < 128) → (i : ℕ) → (v / 128 ≤ largest last more → Bytes (formIn more (v / 128))) → getD (formIn (suc more) v) i 0 < 256
-      go (yes g) zero again = rw (lt-ltb v 128 g) (omega arith)
-      go (yes g) (suc i) again = rw (lt-ltb v 128 g) (lit< tt)
-      go (no g) zero again = rw (le-ltb v 128 (omega arith)) (omega arith)
-      go (no g) (suc i) again = rw (le-ltb v 128 (omega arith)) (again (omega arith) i)
+-- A number of 128 or above that is within its kind has such a form.
+pub form-turn : (last : ℕ) → last < 128 → (more v : ℕ) → v ≤ largest last more → 128 ≤ v → Turn last more v
+unfolding largest formIn
+form-turn last low zero v h g = absurd (omega arith)
+form-turn last low (suc more) v h g = record { less = more; is = refl; small = omega arith; bytes = rw (le-ltb v 128 g) }
 
 -- ---- 32-bit numbers
 
@@ -101,11 +88,6 @@ low-32 = lit< tt
 -- A number of 32 bits is within the kind.
 pub small-32 : {v : ℕ} → v ≤ 4294967295 → v ≤ largest lastByte moreBytes
 small-32 h = rw largest-32 h
-
--- The bytes of a form are bytes.
-pub form-bytes : (v : ℕ) → v ≤ 4294967295 → Bytes (form v)
-unfolding form
-form-bytes v h = form-bytes-in lastByte low-32 moreBytes v (small-32 h)
 
 -- The form has at least one byte.
 pub form-some : (v : ℕ) → 1 ≤ length (form v)

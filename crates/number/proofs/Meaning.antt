@@ -47,6 +47,10 @@ module _ (last : ℕ) (low : last < 128) where
       go (yes g) again = rw (lt-ltb v 128 g) (lastGroup g)
       go (no g) again = rw (le-ltb v 128 (omega arith)) (moreGroups {b = 128 + v % 128} (omega arith) (omega arith) (again (omega arith)))
 
+  -- The bytes of a form are bytes.
+  pub form-bytes-in : (more v : ℕ) → v ≤ largest last more → Bytes (formIn more v)
+  form-bytes-in more v h = groups-bytes (form-groups-in more v h)
+
   -- A form spells its number.
   pub form-spells-in : (more v : ℕ) → v ≤ largest last more → valueOf (formIn more v) ≡ v
   unfolding largest formIn valueOf
@@ -122,6 +126,10 @@ module _ (last : ℕ) (low : last < 128) (more : ℕ) where
 pub form-groups : (v : ℕ) → v ≤ 4294967295 → Groups (form v)
 unfolding form
 form-groups v h = form-groups-in lastByte low-32 moreBytes v (small-32 h)
+
+-- The bytes of a form are bytes.
+pub form-bytes : (v : ℕ) → v ≤ 4294967295 → Bytes (form v)
+form-bytes v h = groups-bytes (form-groups v h)
 
 -- A form spells its number.
 pub form-spells : (v : ℕ) → v ≤ 4294967295 → valueOf (form v) ≡ v

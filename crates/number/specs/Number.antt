@@ -1,4 +1,6 @@
 -- Numbers as bytes. Document 01, "Bytes".
+-- A kind of number has at most `more` bytes with the top bit set and a last byte, which after `more` others is at most `last`:
+-- (15, 4) is 32 bits in at most five bytes, and (1, 9) would be 64 bits in at most ten (Q-7).
 -- Assumes nothing.
 use mathlib.Core.Path.{_≡_}
 use mathlib.Core.Bool.{Bool, true, false, cond}
@@ -27,7 +29,7 @@ valueOf (b ∷ l) = b % 128 + 128 * valueOf l
 
 -- ---- "4294967295 takes five bytes."
 
--- A 32-bit number has at most four bytes with the top bit set. (Q-7 adds a wider kind: nine, and a last byte of at most 01.)
+-- A 32-bit number has at most four bytes with the top bit set.
 abbrev pub moreBytes : ℕ
 moreBytes = 4
 
@@ -35,14 +37,14 @@ moreBytes = 4
 abbrev pub lastByte : ℕ
 lastByte = 15
 
--- The largest number with at most `more` bytes that have the top bit set and a last byte, which after `more` others is at most `last`.
+-- The largest number of a kind.
 unfoldable pub largest : ℕ → ℕ → ℕ
 largest last zero = last
 largest last (suc more) = 127 + 128 * largest last more
 
 -- ---- "Only the shortest form is read: 180 is B4 01; B4 81 00 is refused."
 
--- The shortest form of a number that has at most `more` bytes with the top bit set.
+-- The shortest form of a number, with at most `more` bytes that have the top bit set.
 unfoldable pub formIn : ℕ → ℕ → List ℕ
 formIn zero v = v ∷ []
 formIn (suc more) v = cond (ltb v 128) (v ∷ []) ((128 + v % 128) ∷ formIn more (v / 128))
@@ -77,16 +79,16 @@ readIn s last (suc more) first at =
 unfoldable pub readAt : List ℕ → ℕ → Reading
 readAt s at = readIn s lastByte moreBytes true at
 
--- All bytes from one offset up to another have the top bit set.
+-- Every byte from one offset up to another has the top bit set.
 abbrev pub Tops : List ℕ → ℕ → ℕ → Type 0
 Tops s from to = (i : ℕ) → from ≤ i → i < to → 128 ≤ getD s i 0
 
--- The bytes end after none to `more`, all with the top bit set.
+-- CUT: the bytes end after none to `more`, all with the top bit set.
 pub record EndsEarly (more : ℕ) (s : List ℕ) (at : ℕ) : Type 0 where
   pub few : length s ≤ at + more
   pub tops : Tops s at (length s)
 
--- A last byte 00 after others, of which there are at most `more`.
+-- NUMBER, not shortest: a last byte 00 after others, of which there are at most `more`.
 pub record EndsInZero (more : ℕ) (s : List ℕ) (at : ℕ) : Type 0 where
   pub place : ℕ
   pub others : at < place
@@ -95,7 +97,7 @@ pub record EndsInZero (more : ℕ) (s : List ℕ) (at : ℕ) : Type 0 where
   pub tops : Tops s at place
   pub byte : getD s place 0 ≡ 0
 
--- A byte above `last` after `more` others.
+-- NUMBER, above the largest: a byte above `last` after `more` others.
 pub record EndsAbove (last more : ℕ) (s : List ℕ) (at : ℕ) : Type 0 where
   pub tops : Tops s at (at + more)
   pub byte : last < getD s (at + more) 0

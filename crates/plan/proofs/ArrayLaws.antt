@@ -49,9 +49,11 @@ module _ (p : Plan) (few : size p ≤ mostNodes) where
         go : Dec (n < mostNodes) → min (getD (run 0 mostNodes (λ m. length (edgesOf p m))) n 0) mostEdges ≡ length (edgesOf p n)
         go (yes h) = omega (arith, getD-run-0 (λ m. length (edgesOf p m)) mostNodes n 0 h, few-edges n)
         go (no h) =
-            omega (arith,
-            getD-run-past (λ m. length (edgesOf p m)) 0 mostNodes n 0 (omega arith),
-            ap length (no-edges p n (omega arith)))
+            omega (
+              arith,
+              getD-run-past (λ m. length (edgesOf p m)) 0 mostNodes n 0 (omega arith),
+              ap length (no-edges p n (omega arith)),
+            )
 
     abbrev made : ℕ → ℕ → Edge
     made n = edgeIn (gridOf (λ e. e .lowest) p) (gridOf (λ e. e .highest) p) (gridOf (λ e. e .target) p) n

@@ -6,8 +6,7 @@ use native.Mathlib.Omega.{arith}
 use lib.ListN.{length, getD, List·getD-eq-default}
 use Rattle.lists.proofs.Running.{getD-map-within}
 use Rattle.plan.specs.declared.Edge.{Edge}
-use Rattle.plan.specs.declared.Hop.{Hop}
-use Rattle.plan.specs.Plan.{Plan, size, capacityOf, edgesOf, firstEdge, next}
+use Rattle.plan.specs.Plan.{Plan, noEdge, size, capacityOf, edgesOf, edgeOf, firstEdge, next}
 use Rattle.plan.specs.PlanRules.{PlanRules}
 use Rattle.plan.specs.PlanTable.{planTable, plans, planOf}
 use Rattle.plan.specs.PlanArrays.{Grid, edgeCountIn, edgesIn, capacitiesRow, countsRow, gridOf, rowOf}
@@ -19,8 +18,8 @@ unfolding rowOf
 row-is zero h = absurd (omega arith)
 row-is (suc p) h = omega arith
 
-pub row-none : (plan : ℕ) → plan < 1 → 3 ≡ rowOf plan
-unfolding rowOf plans planTable
+pub row-none : (plan : ℕ) → plan < 1 → plans ≡ rowOf plan
+unfolding rowOf
 row-none zero h = refl
 row-none (suc p) h = absurd (omega arith)
 
@@ -29,10 +28,10 @@ unfolding planOf rowOf plans
 row-plan zero r e = sym (List·getD-eq-default planTable [] (omega arith))
 row-plan (suc p) r e = ap (λ (i : ℕ). getD planTable i []) (sym e)
 
--- Past the last row there is no plan.
-pub no-row : (plan r : ℕ) → r ≡ rowOf plan → plans ≤ r → planOf plan ≡ []
+-- Past the last row there is no plan: what is said of it is said of one without nodes.
+pub past-rows : {A : Type 0} (f : Plan → A) (plan r : ℕ) → r ≡ rowOf plan → plans ≤ r → f [] ≡ f (planOf plan)
 unfolding plans
-no-row plan r e h = row-plan plan r e ∙ List·getD-eq-default planTable [] h
+past-rows f plan r e h = ap f (sym (row-plan plan r e ∙ List·getD-eq-default planTable [] h))
 
 row-rules : (plan r : ℕ) → r ≡ rowOf plan → r < plans → PlanRules (planOf plan)
 unfolding rowOf
@@ -60,8 +59,19 @@ module _ (plan r : ℕ) (e : r ≡ rowOf plan) (h : r < plans) where
   abbrev grid : (Edge → ℕ) → Grid
   grid part = getD (map (gridOf part) planTable) r []
 
-  pub row-edges : (n : ℕ) → edgesIn (getD (map countsRow planTable) r []) (grid (λ e. e .lowest)) (grid (λ e. e .highest)) (grid (λ e. e .target)) n
+  row-edges : (n : ℕ) → edgesIn (getD (map countsRow planTable) r []) (grid (λ e. e .lowest)) (grid (λ e. e .highest)) (grid (λ e. e .target)) n
       ≡ edgesOf (planOf plan) n
   row-edges n =
       rw (at-row countsRow [], at-row (gridOf (λ e. e .lowest)) [], at-row (gridOf (λ e. e .highest)) [], at-row (gridOf (λ e. e .target)) [])
       (edges-back (planOf plan) (row-rules plan r e h .two-to-eight-nodes .1) (row-rules plan r e h .up-to-four-edges) n)
+
+  pub row-edge : (n i : ℕ)
+      → getD (edgesIn (getD (map countsRow planTable) r []) (grid (λ e. e .lowest)) (grid (λ e. e .highest)) (grid (λ e. e .target)) n) i noEdge
+      ≡ edgeOf (planOf plan) n i
+  row-edge n i = ap (λ (es : List Edge). getD es i noEdge) (row-edges n)
+
+  pub row-next : (n k : ℕ)
+      → firstEdge (edgesIn (getD (map countsRow planTable) r []) (grid (λ e. e .lowest)) (grid (λ e. e .highest)) (grid (λ e. e .target)) n) k
+      ≡ next (planOf plan) n k
+  unfolding next
+  row-next n k = ap (λ (es : List Edge). firstEdge es k) (row-edges n)

@@ -6,7 +6,6 @@ ghost use lib.ListN.{getD};
 ghost use Rattle.plan.specs.Sizes.{mostNodes};
 ghost use Rattle.plan.specs.Plan.{noEdge, firstEdge};
 ghost use Rattle.plan.specs.PlanArrays.{edgeCountIn, edgesIn};
-
 use super::Edge;
 use super::Hop;
 use super::MOST_EDGES;
@@ -53,11 +52,19 @@ pub fn edge_in(
     ensures { λ r. ⌜ r ≡ getD (edgesIn (now (counts .entry)) (now (lows .entry)) (now (highs .entry)) (now (targets .entry)) node) edge noEdge ⌝ }
 {
     if edge_count_in(counts, node) <= edge {
-        return Edge { lowest: 0, highest: 0, target: 0 };
+        return Edge {
+            lowest: 0,
+            highest: 0,
+            target: 0,
+        };
     }
     let n = node as usize;
     let e = edge as usize;
-    Edge { lowest: lows[n][e], highest: highs[n][e], target: targets[n][e] }
+    Edge {
+        lowest: lows[n][e],
+        highest: highs[n][e],
+        target: targets[n][e],
+    }
 }
 
 // The key's next step: "the first edge, in edge order, whose range holds the key" gives its target.

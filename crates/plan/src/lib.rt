@@ -10,7 +10,9 @@ mod arrays; // arrays.rt: a plan's arrays, lent
 
 // "up to four edges", "2 to 8 nodes", and the number of plans.
 pub const MOST_EDGES: usize = 4;
+
 pub const MOST_NODES: usize = 8;
+
 pub const PLANS: usize = 3;
 
 // "An edge has a lowest key, a highest key (both included) and a target."
@@ -26,8 +28,7 @@ pub enum Hop {
     Ends,
 }
 
-// "The three plans are a fixed table": a row for each plan. 0 stands where a plan has no node or no edge.
-// How many nodes each has.
+// "The three plans are a fixed table": a row for each plan, and 0 where a plan has no such node or edge.
 const NODE_COUNTS: [u32; PLANS] = [4, 3, 4];
 
 // By node.
@@ -43,23 +44,45 @@ const EDGE_COUNTS: [[u32; MOST_NODES]; PLANS] = [
     [2, 1, 1, 0, 0, 0, 0, 0],
 ];
 
+// One node's bounds, by edge. No edge:
+const NONE: [u32; MOST_EDGES] = [0, 0, 0, 0];
+
+// one edge, all keys:
+const ALL_LOW: [u32; MOST_EDGES] = [0, 0, 0, 0];
+
+const ALL_HIGH: [u32; MOST_EDGES] = [4294967295, 0, 0, 0];
+
+// two edges, keys 0..2147483647 and keys 2147483648..4294967295.
+const TWO_LOW: [u32; MOST_EDGES] = [0, 2147483648, 0, 0];
+
+const TWO_HIGH: [u32; MOST_EDGES] = [2147483647, 4294967295, 0, 0];
+
+// One node's targets, by edge: one edge to 1, to 2 or to 3, or two edges, to 1 and to 2.
+const TO_1: [u32; MOST_EDGES] = [1, 0, 0, 0];
+
+const TO_2: [u32; MOST_EDGES] = [2, 0, 0, 0];
+
+const TO_3: [u32; MOST_EDGES] = [3, 0, 0, 0];
+
+const TO_1_AND_2: [u32; MOST_EDGES] = [1, 2, 0, 0];
+
 // By node and then by edge.
 const LOWEST: [[[u32; MOST_EDGES]; MOST_NODES]; PLANS] = [
-    [[0, 0, 0, 0], [0, 0, 0, 0], [0, 0, 0, 0], [0, 0, 0, 0], [0, 0, 0, 0], [0, 0, 0, 0], [0, 0, 0, 0], [0, 0, 0, 0]],
-    [[0, 2147483648, 0, 0], [0, 0, 0, 0], [0, 0, 0, 0], [0, 0, 0, 0], [0, 0, 0, 0], [0, 0, 0, 0], [0, 0, 0, 0], [0, 0, 0, 0]],
-    [[0, 2147483648, 0, 0], [0, 0, 0, 0], [0, 0, 0, 0], [0, 0, 0, 0], [0, 0, 0, 0], [0, 0, 0, 0], [0, 0, 0, 0], [0, 0, 0, 0]],
+    [ALL_LOW, ALL_LOW, ALL_LOW, NONE, NONE, NONE, NONE, NONE],
+    [TWO_LOW, NONE, NONE, NONE, NONE, NONE, NONE, NONE],
+    [TWO_LOW, ALL_LOW, ALL_LOW, NONE, NONE, NONE, NONE, NONE],
 ];
 
 const HIGHEST: [[[u32; MOST_EDGES]; MOST_NODES]; PLANS] = [
-    [[4294967295, 0, 0, 0], [4294967295, 0, 0, 0], [4294967295, 0, 0, 0], [0, 0, 0, 0], [0, 0, 0, 0], [0, 0, 0, 0], [0, 0, 0, 0], [0, 0, 0, 0]],
-    [[2147483647, 4294967295, 0, 0], [0, 0, 0, 0], [0, 0, 0, 0], [0, 0, 0, 0], [0, 0, 0, 0], [0, 0, 0, 0], [0, 0, 0, 0], [0, 0, 0, 0]],
-    [[2147483647, 4294967295, 0, 0], [4294967295, 0, 0, 0], [4294967295, 0, 0, 0], [0, 0, 0, 0], [0, 0, 0, 0], [0, 0, 0, 0], [0, 0, 0, 0], [0, 0, 0, 0]],
+    [ALL_HIGH, ALL_HIGH, ALL_HIGH, NONE, NONE, NONE, NONE, NONE],
+    [TWO_HIGH, NONE, NONE, NONE, NONE, NONE, NONE, NONE],
+    [TWO_HIGH, ALL_HIGH, ALL_HIGH, NONE, NONE, NONE, NONE, NONE],
 ];
 
 const TARGETS: [[[u32; MOST_EDGES]; MOST_NODES]; PLANS] = [
-    [[1, 0, 0, 0], [2, 0, 0, 0], [3, 0, 0, 0], [0, 0, 0, 0], [0, 0, 0, 0], [0, 0, 0, 0], [0, 0, 0, 0], [0, 0, 0, 0]],
-    [[1, 2, 0, 0], [0, 0, 0, 0], [0, 0, 0, 0], [0, 0, 0, 0], [0, 0, 0, 0], [0, 0, 0, 0], [0, 0, 0, 0], [0, 0, 0, 0]],
-    [[1, 2, 0, 0], [3, 0, 0, 0], [3, 0, 0, 0], [0, 0, 0, 0], [0, 0, 0, 0], [0, 0, 0, 0], [0, 0, 0, 0], [0, 0, 0, 0]],
+    [TO_1, TO_2, TO_3, NONE, NONE, NONE, NONE, NONE],
+    [TO_1_AND_2, NONE, NONE, NONE, NONE, NONE, NONE, NONE],
+    [TO_1_AND_2, TO_3, TO_3, NONE, NONE, NONE, NONE, NONE],
 ];
 
 // The plan's row of the table: past the last for a number that no plan has.
@@ -111,9 +134,20 @@ pub fn edge_at(plan: u32, node: u32, edge: u32) -> Edge
 {
     let p = row(plan);
     if p < PLANS {
-        return arrays::edge_in(&EDGE_COUNTS[p], &LOWEST[p], &HIGHEST[p], &TARGETS[p], node, edge);
+        return arrays::edge_in(
+            &EDGE_COUNTS[p],
+            &LOWEST[p],
+            &HIGHEST[p],
+            &TARGETS[p],
+            node,
+            edge,
+        );
     }
-    Edge { lowest: 0, highest: 0, target: 0 }
+    Edge {
+        lowest: 0,
+        highest: 0,
+        target: 0,
+    }
 }
 
 // The key's next step: the target of the first edge, in edge order, whose range holds the key.
@@ -122,7 +156,14 @@ pub fn next(plan: u32, node: u32, key: u32) -> Hop
 {
     let p = row(plan);
     if p < PLANS {
-        return arrays::next_in(&EDGE_COUNTS[p], &LOWEST[p], &HIGHEST[p], &TARGETS[p], node, key);
+        return arrays::next_in(
+            &EDGE_COUNTS[p],
+            &LOWEST[p],
+            &HIGHEST[p],
+            &TARGETS[p],
+            node,
+            key,
+        );
     }
     Hop::Ends
 }

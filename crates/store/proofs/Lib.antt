@@ -1,3 +1,5 @@
+pub mod Laying
+pub mod Lifting
 pub mod RulingLists
 pub mod RulingLines
 pub mod RulingStamps

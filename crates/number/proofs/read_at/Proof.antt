@@ -1,13 +1,13 @@
 -- `number::read_at` meets its contract.
 -- Assumes nothing.
 use native.Mathlib.Omega.{arith}
-use Rattle.number.specs.Number.{readAt}
-use Rattle.number.proofs.Forms.{largest-32}
+use Rattle.number.specs.Number.{largest, readAt}
 use Rattle.number.proofs.read_at.Statement.{statement}
 use Rattle.number.proofs.read_at.Tie as tie
 
 read-in-requires : tie.Need-read-in-requires
-read-in-requires c κs = omega (arith, largest-32)
+unfolding largest
+read-in-requires c κs = omega arith
 
 returns : tie.Need-returns
 unfolding readAt

@@ -1,10 +1,10 @@
 -- `plan::capacity` meets its contract: the capacities are those of the plans' nodes. Assumes nothing.
-use mathlib.Core.Path.{ap, sym, _∙_}
+use mathlib.Core.Path.{_∙_}
 use Rattle.lists.specs.Runs.{run}
-use Rattle.plan.specs.Plan.{Plan, capacityOf}
+use Rattle.plan.specs.Plan.{capacityOf}
 use Rattle.plan.specs.PlanTable.{planTable, plans}
 use Rattle.plan.specs.PlanArrays.{capacitiesRow}
-use Rattle.plan.proofs.RowLaws.{row-capacity, no-row}
+use Rattle.plan.proofs.RowLaws.{row-capacity, past-rows}
 use borrow.Author.Needs.{needs}
 use Rattle.plan.proofs.capacity.Statement.{statement}
 use Rattle.plan.proofs.capacity.Tie as tie
@@ -31,7 +31,7 @@ returns-2 : tie.Need-returns-2
 unfolding plans planTable
 returns-2 c =
     let s = c .before in
-    ap (λ (p : Plan). capacityOf p (s .before .args .node)) (sym (no-row (s .before .args .plan) (s .row .result) (s .row .ensures) (c .if1 .left)))
+    past-rows (λ p. capacityOf p (s .before .args .node)) (s .before .args .plan) (s .row .result) (s .row .ensures) (c .if1 .left)
 
 pub capacity-spec : {M : Type 1} → statement M
 capacity-spec =

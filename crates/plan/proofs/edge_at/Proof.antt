@@ -1,13 +1,10 @@
 -- `plan::edge_at` meets its contract: bounds and targets are those of the plans' edges. Assumes nothing.
-use mathlib.Core.Path.{ap, sym, _∙_}
-use mathlib.Core.List.{List}
-use lib.ListN.{getD}
+use mathlib.Core.Path.{_∙_}
 use Rattle.lists.specs.Runs.{run}
-use Rattle.plan.specs.declared.Edge.{Edge}
-use Rattle.plan.specs.Plan.{Plan, noEdge, edgeOf}
+use Rattle.plan.specs.Plan.{edgeOf}
 use Rattle.plan.specs.PlanTable.{planTable, plans}
 use Rattle.plan.specs.PlanArrays.{countsRow, gridOf}
-use Rattle.plan.proofs.RowLaws.{row-edges, no-row}
+use Rattle.plan.proofs.RowLaws.{row-edge, past-rows}
 use borrow.Author.Needs.{needs}
 use Rattle.plan.proofs.edge_at.Statement.{statement}
 use Rattle.plan.proofs.edge_at.Tie as tie
@@ -46,13 +43,13 @@ returns : tie.Need-returns
 unfolding plans planTable run countsRow gridOf
 returns c =
     let s = c .before .before .before .before .before .before in
-    c .edge-in .ensures ∙ ap (λ (es : List Edge). getD es (s .before .args .edge) noEdge) (row-edges (s .before .args .plan) (s .row .result) (s .row .ensures) (c .before .before .before .before .before .if1 .taken) (s .before .args .node))
+    c .edge-in .ensures ∙ row-edge (s .before .args .plan) (s .row .result) (s .row .ensures) (c .before .before .before .before .before .if1 .taken) (s .before .args .node) (s .before .args .edge)
 
 returns-2 : tie.Need-returns-2
 unfolding plans planTable
 returns-2 c =
     let s = c .before in
-    ap (λ (p : Plan). edgeOf p (s .before .args .node) (s .before .args .edge)) (sym (no-row (s .before .args .plan) (s .row .result) (s .row .ensures) (c .if1 .left)))
+    past-rows (λ p. edgeOf p (s .before .args .node) (s .before .args .edge)) (s .before .args .plan) (s .row .result) (s .row .ensures) (c .if1 .left)
 
 pub edge-at-spec : {M : Type 1} → statement M
 edge-at-spec =

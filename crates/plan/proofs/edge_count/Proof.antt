@@ -1,11 +1,11 @@
 -- `plan::edge_count` meets its contract: the counts are those of the plans' edges. Assumes nothing.
-use mathlib.Core.Path.{ap, sym, _∙_}
+use mathlib.Core.Path.{_∙_}
 use lib.ListN.{length}
 use Rattle.lists.specs.Runs.{run}
-use Rattle.plan.specs.Plan.{Plan, edgesOf}
+use Rattle.plan.specs.Plan.{edgesOf}
 use Rattle.plan.specs.PlanTable.{planTable, plans}
 use Rattle.plan.specs.PlanArrays.{countsRow}
-use Rattle.plan.proofs.RowLaws.{row-count, no-row}
+use Rattle.plan.proofs.RowLaws.{row-count, past-rows}
 use borrow.Author.Needs.{needs}
 use Rattle.plan.proofs.edge_count.Statement.{statement}
 use Rattle.plan.proofs.edge_count.Tie as tie
@@ -32,7 +32,7 @@ returns-2 : tie.Need-returns-2
 unfolding plans planTable
 returns-2 c =
     let s = c .before in
-    ap (λ (p : Plan). length (edgesOf p (s .before .args .node))) (sym (no-row (s .before .args .plan) (s .row .result) (s .row .ensures) (c .if1 .left)))
+    past-rows (λ p. length (edgesOf p (s .before .args .node))) (s .before .args .plan) (s .row .result) (s .row .ensures) (c .if1 .left)
 
 pub edge-count-spec : {M : Type 1} → statement M
 edge-count-spec =

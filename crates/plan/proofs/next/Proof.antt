@@ -1,12 +1,10 @@
 -- `plan::next` meets its contract: bounds and targets are those of the plans' edges. Assumes nothing.
-use mathlib.Core.Path.{ap, sym, _∙_}
-use mathlib.Core.List.{List}
+use mathlib.Core.Path.{_∙_}
 use Rattle.lists.specs.Runs.{run}
-use Rattle.plan.specs.declared.Edge.{Edge}
-use Rattle.plan.specs.Plan.{Plan, firstEdge, next}
+use Rattle.plan.specs.Plan.{firstEdge, next}
 use Rattle.plan.specs.PlanTable.{planTable, plans}
 use Rattle.plan.specs.PlanArrays.{countsRow, gridOf}
-use Rattle.plan.proofs.RowLaws.{row-edges, no-row}
+use Rattle.plan.proofs.RowLaws.{row-next, past-rows}
 use borrow.Author.Needs.{needs}
 use Rattle.plan.proofs.next.Statement.{statement}
 use Rattle.plan.proofs.next.Tie as tie
@@ -42,17 +40,17 @@ next-in-requires : tie.Need-next-in-requires
 next-in-requires c κs = search needs
 
 returns : tie.Need-returns
-unfolding plans planTable run countsRow gridOf next
+unfolding plans planTable run countsRow gridOf
 returns c =
     let s = c .before .before .before .before .before .before in
     c .next-in .ensures
-    ∙ ap (λ (es : List Edge). firstEdge es (s .before .args .key)) (row-edges (s .before .args .plan) (s .row .result) (s .row .ensures) (c .before .before .before .before .before .if1 .taken) (s .before .args .node))
+    ∙ row-next (s .before .args .plan) (s .row .result) (s .row .ensures) (c .before .before .before .before .before .if1 .taken) (s .before .args .node) (s .before .args .key)
 
 returns-2 : tie.Need-returns-2
 unfolding plans planTable next firstEdge
 returns-2 c =
     let s = c .before in
-    ap (λ (p : Plan). next p (s .before .args .node) (s .before .args .key)) (sym (no-row (s .before .args .plan) (s .row .result) (s .row .ensures) (c .if1 .left)))
+    past-rows (λ p. next p (s .before .args .node) (s .before .args .key)) (s .before .args .plan) (s .row .result) (s .row .ensures) (c .if1 .left)
 
 pub next-spec : {M : Type 1} → statement M
 next-spec =

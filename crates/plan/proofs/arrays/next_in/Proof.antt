@@ -2,14 +2,14 @@
 -- Assumes nothing.
 use mathlib.Core.Path.{_≡_, sym, _∙_}
 use mathlib.Core.Logic.{⊎-elim}
-use Prim.Native.Nat.{ℕ, _-_, _<_, _≤_}
+use Prim.Native.Nat.{ℕ, _-_, _≤_}
 use native.Mathlib.Omega.{arith}
 use borrow.Author.Tests.{leb-true, leb-false}
 use Rattle.lists.specs.Runs.{run}
 use Rattle.plan.specs.declared.Edge.{Edge}
 use Rattle.plan.specs.Sizes.{mostNodes, mostEdges}
 use Rattle.plan.specs.Plan.{firstEdge}
-use Rattle.plan.specs.PlanArrays.{edgeIn, edgeCountIn, edgesIn}
+use Rattle.plan.specs.PlanArrays.{edgeIn, edgesIn}
 use Rattle.plan.proofs.NextLaws.{below-lowest, above-highest}
 use Rattle.plan.proofs.ArrayLaws.{counted-within, looks-from, looked, found, looks-on}
 use borrow.Author.Needs.{needs}
@@ -22,7 +22,6 @@ Inv-loop counts lows highs targets node key n count e₀ e =
     × (count ≤ mostEdges)
     × (mostNodes ≤ node → count ≡ 0)
     × (firstEdge (edgesIn counts lows highs targets node) key ≡ firstEdge (run e (count - e) (edgeIn lows highs targets node)) key)
-
 
 abbrev μ-loop : tie.MeasureT-loop
 μ-loop counts lows highs targets node key n count e₀ e = count - e
@@ -39,11 +38,12 @@ cast-count c = search needs
 
 loop-holds : tie.Need-loop-holds Inv-loop μ-loop
 loop-holds c =
-    let a = c .before .args in
-    (search needs,
-    search needs,
-    c .edge-count-in .ensures .1,
-    looks-from (a .counts .now) (a .lows .now) (a .highs .now) (a .targets .now) (a .node) (c .edge-count-in .result) (a .key) (c .edge-count-in .ensures .0))
+    let a = c .before .args in (
+      search needs,
+      search needs,
+      c .edge-count-in .ensures .1,
+      looks-from (a .counts .now) (a .lows .now) (a .highs .now) (a .targets .now) (a .node) (c .edge-count-in .result) (a .key) (c .edge-count-in .ensures .0),
+    )
 
 returns : tie.Need-returns Inv-loop μ-loop
 returns c =
@@ -104,11 +104,12 @@ loop-again c =
     let f = edges (l .before .before) in
     let k = l .before .before .args .key in
     let on = looks-on f (l .loop .e) (l .before .edge-count-in .result) k in
-    ⊎-elim (λ w.
-    (omega arith,
-    omega arith,
-    l .loop .inv .2,
-    l .loop .inv .3 ∙ on (omega arith) (above-highest (f (l .loop .e)) k (leb-false _ _ (w .2 .left)))))
+    ⊎-elim (λ w. (
+      omega arith,
+      omega arith,
+      l .loop .inv .2,
+      l .loop .inv .3 ∙ on (omega arith) (above-highest (f (l .loop .e)) k (leb-false _ _ (w .2 .left))),
+    ))
     (λ w. (omega arith, omega arith, l .loop .inv .2, l .loop .inv .3 ∙ on (omega arith) (below-lowest (f (l .loop .e)) k (w .left))))
     (c .if2 .came)
 
