@@ -41,40 +41,249 @@ use Rattle.store.specs.StoreRules.{
   slotTest,
   goodStore,
 }
+use Rattle.store.proofs.Laying.{length-nodes, state-clock, state-slots, state-past, state-count, state-copy}
 use Rattle.store.proofs.RulingLists.{member-at, at-member, stands-at, at-stands, zeros-between, between-zeros}
 use Rattle.store.proofs.RulingLines.{falls-by-reach, reach-by-falls}
 use Rattle.store.proofs.RulingStamps.{Holds, different-apart, apart-different}
 
--- What the state of a store holds, and where the store has it.
-record Held (z : Store) (n i : ℕ) : Type 0 where
+-- A place of node n that the state holds, and where the store has it.
+record Placed (z : Store) (n i : ℕ) : Type 0 where
   node : n < size (planOf (z .plan))
   place : i < countOf z n
   copy : copyAt (stateOf z) n i ≡ copyOf z (width * n + i)
 
 module _ (z : Store) where
-  length-held : (n : ℕ) → n < size (planOf (z .plan)) → length (nodeAt (stateOf z) n) ≡ countOf z n
-  unfolding stateOf nodeIn
-  length-held n h =
-      ap length (getD-run-0 (nodeOf z) (size (planOf (z .plan))) n [] h) ∙ length-run (copyOf z) (width * n) (countOf z n)
-
-  copy-held : (n i : ℕ) → n < size (planOf (z .plan)) → i < countOf z n → copyAt (stateOf z) n i ≡ copyOf z (width * n + i)
-  unfolding stateOf nodeIn
-  copy-held n i h g =
-      ap (λ (l : List Copy). getD l i noCopy) (getD-run-0 (nodeOf z) (size (planOf (z .plan))) n [] h)
-      ∙ getD-run (copyOf z) (width * n) (countOf z n) i noCopy g
-
-  none-past : (n : ℕ) → size (planOf (z .plan)) ≤ n → length (nodeAt (stateOf z) n) ≡ 0
-  unfolding stateOf
-  none-past n h = ap length (getD-run-past (nodeOf z) 0 (size (planOf (z .plan))) n [] h)
-
-  held-at : (n i : ℕ) → HeldAt (stateOf z) n i → Held z n i
-  held-at n i h = go (decLt n (size (planOf (z .plan))))
+  held-placed : (n i : ℕ) → HeldAt (stateOf z) n i → Placed z n i
+  held-placed n i h = go (decLt n (size (planOf (z .plan))))
     where
-      go : Dec (n < size (planOf (z .plan))) → Held z n i
+      go : Dec (n < size (planOf (z .plan))) → Placed z n i
       go (yes g) =
-          let l : i < countOf z n = omega (arith, length-held n g) in
-          record { node = g; place = l; copy = copy-held n i g l }
-      go (no g) = absurd (omega (arith, none-past n (omega arith)))
+          let l : i < countOf z n = omega (arith, state-count z n g) in
+          record { node = g; place = l; copy = state-copy z n i g l }
+      go (no g) = absurd (omega (arith, ap length (state-past z n (omega arith))))
 
-  at-held : (n i : ℕ) → n < size (planOf (z .plan)) → i < countOf z n → HeldAt (stateOf z) n i
-  at-held n i h g = omega (arith, length-held n h)
+  placed-held : (n i : ℕ) → n < size (planOf (z .plan)) → i < countOf z n → HeldAt (stateOf z) n i
+  placed-held n i h g = omega (arith, state-count z n h)
+
+-- Kinds and values.
+kind-rule : (x : Copy) → kindTest x ≡ true → KindAndValue x
+unfolding kindTest
+kind-rule x t =
+    ⊎-elim (λ (a : eqb (x .kind) RESULT ≡ true). inl (eqb-true (x .kind) RESULT a))
+    (λ (a : eqb (x .kind) WITHDRAWN && eqb (x .value) 0 ≡ true).
+    inr
+    (eqb-true (x .kind) WITHDRAWN (and-left (eqb (x .kind) WITHDRAWN) (eqb (x .value) 0) a),
+    eqb-true (x .value) 0 (and-right (eqb (x .kind) WITHDRAWN) (eqb (x .value) 0) a)))
+    (or-cases (eqb (x .kind) RESULT) (eqb (x .kind) WITHDRAWN && eqb (x .value) 0) t)
+
+rule-kind : (x : Copy) → KindAndValue x → kindTest x ≡ true
+unfolding kindTest
+rule-kind x r =
+    ⊎-elim (λ (a : x .kind ≡ RESULT).
+    or-left (eqb (x .kind) RESULT) (eqb (x .kind) WITHDRAWN && eqb (x .value) 0) (eq-eqb (x .kind) RESULT a))
+    (λ (a : (x .kind ≡ WITHDRAWN) × (x .value ≡ 0)).
+    or-right (eqb (x .kind) RESULT) (eqb (x .kind) WITHDRAWN && eqb (x .value) 0)
+    (and-both (eq-eqb (x .kind) WITHDRAWN (a .0)) (eq-eqb (x .value) 0 (a .1))))
+    r
+
+-- The rules of a copy x that node n holds.
+record CopyRules (p : Plan) (s : State) (n : ℕ) (x : Copy) : Type 0 where
+  kind : KindAndValue x
+  late : 1 ≤ x .stamp
+  early : x .stamp < s .clock
+  on : (above : ℕ) × OnPath p (x .key) n above
+  reach : stampOf (inReach p s (x .key) (next p n (x .key))) < x .stamp
+
+copy-rules : (p : Plan) (s : State) (n : ℕ) (x : Copy) → copyTest p s n x ≡ true → CopyRules p s n x
+unfolding copyTest
+copy-rules p s n x t =
+    let w = member-at n (path p (x .key)) (search (and-left, and-right) depth 8) in
+    record {
+      kind = kind-rule x (search (and-left, and-right) depth 8);
+      late = leb-true 1 (x .stamp) (search (and-left, and-right) depth 8);
+      early = ltb-true (x .stamp) (s .clock) (search (and-left, and-right) depth 8);
+      on = (w .0, record { inside = w .1; here = w .2 });
+      reach = ltb-true (stampOf (inReach p s (x .key) (next p n (x .key)))) (x .stamp) (search (and-left, and-right) depth 8);
+    }
+
+rules-copy : (p : Plan) (s : State) (n : ℕ) (x : Copy) → CopyRules p s n x → copyTest p s n x ≡ true
+unfolding copyTest
+rules-copy p s n x r =
+    let on = r .on .1 in
+    let m : member n (path p (x .key)) ≡ true = rw (on .here) at (at-member (path p (x .key)) (r .on .0) (on .inside)) in
+    rw (rule-kind x (r .kind), le-leb 1 (x .stamp) (r .late), lt-ltb (x .stamp) (s .clock) (r .early), m)
+    (lt-ltb (stampOf (inReach p s (x .key) (next p n (x .key)))) (x .stamp) (r .reach))
+
+-- Search slots.
+slot-idle : (p : Plan) (q : Slot) → slotTest p q ≡ true → q .running ≡ 0 → q ≡ idle
+unfolding slotTest
+slot-idle p q t e =
+    let zeros : eqb (q .key) 0 && eqb (q .node) 0 && eqb (q .visits) 0 ≡ true = rw (eq-eqb (q .running) 0 e) at t in
+    let key = eqb-true (q .key) 0 (search (and-left, and-right) depth 8) in
+    let node = eqb-true (q .node) 0 (search (and-left, and-right) depth 8) in
+    let visits = eqb-true (q .visits) 0 (search (and-left, and-right) depth 8) in
+    λ i. record { running = e i; key = key i; node = node i; visits = visits i }
+
+slot-runs : (p : Plan) (q : Slot) → slotTest p q ≡ true → (q .running ≡ 0 → ⊥) → (q .running ≡ 1) × OnPath p (q .key) (q .node) (q .visits)
+unfolding slotTest
+slot-runs p q t e =
+    let runs : eqb (q .running) 1 && standsAt (q .node) (path p (q .key)) (q .visits) ≡ true = rw (ne-eqb (q .running) 0 e) at t in
+    let w = stands-at (q .node) (path p (q .key)) (q .visits) (search (and-left, and-right) depth 8) in
+    (eqb-true (q .running) 1 (search and-left), record { inside = w .0; here = w .1 })
+
+rules-slot : (p : Plan) (q : Slot) → (q .running ≡ 0 → q ≡ idle)
+    → ((q .running ≡ 0 → ⊥) → (q .running ≡ 1) × OnPath p (q .key) (q .node) (q .visits)) → slotTest p q ≡ true
+unfolding slotTest
+rules-slot p q rests runs = go (ℕ-discrete (q .running) 0)
+  where
+    go : Dec (q .running ≡ 0) → slotTest p q ≡ true
+    go (yes e) = ap (λ (x : Slot). slotTest p x) (rests e)
+    go (no e) =
+        let w = runs e in
+        rw (ne-eqb (q .running) 0 e, eq-eqb (q .running) 1 (w .0))
+        (at-stands (q .node) (path p (q .key)) (q .visits) (w .1 .inside) (w .1 .here))
+
+-- Unused places.
+unused-rule : (z : Store) (from to : ℕ) → unusedTest z from to ≡ true → (i : ℕ) → from ≤ i → i < to → copyOf z i ≡ noCopy
+unfolding unusedTest
+unused-rule z from to t i h g =
+    let key = zeros-between from to (z .keys) (search (and-left, and-right) depth 8) i h g in
+    let kind = zeros-between from to (z .kinds) (search (and-left, and-right) depth 8) i h g in
+    let value = zeros-between from to (z .values) (search (and-left, and-right) depth 8) i h g in
+    let stamp = zeros-between from to (z .stamps) (search (and-left, and-right) depth 8) i h g in
+    λ j. record { key = key j; kind = kind j; value = value j; stamp = stamp j }
+
+rule-unused : (z : Store) (from to : ℕ) → ((i : ℕ) → from ≤ i → i < to → copyOf z i ≡ noCopy) → unusedTest z from to ≡ true
+unfolding unusedTest
+rule-unused z from to e =
+    rw (
+      between-zeros from to (z .keys) (λ i h g. ap (λ (x : Copy). x .key) (e i h g)),
+      between-zeros from to (z .kinds) (λ i h g. ap (λ (x : Copy). x .kind) (e i h g)),
+      between-zeros from to (z .values) (λ i h g. ap (λ (x : Copy). x .value) (e i h g)),
+    )
+    (between-zeros from to (z .stamps) (λ i h g. ap (λ (x : Copy). x .stamp) (e i h g)))
+
+-- A store that passes the test keeps the rules.
+module _ (z : Store) (t : goodStore z ≡ true) where
+  test-shape : Shape z
+  unfolding goodStore shapeTest
+  test-shape =
+      record {
+        counts-8 = eqb-true (length (z .counts)) mostNodes (search (and-left, and-right) depth 12);
+        keys-512 = eqb-true (length (z .keys)) places (search (and-left, and-right) depth 12);
+        kinds-512 = eqb-true (length (z .kinds)) places (search (and-left, and-right) depth 12);
+        values-512 = eqb-true (length (z .values)) places (search (and-left, and-right) depth 12);
+        stamps-512 = eqb-true (length (z .stamps)) places (search (and-left, and-right) depth 12);
+        slots-8 = eqb-true (length (z .slots)) slotCount (search (and-left, and-right) depth 12);
+      }
+
+  test-plan : (1 ≤ z .plan) × (z .plan ≤ plans)
+  unfolding goodStore planNumberTest
+  test-plan = both-le 1 (z .plan) (z .plan) plans (search (and-left, and-right) depth 8)
+
+  test-clock : (1 ≤ z .clock) × (z .clock ≤ lastClock)
+  unfolding goodStore clockTest
+  test-clock = both-le 1 (z .clock) (z .clock) lastClock (search (and-left, and-right) depth 8)
+
+  -- What the test says of a node.
+  test-node : (n : ℕ) → n < mostNodes → nodeTest (planOf (z .plan)) (stateOf z) z n ≡ true
+  unfolding goodStore
+  test-node n h =
+      all-below (nodeTest (planOf (z .plan)) (stateOf z) z) mostNodes (search (and-left, and-right) depth 8) n h
+
+  test-count : (n : ℕ) → n < mostNodes → countOf z n ≤ capacityOf (planOf (z .plan)) n
+  unfolding nodeTest
+  test-count n h =
+      let w = test-node n h in
+      leb-true (countOf z n) (capacityOf (planOf (z .plan)) n) (search (and-left, and-right) depth 8)
+
+  test-place : (n i : ℕ) → n < mostNodes → i < countOf z n → placeTest (planOf (z .plan)) (stateOf z) z n (width * n + i) ≡ true
+  unfolding nodeTest
+  test-place n i h g =
+      let w = test-node n h in
+      all-at (placeTest (planOf (z .plan)) (stateOf z) z n) (width * n) (countOf z n) (search (and-left, and-right) depth 8) (width * n + i)
+      (omega arith) (omega arith)
+
+  test-unused : (n i : ℕ) → n < mostNodes → countOf z n ≤ i → i < width → copyOf z (width * n + i) ≡ noCopy
+  unfolding nodeTest
+  test-unused n i h l g =
+      let w = test-node n h in
+      unused-rule z (width * n + countOf z n) (width * n + width) (search (and-left, and-right) depth 8) (width * n + i) (omega arith) (omega arith)
+
+  -- The plan has no more than 8 nodes, and no room past them.
+  plan-rules : PlanRules (planOf (z .plan))
+  plan-rules = table-rules (z .plan) (test-plan .0) (test-plan .1)
+
+  test-past : (n : ℕ) → size (planOf (z .plan)) ≤ n → n < mostNodes → countOf z n ≡ 0
+  test-past n h g =
+      omega (arith, test-count n g, ap (λ (d : Node). d .capacity) (List·getD-eq-default (planOf (z .plan)) noNode h))
+
+  -- What the test says of a copy held.
+  test-copy : (n i : ℕ) → HeldAt (stateOf z) n i → CopyRules (planOf (z .plan)) (stateOf z) n (copyAt (stateOf z) n i)
+  unfolding placeTest
+  test-copy n i h =
+      let w = held-placed z n i h in
+      let t = test-place n i (omega (arith, w .node, plan-rules .two-to-eight-nodes)) (w .place) in
+      rw (w .copy) (copy-rules (planOf (z .plan)) (stateOf z) n (copyOf z (width * n + i)) (search and-left))
+
+  test-rise : (n i : ℕ) → HeldAt (stateOf z) n (suc i) → copyAt (stateOf z) n i .key < copyAt (stateOf z) n (suc i) .key
+  unfolding placeTest
+  test-rise n i h =
+      let w = held-placed z n (suc i) h in
+      let v = held-placed z n i (omega arith) in
+      let t = test-place n i (omega (arith, w .node, plan-rules .two-to-eight-nodes)) (v .place) in
+      let e : width * n + suc i ≡ suc (width * n + i) = omega arith in
+      rw (v .copy, w .copy, e)
+      (⊎-elim (λ (l : leb (width * n + countOf z n) (suc (width * n + i)) ≡ true).
+      absurd (omega (arith, leb-true (width * n + countOf z n) (suc (width * n + i)) l, w .place)))
+      (λ (l : ltb (getD (z .keys) (width * n + i) 0) (getD (z .keys) (suc (width * n + i)) 0) ≡ true).
+      ltb-true (getD (z .keys) (width * n + i) 0) (getD (z .keys) (suc (width * n + i)) 0) l)
+      (or-cases (leb (width * n + countOf z n) (suc (width * n + i)))
+      (ltb (getD (z .keys) (width * n + i) 0) (getD (z .keys) (suc (width * n + i)) 0))
+      (search and-right)))
+
+  test-different : (n i m j : ℕ) → HeldAt (stateOf z) n i → HeldAt (stateOf z) m j
+      → copyAt (stateOf z) n i .stamp ≡ copyAt (stateOf z) m j .stamp → (n ≡ m) × (i ≡ j)
+  unfolding goodStore
+  test-different n i m j h g e =
+      let v = held-placed z n i h in
+      let w = held-placed z m j g in
+      let few = plan-rules .two-to-eight-nodes in
+      different-apart (z .counts) (z .stamps) 0 mostNodes (search (and-left, and-right) depth 8) n i m j
+      (record { from = omega arith; before = omega (arith, v .node); place = v .place })
+      (record { from = omega arith; before = omega (arith, w .node); place = w .place })
+      (rw (v .copy, w .copy) at e)
+
+  test-slot : (i : ℕ) → i < slotCount → slotTest (planOf (z .plan)) (slotAt (stateOf z) i) ≡ true
+  unfolding goodStore stateOf
+  test-slot i h =
+      all-below (λ j. slotTest (planOf (z .plan)) (getD (z .slots) j idle)) slotCount (search (and-left, and-right) depth 8) i h
+
+  test-state : StateRules (planOf (z .plan)) (stateOf z)
+  test-state =
+      record {
+        a-list-for-each-node = length-nodes z;
+        clock-1-to-last = rw (state-clock z) test-clock;
+        counts-within-capacity =
+        λ n h. omega (arith, state-count z n h, test-count n (omega (arith, plan-rules .two-to-eight-nodes)));
+        keys-strictly-rise = test-rise;
+        kinds-and-values = λ n i h. test-copy n i h .kind;
+        copies-on-their-paths = λ n i h. test-copy n i h .on;
+        stamps-1-to-clock-less-1 = λ n i h. (test-copy n i h .late, test-copy n i h .early);
+        stamps-all-different = test-different;
+        stamps-fall-down-a-path =
+        falls-by-reach (planOf (z .plan)) plan-rules (stateOf z) test-rise (λ n i h. test-copy n i h .on) (λ n i h. test-copy n i h .reach);
+        eight-slots = rw (state-slots z) (test-shape .slots-8);
+        idle-slots-all-zero = λ i h. slot-idle (planOf (z .plan)) (slotAt (stateOf z) i) (test-slot i h);
+        running-searches-on-their-paths = λ i h. slot-runs (planOf (z .plan)) (slotAt (stateOf z) i) (test-slot i h);
+      }
+
+  pub good-rules : StoreRules z
+  good-rules =
+      record {
+        shape = test-shape;
+        plan-1-to-3 = test-plan;
+        unused-places-all-zero = test-unused;
+        unused-counts-zero = test-past;
+        state-rules = test-state;
+      }
