@@ -287,3 +287,121 @@ module _ (z : Store) (t : goodStore z ≡ true) where
         unused-counts-zero = test-past;
         state-rules = test-state;
       }
+
+-- A store that keeps the rules passes the test.
+module _ (z : Store) (r : StoreRules z) where
+  abbrev rules : StateRules (planOf (z .plan)) (stateOf z)
+  rules = r .state-rules
+
+  shape-test : shapeTest z ≡ true
+  unfolding shapeTest
+  shape-test =
+      rw (
+        eq-eqb (length (z .counts)) mostNodes (r .shape .counts-8),
+        eq-eqb (length (z .keys)) places (r .shape .keys-512),
+        eq-eqb (length (z .kinds)) places (r .shape .kinds-512),
+        eq-eqb (length (z .values)) places (r .shape .values-512),
+        eq-eqb (length (z .stamps)) places (r .shape .stamps-512),
+        eq-eqb (length (z .slots)) slotCount (r .shape .slots-8),
+      )
+
+  number-test : planNumberTest (z .plan) ≡ true
+  unfolding planNumberTest
+  number-test = le-both 1 (z .plan) (z .plan) plans (r .plan-1-to-3 .0) (r .plan-1-to-3 .1)
+
+  clock-test : clockTest (z .clock) ≡ true
+  unfolding clockTest
+  clock-test =
+      let c = rw (state-clock z) at (rules .clock-1-to-last) in
+      le-both 1 (z .clock) (z .clock) lastClock (c .0) (c .1)
+
+  plan-meets : PlanRules (planOf (z .plan))
+  plan-meets = table-rules (z .plan) (r .plan-1-to-3 .0) (r .plan-1-to-3 .1)
+
+  held-rules : (n i : ℕ) → HeldAt (stateOf z) n i → CopyRules (planOf (z .plan)) (stateOf z) n (copyAt (stateOf z) n i)
+  held-rules n i h =
+      record {
+        kind = rules .kinds-and-values n i h;
+        late = rules .stamps-1-to-clock-less-1 n i h .0;
+        early = rules .stamps-1-to-clock-less-1 n i h .1;
+        on = rules .copies-on-their-paths n i h;
+        reach =
+        reach-by-falls (planOf (z .plan)) plan-meets (stateOf z) (rules .keys-strictly-rise) (λ m j g. rules .stamps-1-to-clock-less-1 m j g .0)
+        (rules .stamps-fall-down-a-path) n i h;
+      }
+
+  place-test : (n i : ℕ) → n < size (planOf (z .plan)) → i < countOf z n → placeTest (planOf (z .plan)) (stateOf z) z n (width * n + i) ≡ true
+  unfolding placeTest
+  place-test n i h g =
+      and-both (rw (state-copy z n i h g) at (rules-copy (planOf (z .plan)) (stateOf z) n (copyAt (stateOf z) n i) (held-rules n i (placed-held z n i h g))))
+      (go (decLt (suc i) (countOf z n)))
+    where
+      go : Dec (suc i < countOf z n)
+          → leb (width * n + countOf z n) (suc (width * n + i)) || ltb (getD (z .keys) (width * n + i) 0) (getD (z .keys) (suc (width * n + i)) 0) ≡ true
+      go (yes l) =
+          let e : width * n + suc i ≡ suc (width * n + i) = omega arith in
+          or-right (leb (width * n + countOf z n) (suc (width * n + i))) (ltb (getD (z .keys) (width * n + i) 0) (getD (z .keys) (suc (width * n + i)) 0))
+          (lt-ltb (getD (z .keys) (width * n + i) 0) (getD (z .keys) (suc (width * n + i)) 0)
+          (rw (state-copy z n i h g, state-copy z n (suc i) h l, e) at (rules .keys-strictly-rise n i (placed-held z n (suc i) h l))))
+      go (no l) =
+          or-left (leb (width * n + countOf z n) (suc (width * n + i))) (ltb (getD (z .keys) (width * n + i) 0) (getD (z .keys) (suc (width * n + i)) 0))
+          (le-leb (width * n + countOf z n) (suc (width * n + i)) (omega arith))
+
+  -- A node that counts a copy is one of the plan's.
+  counted : (n : ℕ) → n < mostNodes → 0 < countOf z n → n < size (planOf (z .plan))
+  counted n h g = go (decLt n (size (planOf (z .plan))))
+    where
+      go : Dec (n < size (planOf (z .plan))) → n < size (planOf (z .plan))
+      go (yes l) = l
+      go (no l) = absurd (omega (arith, r .unused-counts-zero n (omega arith) h))
+
+  node-test : (n : ℕ) → n < mostNodes → nodeTest (planOf (z .plan)) (stateOf z) z n ≡ true
+  unfolding nodeTest
+  node-test n h =
+      rw (
+        le-leb (countOf z n) (capacityOf (planOf (z .plan)) n) (fits (decLt n (size (planOf (z .plan))))),
+        at-all (placeTest (planOf (z .plan)) (stateOf z) z n) (width * n) (countOf z n) used,
+      )
+      (rule-unused z (width * n + countOf z n) (width * n + width) unused)
+    where
+      fits : Dec (n < size (planOf (z .plan))) → countOf z n ≤ capacityOf (planOf (z .plan)) n
+      fits (yes l) = omega (arith, state-count z n l, rules .counts-within-capacity n l)
+      fits (no l) = omega (arith, r .unused-counts-zero n (omega arith) h)
+
+      used : (j : ℕ) → width * n ≤ j → j < width * n + countOf z n → placeTest (planOf (z .plan)) (stateOf z) z n j ≡ true
+      used j a b =
+          let e : width * n + (j - width * n) ≡ j = omega arith in
+          rw e at (place-test n (j - width * n) (counted n h (omega arith)) (omega arith))
+
+      unused : (j : ℕ) → width * n + countOf z n ≤ j → j < width * n + width → copyOf z j ≡ noCopy
+      unused j a b =
+          let e : width * n + (j - width * n) ≡ j = omega arith in
+          rw e at (r .unused-places-all-zero n (j - width * n) h (omega arith) (omega arith))
+
+  stamps-test : different (stampsFrom (z .counts) (z .stamps) 0 mostNodes) ≡ true
+  stamps-test = apart-different (z .counts) (z .stamps) 0 mostNodes apart
+    where
+      apart : (n i m j : ℕ) → Holds (z .counts) 0 mostNodes n i → Holds (z .counts) 0 mostNodes m j
+          → copyOf z (width * n + i) .stamp ≡ copyOf z (width * m + j) .stamp → (n ≡ m) × (i ≡ j)
+      apart n i m j h g e =
+          let a = counted n (omega (arith, h .before)) (omega (arith, h .place)) in
+          let b = counted m (omega (arith, g .before)) (omega (arith, g .place)) in
+          rules .stamps-all-different n i m j (placed-held z n i a (h .place)) (placed-held z m j b (g .place))
+          (rw (state-copy z n i a (h .place), state-copy z m j b (g .place)) e)
+
+  slot-test : (i : ℕ) → i < slotCount → slotTest (planOf (z .plan)) (getD (z .slots) i idle) ≡ true
+  unfolding stateOf
+  slot-test i h =
+      rules-slot (planOf (z .plan)) (slotAt (stateOf z) i) (rules .idle-slots-all-zero i h) (rules .running-searches-on-their-paths i h)
+
+  pub rules-good : goodStore z ≡ true
+  unfolding goodStore
+  rules-good =
+      rw (
+        shape-test,
+        number-test,
+        clock-test,
+        below-all (nodeTest (planOf (z .plan)) (stateOf z) z) mostNodes node-test,
+        stamps-test,
+      )
+      (below-all (λ i. slotTest (planOf (z .plan)) (getD (z .slots) i idle)) slotCount slot-test)
