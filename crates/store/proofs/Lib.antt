@@ -4,3 +4,6 @@ pub mod RulingLists
 pub mod RulingLines
 pub mod RulingStamps
 pub mod Ruling
+pub mod Seeking
+pub mod Halving
+pub mod Freshening
