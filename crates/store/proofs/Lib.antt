@@ -3,6 +3,7 @@ pub mod Lifting
 pub mod RulingLists
 pub mod RulingLines
 pub mod RulingStamps
+pub mod RulingParts
 pub mod Ruling
 pub mod Seeking
 pub mod Halving

@@ -9,13 +9,13 @@ use native.Mathlib.Omega.{arith}
 use lib.ListN.{length, getD}
 use Rattle.plan.specs.declared.Hop.{Hop}
 use Rattle.plan.specs.declared.Hop.the-variants.{To, Ends}
-use Rattle.plan.specs.Plan.{Plan, size, next, walk, pathFrom, path, Reach}
+use Rattle.plan.specs.Plan.{Plan, size, next, walk, pathFrom, Reach}
 use Rattle.plan.specs.Plan.Reach.{here, there}
 use Rattle.plan.specs.PlanRules.{PlanRules}
-use Rattle.plan.proofs.NextLaws.{hop?, not-both-hops, one-target, next-down}
-use Rattle.plan.proofs.PathLaws.{reach-le, reach-below, at-reach, path-is, path-ends, path-goes, root-in-plan, path-on}
+use Rattle.plan.proofs.NextLaws.{hop?, one-target, next-down}
+use Rattle.plan.proofs.PathLaws.{reach-le, at-reach, path-is, path-ends, path-goes, path-on}
 use Rattle.store.specs.declared.Copy.{Copy}
-use Rattle.store.specs.Copies.{noCopy, keyOf, find, stampOf}
+use Rattle.store.specs.Copies.{noCopy, keyOf, stampOf}
 use Rattle.store.specs.State.{State, nodeAt, copyAt, line, orElse, firstOn, inReach}
 use Rattle.store.specs.StateRules.{HeldAt, OnPath}
 use Rattle.store.proofs.RulingLists.{find-at, at-find, rise-all}

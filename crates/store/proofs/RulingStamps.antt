@@ -2,7 +2,7 @@
 use mathlib.Core.Path.{_≡_, refl, sym, ap, _∙_}
 use mathlib.Core.Bool.{true}
 use mathlib.Core.Logic.{⊎-elim}
-use mathlib.Core.List.{List, [], _++_}
+use mathlib.Core.List.{List, _++_}
 use Prim.Native.Nat.{ℕ, zero, suc, _+_, _-_, _*_, _<_, _≤_}
 use native.Mathlib.Omega.{arith}
 use native.Mathlib.Decide.{decLt}
@@ -12,18 +12,7 @@ use Rattle.lists.proofs.Truths.{not-both}
 use Rattle.store.specs.Copies.{member, different}
 use Rattle.store.specs.Layout.{width}
 use Rattle.store.specs.StoreRules.{stampsFrom}
-use Rattle.store.proofs.RulingLists.{
-  member-run,
-  run-member,
-  different-run,
-  run-different,
-  member-left,
-  member-right,
-  member-sides,
-  BothDifferent,
-  different-both,
-  both-different,
-}
+use Rattle.store.proofs.RulingLists.{member-run, run-member, different-run, run-different, member-left, member-right, member-sides, BothDifferent, different-both, both-different}
 
 -- The node is one of the m from node b on, and holds a copy at its place i.
 pub record Holds (counts : List ℕ) (b m n i : ℕ) : Type 0 where
