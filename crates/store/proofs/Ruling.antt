@@ -140,14 +140,14 @@ module _ (z : Store) (t : goodStore z ≡ true) where
         a-list-for-each-node = length-nodes z;
         clock-1-to-last = rw (state-clock z) test-clock;
         counts-within-capacity =
-        λ n h. omega (arith, state-count z n h, test-count n (omega (arith, plan-rules .two-to-eight-nodes)));
+            λ n h. omega (arith, state-count z n h, test-count n (omega (arith, plan-rules .two-to-eight-nodes)));
         keys-strictly-rise = test-rise;
         kinds-and-values = λ n i h. test-copy n i h .kind;
         copies-on-their-paths = λ n i h. test-copy n i h .on;
         stamps-1-to-clock-less-1 = λ n i h. (test-copy n i h .late, test-copy n i h .early);
         stamps-all-different = test-different;
         stamps-fall-down-a-path =
-        falls-by-reach (planOf (z .plan)) plan-rules (stateOf z) test-rise (λ n i h. test-copy n i h .on) (λ n i h. test-copy n i h .reach);
+            falls-by-reach (planOf (z .plan)) plan-rules (stateOf z) test-rise (λ n i h. test-copy n i h .on) (λ n i h. test-copy n i h .reach);
         eight-slots = rw (state-slots z) (test-shape .slots-8);
         idle-slots-all-zero = λ i h. slot-idle (planOf (z .plan)) (slotAt (stateOf z) i) (test-slot i h);
         running-searches-on-their-paths = λ i h. slot-runs (planOf (z .plan)) (slotAt (stateOf z) i) (test-slot i h);
@@ -201,8 +201,8 @@ module _ (z : Store) (r : StoreRules z) where
         early = rules .stamps-1-to-clock-less-1 n i h .1;
         on = rules .copies-on-their-paths n i h;
         reach =
-        reach-by-falls (planOf (z .plan)) plan-meets (stateOf z) (rules .keys-strictly-rise) (λ m j g. rules .stamps-1-to-clock-less-1 m j g .0)
-        (rules .stamps-fall-down-a-path) n i h;
+            reach-by-falls (planOf (z .plan)) plan-meets (stateOf z) (rules .keys-strictly-rise) (λ m j g. rules .stamps-1-to-clock-less-1 m j g .0)
+            (rules .stamps-fall-down-a-path) n i h;
       }
 
   place-test : (n i : ℕ) → n < size (planOf (z .plan)) → i < countOf z n → placeTest (planOf (z .plan)) (stateOf z) z n (width * n + i) ≡ true

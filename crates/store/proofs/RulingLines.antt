@@ -18,7 +18,8 @@ use Rattle.store.specs.declared.Copy.{Copy}
 use Rattle.store.specs.Copies.{noCopy, keyOf, stampOf}
 use Rattle.store.specs.State.{State, nodeAt, copyAt, line, orElse, firstOn, inReach}
 use Rattle.store.specs.StateRules.{HeldAt, OnPath}
-use Rattle.store.proofs.RulingLists.{find-at, at-find, rise-all}
+use Rattle.store.specs.Workers.{below, Rises}
+use Rattle.store.proofs.Seeking.{find-rising, find-some}
 
 -- Something was found or nothing was.
 pub some? : {A : Type 0} (o : Option A) → (o ≡ none) ⊎ ((x : A) × (o ≡ some x))
@@ -127,15 +128,16 @@ module _ (p : Plan) (rules : PlanRules p) (s : State) (k : ℕ) where
 
 -- The keys of each node rise.
 abbrev pub Rising : State → Type 0
-Rising s = (n i : ℕ) → HeldAt s n (suc i) → copyAt s n i .key < copyAt s n (suc i) .key
+Rising s = (n : ℕ) → Rises keyOf noCopy (nodeAt s n)
 
 -- A node's copy of a key is one that it holds at a place, and the other way round.
-pub line-held : (s : State) (k n : ℕ) (x : Copy) → line s k n ≡ some x → (i : ℕ) × HeldAt s n i × (copyAt s n i ≡ x) × (x .key ≡ k)
-line-held s k n x e = find-at keyOf noCopy (nodeAt s n) k x e
+line-held : (s : State) → Rising s → (k n : ℕ) (x : Copy) → line s k n ≡ some x → (i : ℕ) × HeldAt s n i × (copyAt s n i ≡ x) × (x .key ≡ k)
+line-held s rising k n x e =
+    let w = find-some keyOf noCopy (nodeAt s n) (rising n) k x e in
+    (below keyOf (nodeAt s n) k, w .0, w .1, w .2)
 
-pub held-line : (s : State) → Rising s → (n i : ℕ) → HeldAt s n i → line s (copyAt s n i .key) n ≡ some (copyAt s n i)
-held-line s rising n i h =
-    at-find keyOf noCopy (nodeAt s n) (rise-all (λ j. copyAt s n j .key) (length (nodeAt s n)) (rising n)) i h
+held-line : (s : State) → Rising s → (n i : ℕ) → HeldAt s n i → line s (copyAt s n i .key) n ≡ some (copyAt s n i)
+held-line s rising n i h = find-rising keyOf noCopy (nodeAt s n) (rising n) (copyAt s n i .key) i h refl
 
 -- The two ways to say that stamps fall, by node and place.
 module _ (p : Plan) (rules : PlanRules p) (s : State) (rising : Rising s) where
@@ -154,7 +156,7 @@ module _ (p : Plan) (rules : PlanRules p) (s : State) (rising : Rising s) where
       each : (l : ℕ) (x : Copy) → line s (copyAt s n i .key) l ≡ some x
           → stampOf (inReach p s (copyAt s n i .key) (next p l (copyAt s n i .key))) < x .stamp
       each l x q =
-          let w = line-held s (copyAt s n i .key) l x q in
+          let w = line-held s rising (copyAt s n i .key) l x q in
           let b : copyAt s l (w .0) .key ≡ copyAt s n i .key = ap keyOf (w .2) ∙ w .3 in
           rw (b, w .2) at (above l (w .0) (w .1))
 
@@ -166,6 +168,6 @@ module _ (p : Plan) (rules : PlanRules p) (s : State) (rising : Rising s) where
     where
       each : (a b : ℕ) (x y : Copy) → line s (copyAt s n i .key) a ≡ some x → line s (copyAt s n i .key) b ≡ some y → a < b → y .stamp < x .stamp
       each a b x y q r l =
-          let v = line-held s (copyAt s n i .key) a x q in
-          let w = line-held s (copyAt s n i .key) b y r in
+          let v = line-held s rising (copyAt s n i .key) a x q in
+          let w = line-held s rising (copyAt s n i .key) b y r in
           rw (v .2, w .2) at (falls a (v .0) b (w .0) (v .1) (w .1) (ap keyOf (v .2) ∙ v .3 ∙ sym (w .3) ∙ ap keyOf (sym (w .2))) l)

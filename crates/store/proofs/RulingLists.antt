@@ -1,22 +1,20 @@
 -- The tests of lists that the store rules are made of, each read by index and back: the number stands in the list, or at a place of
--- it; all numbers are different; all of a part are zero; the first thing with a key, where keys rise. Assumes nothing.
+-- it; all numbers are different; all of a part are zero. Assumes nothing.
 use mathlib.Core.Path.{_≡_, refl, sym, ap, _∙_}
 use mathlib.Core.Bool.{true, false, not}
 use mathlib.Core.Logic.{_⊎_, ⊎-elim, inl, inr}
 use mathlib.Core.List.{List, [], _∷_, _++_}
-use mathlib.Core.Option.{some}
 use Prim.Native.Nat.{ℕ, zero, suc, _+_, _-_, _<_, _≤_}
 use native.Mathlib.Omega.{arith}
-use native.Mathlib.Decide.{decLt}
 use native.Mathlib.Nat.{le-of-suc-le-suc, not-suc-le-zero}
 use lib.Dec.{eqb}
 use lib.ListN.{length, getD, take, length-take, length-drop}
 use lib.Seq.{slice, getD-take, getD-drop}
-use borrow.Author.Tests.{eqb-true, eq-eqb, ne-eqb, not-true}
+use borrow.Author.Tests.{eqb-true, eq-eqb, not-true}
 use Rattle.lists.specs.Runs.{run}
 use Rattle.lists.proofs.Truths.{bool?, not-both, and-left, and-right, and-both, or-cases, or-left, or-right}
 use Rattle.lists.proofs.Running.{length-run, getD-run}
-use Rattle.store.specs.Copies.{find, member, different}
+use Rattle.store.specs.Copies.{member, different}
 use Rattle.store.specs.StoreRules.{allZero, standsAt}
 
 -- The number stands in the list,
@@ -178,9 +176,9 @@ different-both (x ∷ l) m t =
       first = and-both (ap not (x-not x-once)) (w .first);
       second = w .second;
       no-shared = λ n a b.
-      ⊎-elim (λ (e : eqb n x ≡ true). not-both (member-right x l m (rw (eqb-true n x e) at b)) x-once)
-      (λ (e : member n l ≡ true). w .no-shared n e b)
-      (or-cases (eqb n x) (member n l) a);
+          ⊎-elim (λ (e : eqb n x ≡ true). not-both (member-right x l m (rw (eqb-true n x e) at b)) x-once)
+          (λ (e : member n l ≡ true). w .no-shared n e b)
+          (or-cases (eqb n x) (member n l) a);
     }
   where
     x-not : member x (l ++ m) ≡ false → member x l ≡ false
@@ -208,38 +206,3 @@ both-different (x ∷ l) m d =
         (member-sides x l m t)))
         (λ (t : member x (l ++ m) ≡ false). t)
         (bool? (member x (l ++ m)))
-
--- The first thing with a key is one with that key,
-module _ {A : Type 0} (key : A → ℕ) (d : A) where
-  pub find-at : (l : List A) (k : ℕ) (x : A) → find key l k ≡ some x → (i : ℕ) × (i < length l) × (getD l i d ≡ x) × (key x ≡ k)
-  unfolding find
-  find-at [] k x e = absurd (let z : _≡_ {A = ℕ} 0 1 = cc in omega arith)
-  find-at (y ∷ l) k x e =
-      ⊎-elim (λ (t : eqb (key y) k ≡ true).
-      let q : some y ≡ some x = rw t at e in
-      let r : y ≡ x = cc in
-      (0, omega arith, r, ap key (sym r) ∙ eqb-true (key y) k t))
-      (λ (t : eqb (key y) k ≡ false).
-      let w = find-at l k x (rw t at e) in
-      (suc (w .0), omega (arith, w .1), w .2, w .3))
-      (bool? (eqb (key y) k))
-
-  -- and where keys are all different every thing is found by its key.
-  pub at-find : (l : List A) → ((i j : ℕ) → i < j → j < length l → key (getD l i d) < key (getD l j d))
-      → (i : ℕ) → i < length l → find key l (key (getD l i d)) ≡ some (getD l i d)
-  unfolding find
-  at-find [] r i h = absurd (not-suc-le-zero h)
-  at-find (y ∷ l) r zero h = rw (eq-eqb (key y) (key y) refl)
-  at-find (y ∷ l) r (suc i) h =
-      let o = r 0 (suc i) (omega arith) h in
-      rw (ne-eqb (key y) (key (getD l i d)) (λ q. omega arith))
-      (at-find l (λ a b p q. r (suc a) (suc b) (omega arith) (omega arith)) i (le-of-suc-le-suc h))
-
--- Keys that rise from each to the next rise over the whole list.
-pub rise-all : (f : ℕ → ℕ) (n : ℕ) → ((i : ℕ) → suc i < n → f i < f (suc i)) → (i j : ℕ) → i < j → j < n → f i < f j
-rise-all f n r i zero h g = absurd (not-suc-le-zero h)
-rise-all f n r i (suc j) h g =
-    ⊎-elim (λ (e : i ≡ j). rw e (r j g)) (λ (l : i < j). omega (arith, rise-all f n r i j l (omega arith), r j g)) (which i j h)
-  where
-    which : (i j : ℕ) → i < suc j → (i ≡ j) ⊎ (i < j)
-    which i j h = elim (decLt i j) [ yes l ↦ inr l | no l ↦ inl (omega arith) ]

@@ -47,9 +47,10 @@ unfolding kindTest
 kind-rule x t =
     ⊎-elim (λ (a : eqb (x .kind) RESULT ≡ true). inl (eqb-true (x .kind) RESULT a))
     (λ (a : eqb (x .kind) WITHDRAWN && eqb (x .value) 0 ≡ true).
-    inr
-    (eqb-true (x .kind) WITHDRAWN (and-left (eqb (x .kind) WITHDRAWN) (eqb (x .value) 0) a),
-    eqb-true (x .value) 0 (and-right (eqb (x .kind) WITHDRAWN) (eqb (x .value) 0) a)))
+    inr (
+      eqb-true (x .kind) WITHDRAWN (and-left (eqb (x .kind) WITHDRAWN) (eqb (x .value) 0) a),
+      eqb-true (x .value) 0 (and-right (eqb (x .kind) WITHDRAWN) (eqb (x .value) 0) a),
+    ))
     (or-cases (eqb (x .kind) RESULT) (eqb (x .kind) WITHDRAWN && eqb (x .value) 0) t)
 
 rule-kind : (x : Copy) → KindAndValue x → kindTest x ≡ true

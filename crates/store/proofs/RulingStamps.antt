@@ -107,10 +107,10 @@ module _ (counts stamps : List ℕ) where
         first = run-different (λ i. getD stamps i 0) (width * b) (getD counts b 0) one;
         second = apart-different (suc b) m (λ n i l j h g e. d n i l j (before h) (before g) e);
         no-shared = λ t a c.
-        let v = here-at b t a in
-        let w = later-at (suc b) m t c in
-        let q = d b (v .0) (w .0) (w .1) (at-b (v .0) (v .1)) (before (w .2)) (v .2 ∙ sym (w .3)) .0 in
-        omega (arith, w .2 .from);
+            let v = here-at b t a in
+            let w = later-at (suc b) m t c in
+            let q = d b (v .0) (w .0) (w .1) (at-b (v .0) (v .1)) (before (w .2)) (v .2 ∙ sym (w .3)) .0 in
+            omega (arith, w .2 .from);
       })
     where
       before : {n i : ℕ} → Holds counts (suc b) m n i → Holds counts b (suc m) n i
