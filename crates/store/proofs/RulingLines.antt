@@ -54,6 +54,9 @@ module _ (p : Plan) (rules : PlanRules p) (s : State) (k : ℕ) where
   abbrev hop : ℕ → Hop
   hop m = next p m k
 
+  down : (n t : ℕ) → next p n k ≡ To t → (n < t) × (t < size p)
+  down n t e = next-down p rules n k t e
+
   -- In reach from a node: its own copy, or what is in reach from its next step.
   pub reach-ends : inReach p s k Ends ≡ none
   unfolding inReach firstOn walk
@@ -77,7 +80,7 @@ module _ (p : Plan) (rules : PlanRules p) (s : State) (k : ℕ) where
   reach-held n y h e =
       let w = first-at (line s k) (pathFrom p k n) y e in
       let r = at-reach hop (path-is p rules k n h) (w .0) (w .1) in
-      (getD (pathFrom p k n) (w .0) 0, reach-le hop (size p) (λ a t q. next-down p rules a k t q) r, w .2)
+      (getD (pathFrom p k n) (w .0) 0, reach-le hop (size p) down r, w .2)
 
   -- Each copy of the line is newer than what is in reach from its next step.
   abbrev AboveReach : Type 0
@@ -87,7 +90,7 @@ module _ (p : Plan) (rules : PlanRules p) (s : State) (k : ℕ) where
   reach-newest : AboveReach → {n m : ℕ} → Reach hop n m → n < size p → (y : Copy) → line s k m ≡ some y → y .stamp ≤ stampOf (inReach p s k (To n))
   reach-newest above (here {n = n}) h y e = rw (reach-goes n h, e) (omega arith)
   reach-newest above (there {n = n} {t = t} f r) h y e =
-      let below : y .stamp ≤ stampOf (inReach p s k (To t)) = reach-newest above r (next-down p rules n k t f .1) y e in
+      let below : y .stamp ≤ stampOf (inReach p s k (To t)) = reach-newest above r (down n t f .1) y e in
       rw (reach-goes n h, f) (go below f (line s k n) refl)
     where
       go : y .stamp ≤ stampOf (inReach p s k (To t)) → next p n k ≡ To t → (o : Option Copy) → line s k n ≡ o
@@ -101,12 +104,12 @@ module _ (p : Plan) (rules : PlanRules p) (s : State) (k : ℕ) where
   reach-falls : AboveReach → (n m : ℕ) (x y : Copy) → Reach hop 0 n → Reach hop 0 m → line s k n ≡ some x → line s k m ≡ some y → n < m
       → y .stamp < x .stamp
   reach-falls above n m x y a b e f h =
-      go (lower-leads hop (size p) (λ i t q. next-down p rules i k t q) a b h) refl
+      go (lower-leads hop (size p) down a b h) refl
     where
       go : {l : ℕ} → Reach hop n l → l ≡ m → y .stamp < x .stamp
       go here q = absurd (omega arith)
       go (there {t = t} g r) q =
-          let c = reach-newest above r (next-down p rules n k t g .1) y (rw q f) in
+          let c = reach-newest above r (down n t g .1) y (rw q f) in
           let d : stampOf (inReach p s k (To t)) < x .stamp = rw g at (above n x e) in
           omega arith
 
@@ -116,7 +119,7 @@ module _ (p : Plan) (rules : PlanRules p) (s : State) (k : ℕ) where
   falls-reach falls n x e late =
       ⊎-elim (λ (q : next p n k ≡ Ends). rw (q, reach-ends) late)
       (λ (w : (t : ℕ) × (next p n k ≡ To t)).
-      let d = next-down p rules n k (w .0) (w .1) in
+      let d = down n (w .0) (w .1) in
       rw (w .1) (go (w .0) (d .0) (d .1) (inReach p s k (To (w .0))) refl))
       (hop? (next p n k))
     where

@@ -1,11 +1,11 @@
 -- The store rules and their tests part by part: a place held, a copy, a search slot and unused places. Assumes nothing.
 use mathlib.Core.Path.{_≡_, ap}
-use mathlib.Core.Bool.{true, _&&_}
+use mathlib.Core.Bool.{true, _&&_, _||_}
 use mathlib.Core.Logic.{⊎-elim, inl, inr}
 use Prim.Native.Nat.{ℕ, _+_, _*_, _<_, _≤_}
 use native.Mathlib.Omega.{arith}
 use native.Mathlib.Decide.{decLt, ℕ-discrete}
-use lib.Dec.{eqb}
+use lib.Dec.{leb, ltb, eqb}
 use lib.ListN.{length}
 use borrow.Author.Tests.{eqb-true, eq-eqb, ne-eqb, leb-true, le-leb, ltb-true, lt-ltb}
 use Rattle.lists.proofs.Truths.{and-left, and-right, and-both, or-cases, or-left, or-right}
@@ -90,6 +90,20 @@ rules-copy p s n x r =
     let m : member n (path p (x .key)) ≡ true = rw (on .here) at (at-member (path p (x .key)) (r .on .0) (on .inside)) in
     rw (rule-kind x (r .kind), le-leb 1 (x .stamp) (r .late), lt-ltb (x .stamp) (s .clock) (r .early), m)
     (lt-ltb (stampOf (inReach p s (x .key) (next p n (x .key)))) (x .stamp) (r .reach))
+
+-- A key is below the next one, if there is a next one before the end.
+pub order-rule : (end i a b : ℕ) → leb end i || ltb a b ≡ true → i < end → a < b
+order-rule end i a b t h =
+    ⊎-elim (λ (l : leb end i ≡ true). absurd (omega (arith, leb-true end i l)))
+    (λ (l : ltb a b ≡ true). ltb-true a b l)
+    (or-cases (leb end i) (ltb a b) t)
+
+pub rule-order : (end i a b : ℕ) → (i < end → a < b) → leb end i || ltb a b ≡ true
+rule-order end i a b r = go (decLt i end)
+  where
+    go : Dec (i < end) → leb end i || ltb a b ≡ true
+    go (yes h) = or-right (leb end i) (ltb a b) (lt-ltb a b (r h))
+    go (no h) = or-left (leb end i) (ltb a b) (le-leb end i (omega arith))
 
 -- Search slots.
 pub slot-idle : (p : Plan) (q : Slot) → slotTest p q ≡ true → q .running ≡ 0 → q ≡ idle

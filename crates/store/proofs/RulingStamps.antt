@@ -14,8 +14,8 @@ use Rattle.store.specs.Layout.{width}
 use Rattle.store.specs.StoreRules.{stampsFrom}
 use Rattle.store.proofs.RulingLists.{member-run, run-member, different-run, run-different, member-left, member-right, member-sides, BothDifferent, different-both, both-different}
 
--- The node is one of the m from node b on, and holds a copy at its place i.
-pub record Holds (counts : List ℕ) (b m n i : ℕ) : Type 0 where
+-- The node n is one of the m from node b on, and its count takes in its place i.
+pub record Counted (counts : List ℕ) (b m n i : ℕ) : Type 0 where
   pub from : b ≤ n
   pub before : n < b + m
   pub place : i < getD counts n 0
@@ -27,9 +27,9 @@ module _ (counts stamps : List ℕ) where
 
   -- No stamp of the m nodes from node b on stands at two places.
   abbrev pub Apart : ℕ → ℕ → Type 0
-  Apart b m = (n i l j : ℕ) → Holds counts b m n i → Holds counts b m l j → stamp n i ≡ stamp l j → (n ≡ l) × (i ≡ j)
+  Apart b m = (n i l j : ℕ) → Counted counts b m n i → Counted counts b m l j → stamp n i ≡ stamp l j → (n ≡ l) × (i ≡ j)
 
-  -- The stamps of one node.
+  -- The stamps of one node, and of the m from node b on.
   abbrev here : ℕ → List ℕ
   here n = run (width * n) (getD counts n 0) (λ i. getD stamps i 0)
 
@@ -45,7 +45,7 @@ module _ (counts stamps : List ℕ) where
   at-here : (n i : ℕ) → i < getD counts n 0 → member (stamp n i) (here n) ≡ true
   at-here n i h = run-member (λ i. getD stamps i 0) (width * n) (getD counts n 0) (width * n + i) (omega arith) (omega arith)
 
-  later-at : (b m t : ℕ) → member t (later b m) ≡ true → (n i : ℕ) × Holds counts b m n i × (stamp n i ≡ t)
+  later-at : (b m t : ℕ) → member t (later b m) ≡ true → (n i : ℕ) × Counted counts b m n i × (stamp n i ≡ t)
   unfolding stampsFrom member
   later-at b zero t h = absurd (not-both h refl)
   later-at b (suc m) t h =
@@ -57,11 +57,11 @@ module _ (counts stamps : List ℕ) where
       (w .0, w .1, record { from = omega (arith, w .2 .from); before = omega (arith, w .2 .before); place = w .2 .place }, w .3))
       (member-sides t (here b) (later (suc b) m) h)
 
-  -- What a node from b on holds, node b itself or a later one does.
-  after : {b m n i : ℕ} → Holds counts b (suc m) n i → b < n → Holds counts (suc b) m n i
+  -- A node from b on is node b itself or a later one.
+  after : {b m n i : ℕ} → Counted counts b (suc m) n i → b < n → Counted counts (suc b) m n i
   after h l = record { from = l; before = omega (arith, h .before); place = h .place }
 
-  at-later : (b m n i : ℕ) → Holds counts b m n i → member (stamp n i) (later b m) ≡ true
+  at-later : (b m n i : ℕ) → Counted counts b m n i → member (stamp n i) (later b m) ≡ true
   unfolding stampsFrom
   at-later b zero n i h = absurd (omega arith)
   at-later b (suc m) n i h = go (decLt b n) (λ l. at-later (suc b) m n i (after h l))
@@ -113,10 +113,10 @@ module _ (counts stamps : List ℕ) where
             omega (arith, w .2 .from);
       })
     where
-      before : {n i : ℕ} → Holds counts (suc b) m n i → Holds counts b (suc m) n i
+      before : {n i : ℕ} → Counted counts (suc b) m n i → Counted counts b (suc m) n i
       before h = record { from = omega (arith, h .from); before = omega (arith, h .before); place = h .place }
 
-      at-b : (i : ℕ) → i < getD counts b 0 → Holds counts b (suc m) b i
+      at-b : (i : ℕ) → i < getD counts b 0 → Counted counts b (suc m) b i
       at-b i h = record { from = omega arith; before = omega arith; place = h }
 
       one : (j k : ℕ) → width * b ≤ j → j < width * b + getD counts b 0 → width * b ≤ k → k < width * b + getD counts b 0
