@@ -3,4 +3,7 @@ pub mod Merges
 pub mod OnPaths
 pub mod WaysOut
 pub mod LineSteps
+pub mod RulesOnLines
+pub mod LinesKept
+pub mod Keeping
 pub mod Worked

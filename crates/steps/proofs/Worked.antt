@@ -1,12 +1,10 @@
 use mathlib.Core.Path.{_≡_, refl}
-use mathlib.Core.Bool.{Bool, true, false}
+use mathlib.Core.Bool.{Bool, true}
 use mathlib.Core.List.{List, [], _∷_}
-use Prim.Native.Nat.{ℕ, zero, suc, _+_, _*_}
 use Rattle.lists.specs.Runs.{run, allFrom}
 use Rattle.plan.specs.Plan.{holds, firstEdge, next, walk, pathFrom}
 use Rattle.plan.specs.PlanTable.{planTable, plans, planOf}
 use Rattle.store.specs.declared.Answer.{Answer}
-use Rattle.store.specs.declared.Outcome.{Outcome}
 use Rattle.store.specs.declared.Store.{Store}
 use Rattle.store.specs.Answers.{answer}
 use Rattle.store.specs.Copies.{find, member, different}
@@ -15,7 +13,7 @@ use Rattle.store.specs.Layout.{nodeIn, stateOf, column, storeOf, freshStore}
 use Rattle.store.specs.StoreRules.{shapeTest, planNumberTest, clockTest, allZero, unusedTest, kindTest, copyTest, placeTest, nodeTest, stampsFrom, standsAt, slotTest, goodStore}
 use Rattle.store.specs.Calls.{onStore, ofStore, Effect}
 use Rattle.plan.specs.Plan.{Plan}
-use Rattle.steps.specs.Entries.{put, room, entered, entry, enterStep, withdrawStep}
+use Rattle.steps.specs.Entries.{put, room, entered, entry, enterStep}
 use Rattle.steps.specs.Carries.{carries, merge, countHeld, mergeAlong, carriedTo, carriedOut, carryStep}
 use Rattle.steps.specs.Searches.{lowestIdle, startStep, withRunning, stepStep, cancelStep, visitsOn, lookAnswer}
 
