@@ -1,17 +1,20 @@
 -- A plan's arrays give back the plan's own edges and capacities, also past its last node. Assumes nothing.
 use mathlib.Core.Path.{_≡_, refl, sym, ap, _∙_}
 use mathlib.Core.List.{List, []}
-use Prim.Native.Nat.{ℕ, zero, _<_, _≤_, min}
+use Prim.Native.Nat.{ℕ, suc, _+_, _-_, _<_, _≤_, min}
 use native.Mathlib.Omega.{arith}
 use native.Mathlib.Decide.{decLt}
+use native.Mathlib.Numerals.{add-one}
+use mathlib.Core.Bool.{false}
 use lib.ListN.{length, getD, List·getD-eq-default}
 use Rattle.lists.specs.Runs.{run}
 use Rattle.lists.proofs.Running.{getD-run-0, as-run-0, getD-run-past}
 use Rattle.plan.specs.declared.Edge.{Edge}
+use Rattle.plan.specs.declared.Hop.the-variants.{To, Ends}
 use Rattle.plan.specs.Sizes.{mostNodes, mostEdges}
-use Rattle.plan.specs.Plan.{Node, Plan, noEdge, noNode, size, capacityOf, edgesOf, edgeOf}
-use Rattle.plan.specs.PlanArrays.{cell, edgeIn, edgeCountIn, edgesIn, capacitiesRow, countsRow, gridOf}
-use Rattle.plan.proofs.NextLaws.{no-edges}
+use Rattle.plan.specs.Plan.{Node, Plan, noEdge, noNode, size, capacityOf, edgesOf, edgeOf, holds, firstEdge}
+use Rattle.plan.specs.PlanArrays.{Grid, cell, edgeIn, edgeCountIn, edgesIn, capacitiesRow, countsRow, gridOf}
+use Rattle.plan.proofs.NextLaws.{no-edges, range-holds}
 
 -- A place of the grid holds its part of the edge.
 pub cell-grid : (part : Edge → ℕ) (p : Plan) (n i : ℕ) → n < mostNodes → i < mostEdges → cell (gridOf part p) n i ≡ part (edgeOf p n i)
@@ -46,9 +49,11 @@ module _ (p : Plan) (few : size p ≤ mostNodes) where
         go : Dec (n < mostNodes) → min (getD (run 0 mostNodes (λ m. length (edgesOf p m))) n 0) mostEdges ≡ length (edgesOf p n)
         go (yes h) = omega (arith, getD-run-0 (λ m. length (edgesOf p m)) mostNodes n 0 h, few-edges n)
         go (no h) =
-            omega (arith,
-            getD-run-past (λ m. length (edgesOf p m)) 0 mostNodes n 0 (omega arith),
-            ap length (no-edges p n (omega arith)))
+            omega (
+              arith,
+              getD-run-past (λ m. length (edgesOf p m)) 0 mostNodes n 0 (omega arith),
+              ap length (no-edges p n (omega arith)),
+            )
 
     abbrev made : ℕ → ℕ → Edge
     made n = edgeIn (gridOf (λ e. e .lowest) p) (gridOf (λ e. e .highest) p) (gridOf (λ e. e .target) p) n
@@ -70,3 +75,42 @@ module _ (p : Plan) (few : size p ≤ mostNodes) where
             go : Dec (n < size p) → edgeOf p n i ≡ made n i
             go (yes q) = made-is n (omega arith) i (omega (arith, few-edges n))
             go (no q) = absurd (omega (arith, ap length (no-edges p n (omega arith))))
+
+-- Of any arrays: only a node within them has edges,
+pub counted-within : (n count i : ℕ) → (mostNodes ≤ n → count ≡ 0) → i < count → n < mostNodes
+counted-within n count i none h = go (decLt n mostNodes)
+  where
+    go : Dec (n < mostNodes) → n < mostNodes
+    go (yes q) = q
+    go (no q) = absurd (omega (arith, none (omega arith)))
+
+-- the edges are those counted,
+module _ (counts : List ℕ) (lows highs targets : Grid) (n i : ℕ) where
+  pub edge-is : i < edgeCountIn counts n → getD (edgesIn counts lows highs targets n) i noEdge ≡ edgeIn lows highs targets n i
+  unfolding edgesIn
+  edge-is h = getD-run-0 (edgeIn lows highs targets n) (edgeCountIn counts n) i noEdge h
+
+  pub edge-past : edgeCountIn counts n ≤ i → getD (edgesIn counts lows highs targets n) i noEdge ≡ noEdge
+  unfolding edgesIn
+  edge-past h = getD-run-past (edgeIn lows highs targets n) 0 (edgeCountIn counts n) i noEdge h
+
+-- and a loop that looks for the first edge that holds the key begins at them all.
+pub looks-from : (counts : List ℕ) (lows highs targets : Grid) (n count k : ℕ) → count ≡ edgeCountIn counts n
+    → firstEdge (edgesIn counts lows highs targets n) k ≡ firstEdge (run 0 (count - 0) (edgeIn lows highs targets n)) k
+unfolding edgesIn
+looks-from counts lows highs targets n count k e =
+    ap (λ (c : ℕ). firstEdge (run 0 c (edgeIn lows highs targets n)) k) (let z : edgeCountIn counts n ≡ count - 0 = omega arith in z)
+
+-- One turn of it: it is at its end, is found, or goes on.
+module _ (f : ℕ → Edge) (i n k : ℕ) where
+  pub looked : n ≤ i → firstEdge (run i (n - i) f) k ≡ Ends
+  unfolding run firstEdge
+  looked h = let s : n - i ≡ 0 = omega arith in rw s
+
+  pub found : i < n → f i .lowest ≤ k → k ≤ f i .highest → firstEdge (run i (n - i) f) k ≡ To (f i .target)
+  unfolding run firstEdge
+  found h a b = let s : n - i ≡ suc (n - suc i) = omega arith in rw (s, range-holds (f i) k a b)
+
+  pub looks-on : i < n → holds (f i) k ≡ false → firstEdge (run i (n - i) f) k ≡ firstEdge (run (i + 1) (n - (i + 1)) f) k
+  unfolding run firstEdge
+  looks-on h e = let s : n - i ≡ suc (n - (i + 1)) = omega arith in rw (s, e, add-one)

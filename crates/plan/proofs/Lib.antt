@@ -3,3 +3,4 @@ pub mod PathLaws
 pub mod RulesLaws
 pub mod TableLaws
 pub mod ArrayLaws
+pub mod RowLaws

@@ -1,14 +1,16 @@
 -- The key's next step is the target of the first edge, in edge order, that holds the key; under the plan rules it goes to a node of
 -- the plan with a greater number, and any edge that holds the key gives it. Assumes nothing.
 use mathlib.Core.Path.{_≡_, refl, ap}
-use mathlib.Core.Bool.{true, false}
+use mathlib.Core.Bool.{true, false, and-false}
 use mathlib.Core.Logic.{_⊎_, ⊎-elim, inl, inr}
 use mathlib.Core.List.{List, [], _∷_}
 use Prim.Native.Nat.{ℕ, zero, suc, _<_, _≤_}
 use native.Mathlib.Omega.{arith}
 use native.Mathlib.Nat.{le-of-suc-le-suc, not-suc-le-zero}
 use native.Mathlib.Decide.{decLt}
+use lib.Dec.{leb}
 use lib.ListN.{length, getD, List·getD-eq-default}
+use borrow.Author.Tests.{lt-leb}
 use Rattle.lists.proofs.Truths.{bool?, both-le, le-both}
 use Rattle.plan.specs.declared.Edge.{Edge}
 use Rattle.plan.specs.declared.Hop.{Hop}
@@ -38,6 +40,15 @@ holds-range e k = both-le (e .lowest) k k (e .highest)
 pub range-holds : (e : Edge) (k : ℕ) → e .lowest ≤ k → k ≤ e .highest → holds e k ≡ true
 unfolding holds
 range-holds e k = le-both (e .lowest) k k (e .highest)
+
+-- It holds no key below its lowest or above its highest.
+pub below-lowest : (e : Edge) (k : ℕ) → k < e .lowest → holds e k ≡ false
+unfolding holds
+below-lowest e k h = rw (lt-leb (e .lowest) k h)
+
+pub above-highest : (e : Edge) (k : ℕ) → e .highest < k → holds e k ≡ false
+unfolding holds
+above-highest e k h = rw (lt-leb k (e .highest) h, and-false (leb (e .lowest) k))
 
 -- The edge number i is the first that holds the key.
 pub record First (es : List Edge) (k i : ℕ) : Type 0 where

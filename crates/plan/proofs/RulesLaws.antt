@@ -1,7 +1,7 @@
 -- The plan rules and their test are one, for every plan: each rule holds exactly when its test does. Assumes nothing.
-use mathlib.Core.Path.{_≡_, refl, ap}
-use mathlib.Core.Bool.{Bool, true, false, _&&_, _||_}
-use mathlib.Core.Logic.{_⊎_, ⊎-elim}
+use mathlib.Core.Path.{_≡_, ap}
+use mathlib.Core.Bool.{Bool, true, _&&_, _||_}
+use mathlib.Core.Logic.{⊎-elim}
 use mathlib.Core.List.{List}
 use Prim.Native.Nat.{ℕ, zero, suc, _<_, _≤_}
 use native.Mathlib.Omega.{arith}
@@ -13,14 +13,12 @@ use Rattle.lists.specs.Runs.{allBelow}
 use Rattle.lists.proofs.Truths.{not-both, and-left, and-right, and-both, both-le, le-both, or-cases, or-left, or-right}
 use Rattle.lists.proofs.Running.{all-below, below-all}
 use Rattle.plan.specs.declared.Edge.{Edge}
-use Rattle.plan.specs.declared.Hop.{Hop}
 use Rattle.plan.specs.declared.Hop.the-variants.{To, Ends}
 use Rattle.plan.specs.Sizes.{mostNodes, mostCapacity, mostEdges, lastKey}
 use Rattle.plan.specs.Plan.{Plan, noEdge, size, capacityOf, edgesOf, edgeOf, holds, firstEdge, next}
 use Rattle.plan.specs.PlanRules.{
   IsEdge,
   PlanRules,
-  atNodes,
   atEdges,
   apart,
   goesOn,
@@ -34,7 +32,7 @@ use Rattle.plan.specs.PlanRules.{
   coverTest,
   planTest,
 }
-use Rattle.plan.proofs.NextLaws.{hop?, not-both-hops, holds-range, range-holds, taken-first, ends-none}
+use Rattle.plan.proofs.NextLaws.{hop?, holds-range, range-holds, taken-first, ends-none}
 
 -- A test at every edge holds exactly when it holds at each.
 edges-at : (p : Plan) (f : ℕ → ℕ → Bool) → atEdges p f ≡ true → (n i : ℕ) → IsEdge p n i → f n i ≡ true
@@ -105,6 +103,7 @@ module _ (p : Plan) where
         where
           r : (edgeOf p 0 (w .0) .lowest ≤ k) × (k ≤ edgeOf p 0 (w .0) .highest)
           r = holds-range (edgeOf p 0 (w .0)) k (w .2)
+
           go : Dec (k < edgeOf p 0 (w .0) .highest) → Held (edgesOf p 0) (suc k)
           go (yes q) = (w .0, w .1, range-holds (edgeOf p 0 (w .0)) (suc k) (omega (arith, r)) q)
           go (no q) =

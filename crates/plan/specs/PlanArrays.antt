@@ -1,12 +1,13 @@
 -- A plan as arrays: capacities and edge counts by node; lowest keys, highest keys and targets by node and then by edge.
 -- The only file of the plan's definitions that knows how it is laid out.
 use mathlib.Core.List.{List, []}
-use Prim.Native.Nat.{ℕ, min}
+use Prim.Native.Nat.{ℕ, zero, suc, min}
 use lib.ListN.{length, getD}
 use Rattle.lists.specs.Runs.{run}
 use Rattle.plan.specs.declared.Edge.{Edge}
 use Rattle.plan.specs.Sizes.{mostNodes, mostEdges}
 use Rattle.plan.specs.Plan.{Plan, capacityOf, edgesOf, edgeOf}
+use Rattle.plan.specs.PlanTable.{plans}
 
 -- A number for each edge, by node and then by edge.
 abbrev pub Grid : Type 0
@@ -36,3 +37,8 @@ countsRow p = run 0 mostNodes (λ n. length (edgesOf p n))
 
 unfoldable pub gridOf : (Edge → ℕ) → Plan → Grid
 gridOf part p = run 0 mostNodes (λ n. run 0 mostEdges (λ i. part (edgeOf p n i)))
+
+-- The plan's row in a table of all plans: its number less 1, and past the last row for a number that no plan has.
+unfoldable pub rowOf : ℕ → ℕ
+rowOf zero = plans
+rowOf (suc p) = p

@@ -1,11 +1,196 @@
-// Plans.
+// Plans: the fixed table of the three plans, and what it says of a plan by its number. Document 01, "Lines, copies, plans".
+ghost use mathlib.Core.Path.{_≡_};
+ghost use lib.ListN.{length};
+ghost use Rattle.plan.specs.Plan.{size, capacityOf, edgesOf, edgeOf};
+ghost use Rattle.plan.specs.Plan.{next as nextOf};
+ghost use Rattle.plan.specs.PlanTable.{planOf};
+ghost use Rattle.plan.specs.PlanArrays.{rowOf, capacitiesRow, countsRow, gridOf};
+
+pub mod arrays; // arrays.rt: a plan's arrays, lent
+
+// "up to four edges", "2 to 8 nodes", and the number of plans.
+pub const MOST_EDGES: usize = 4;
+
+pub const MOST_NODES: usize = 8;
+
+pub const PLANS: usize = 3;
+
+// "An edge has a lowest key, a highest key (both included) and a target."
 pub struct Edge {
     pub lowest: u32,
     pub highest: u32,
     pub target: u32,
 }
 
+// The key's next step: to a node, or its path ends here.
 pub enum Hop {
     To(u32),
     Ends,
+}
+
+// "The three plans are a fixed table": a row for each plan, and 0 where a plan has no such node or edge.
+const NODE_COUNTS: [u32; PLANS] = [4, 3, 4];
+
+// By node.
+const CAPACITIES: [[u32; MOST_NODES]; PLANS] = [
+    [8, 16, 32, 64, 0, 0, 0, 0],
+    [8, 32, 32, 0, 0, 0, 0, 0],
+    [8, 16, 16, 64, 0, 0, 0, 0],
+];
+
+const EDGE_COUNTS: [[u32; MOST_NODES]; PLANS] = [
+    [1, 1, 1, 0, 0, 0, 0, 0],
+    [2, 0, 0, 0, 0, 0, 0, 0],
+    [2, 1, 1, 0, 0, 0, 0, 0],
+];
+
+// One node's bounds, by edge. No edge:
+const NONE: [u32; MOST_EDGES] = [0, 0, 0, 0];
+
+// one edge, all keys:
+const ALL_LOW: [u32; MOST_EDGES] = [0, 0, 0, 0];
+
+const ALL_HIGH: [u32; MOST_EDGES] = [4294967295, 0, 0, 0];
+
+// two edges, keys 0..2147483647 and keys 2147483648..4294967295.
+const TWO_LOW: [u32; MOST_EDGES] = [0, 2147483648, 0, 0];
+
+const TWO_HIGH: [u32; MOST_EDGES] = [2147483647, 4294967295, 0, 0];
+
+// One node's targets, by edge: one edge to 1, to 2 or to 3, or two edges, to 1 and to 2.
+const TO_1: [u32; MOST_EDGES] = [1, 0, 0, 0];
+
+const TO_2: [u32; MOST_EDGES] = [2, 0, 0, 0];
+
+const TO_3: [u32; MOST_EDGES] = [3, 0, 0, 0];
+
+const TO_1_AND_2: [u32; MOST_EDGES] = [1, 2, 0, 0];
+
+// By node and then by edge.
+const LOWEST: [[[u32; MOST_EDGES]; MOST_NODES]; PLANS] = [
+    [ALL_LOW, ALL_LOW, ALL_LOW, NONE, NONE, NONE, NONE, NONE],
+    [TWO_LOW, NONE, NONE, NONE, NONE, NONE, NONE, NONE],
+    [TWO_LOW, ALL_LOW, ALL_LOW, NONE, NONE, NONE, NONE, NONE],
+];
+
+const HIGHEST: [[[u32; MOST_EDGES]; MOST_NODES]; PLANS] = [
+    [ALL_HIGH, ALL_HIGH, ALL_HIGH, NONE, NONE, NONE, NONE, NONE],
+    [TWO_HIGH, NONE, NONE, NONE, NONE, NONE, NONE, NONE],
+    [TWO_HIGH, ALL_HIGH, ALL_HIGH, NONE, NONE, NONE, NONE, NONE],
+];
+
+const TARGETS: [[[u32; MOST_EDGES]; MOST_NODES]; PLANS] = [
+    [TO_1, TO_2, TO_3, NONE, NONE, NONE, NONE, NONE],
+    [TO_1_AND_2, NONE, NONE, NONE, NONE, NONE, NONE, NONE],
+    [TO_1_AND_2, TO_3, TO_3, NONE, NONE, NONE, NONE, NONE],
+];
+
+// The plan's row of the table: past the last for a number that no plan has.
+fn row(plan: u32) -> usize
+    ensures { λ r. ⌜ r ≡ rowOf plan ⌝ }
+{
+    if 1 <= plan {
+        return plan as usize - 1;
+    }
+    PLANS
+}
+
+// The number of the plan's nodes; none for a number that no plan has.
+pub fn nodes(plan: u32) -> u32
+    ensures { λ r. ⌜ r ≡ size (planOf plan) ⌝ }
+{
+    let p = row(plan);
+    if p < PLANS {
+        return NODE_COUNTS[p];
+    }
+    0
+}
+
+// The plan's arrays, all zeros for a number that no plan has. A loop takes them once, and lends them to the readers of arrays.rt.
+pub fn capacities_of(plan: u32) -> [u32; MOST_NODES]
+    ensures { λ r. ⌜ r ≡ capacitiesRow (planOf plan) ⌝ }
+{
+    let p = row(plan);
+    if p < PLANS {
+        return CAPACITIES[p];
+    }
+    [0; MOST_NODES]
+}
+
+pub fn edge_counts_of(plan: u32) -> [u32; MOST_NODES]
+    ensures { λ r. ⌜ r ≡ countsRow (planOf plan) ⌝ }
+{
+    let p = row(plan);
+    if p < PLANS {
+        return EDGE_COUNTS[p];
+    }
+    [0; MOST_NODES]
+}
+
+pub fn lowest_of(plan: u32) -> [[u32; MOST_EDGES]; MOST_NODES]
+    ensures { λ r. ⌜ r ≡ gridOf (λ e. e .lowest) (planOf plan) ⌝ }
+{
+    let p = row(plan);
+    if p < PLANS {
+        return LOWEST[p];
+    }
+    [NONE; MOST_NODES]
+}
+
+pub fn highest_of(plan: u32) -> [[u32; MOST_EDGES]; MOST_NODES]
+    ensures { λ r. ⌜ r ≡ gridOf (λ e. e .highest) (planOf plan) ⌝ }
+{
+    let p = row(plan);
+    if p < PLANS {
+        return HIGHEST[p];
+    }
+    [NONE; MOST_NODES]
+}
+
+pub fn targets_of(plan: u32) -> [[u32; MOST_EDGES]; MOST_NODES]
+    ensures { λ r. ⌜ r ≡ gridOf (λ e. e .target) (planOf plan) ⌝ }
+{
+    let p = row(plan);
+    if p < PLANS {
+        return TARGETS[p];
+    }
+    [NONE; MOST_NODES]
+}
+
+// The node's capacity; 0 where the plan has no such node.
+pub fn capacity(plan: u32, node: u32) -> u32
+    ensures { λ r. ⌜ r ≡ capacityOf (planOf plan) node ⌝ }
+{
+    let capacities = capacities_of(plan);
+    arrays::capacity_in(&capacities, node)
+}
+
+// How many edges the node has; 0 where the plan has no such node.
+pub fn edge_count(plan: u32, node: u32) -> u32
+    ensures { λ r. ⌜ r ≡ length (edgesOf (planOf plan) node) ⌝ }
+{
+    let counts = edge_counts_of(plan);
+    arrays::edge_count_in(&counts, node)
+}
+
+// The node's edge by its number, from 0; all zeros where the node has no such edge.
+pub fn edge_at(plan: u32, node: u32, edge: u32) -> Edge
+    ensures { λ r. ⌜ r ≡ edgeOf (planOf plan) node edge ⌝ }
+{
+    let counts = edge_counts_of(plan);
+    let lows = lowest_of(plan);
+    let highs = highest_of(plan);
+    let targets = targets_of(plan);
+    arrays::edge_in(&counts, &lows, &highs, &targets, node, edge)
+}
+
+// The key's next step: the target of the first edge, in edge order, whose range holds the key.
+pub fn next(plan: u32, node: u32, key: u32) -> Hop
+    ensures { λ r. ⌜ r ≡ nextOf (planOf plan) node key ⌝ }
+{
+    let counts = edge_counts_of(plan);
+    let lows = lowest_of(plan);
+    let highs = highest_of(plan);
+    let targets = targets_of(plan);
+    arrays::next_in(&counts, &lows, &highs, &targets, node, key)
 }

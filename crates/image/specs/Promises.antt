@@ -1,0 +1,28 @@
+-- The promises of save and load: each fixes the answer, the store and every byte of the buffer.
+use mathlib.Core.Path.{_≡_}
+use mathlib.Core.Bool.{cond}
+use mathlib.Core.List.{List}
+use Prim.Native.Nat.{ℕ}
+use Rattle.store.specs.declared.Answer.{Answer}
+use Rattle.store.specs.declared.Outcome.{Outcome}
+use Rattle.store.specs.declared.Store.{Store}
+use Rattle.store.specs.Answers.{BADSTORE, bare}
+use Rattle.store.specs.StoreRules.{goodStore}
+use Rattle.wire.specs.Writing.{writtenAnswer, writtenBuffer}
+use Rattle.image.specs.Image.{image}
+use Rattle.image.specs.Loading.{loadOutcome}
+
+-- BADSTORE, SMALL with the bytes needed, or DONE with the bytes written.
+unfoldable pub saveAnswer : Store → List ℕ → Answer
+saveAnswer z before = cond (goodStore z) (writtenAnswer (image z) before) (bare BADSTORE)
+
+-- A refusal leaves every byte; the bytes beyond the image are kept.
+unfoldable pub saveBuffer : Store → List ℕ → List ℕ
+saveBuffer z before = cond (goodStore z) (writtenBuffer (image z) before) before
+
+-- Of a buffer at entry: the answer, and the buffer at exit.
+abbrev pub Saves : Store → List ℕ → Answer → List ℕ → Type 0
+Saves store before r after = (r ≡ saveAnswer store before) × (after ≡ saveBuffer store before)
+
+abbrev pub Loads : List ℕ → Outcome → Type 0
+Loads bytes r = r ≡ loadOutcome bytes

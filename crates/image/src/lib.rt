@@ -1,0 +1,1 @@
+// The evening's bytes: save and load.

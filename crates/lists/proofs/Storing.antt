@@ -1,0 +1,50 @@
+-- Laws of stores into a list by index: a run of stores, a store into a run, and a list of one element only. Assumes nothing.
+use mathlib.Core.Path.{_≡_, refl, sym, ap, _∙_}
+use mathlib.Core.List.{List, [], _∷_, map}
+use Prim.Native.Nat.{ℕ, zero, suc, _+_, _<_, _≤_}
+use native.Mathlib.Omega.{arith}
+use native.Mathlib.Nat.{add-suc, suc-add, add-zero, zero-add}
+use native.Mathlib.Decide.{ℕ-discrete}
+use lib.ListN.{length, getD, set, replicate, length-set}
+use lib.Seq.{sets, getD-set-same, getD-set-other}
+use Rattle.lists.specs.Runs.{run}
+use Rattle.lists.proofs.Running.{length-run, getD-run-0, as-run}
+
+-- A run of stores leaves what stands before it and after it, and puts its elements in between.
+module _ {A : Type 0} where
+  pub sets-below : (vs l : List A) (i j : ℕ) (d : A) → j < i → getD (sets l i vs) j d ≡ getD l j d
+  sets-below [] l i j d h = refl
+  sets-below (v ∷ vs) l i j d h = sets-below vs (set l i v) (suc i) j d (omega arith) ∙ getD-set-other l i j v d (λ e. omega arith)
+
+  pub sets-past : (vs l : List A) (i j : ℕ) (d : A) → i + length vs ≤ j → getD (sets l i vs) j d ≡ getD l j d
+  sets-past [] l i j d h = refl
+  sets-past (v ∷ vs) l i j d h = sets-past vs (set l i v) (suc i) j d (omega arith) ∙ getD-set-other l i j v d (λ e. omega arith)
+
+  pub sets-inside : (vs l : List A) (i k : ℕ) (d : A) → i + length vs ≤ length l → k < length vs → getD (sets l i vs) (i + k) d ≡ getD vs k d
+  sets-inside [] l i k d h g = absurd (omega arith)
+  sets-inside (v ∷ vs) l i zero d h g =
+      rw add-zero (sets-below vs (set l i v) (suc i) i d (omega arith) ∙ getD-set-same l i v d (omega arith))
+  sets-inside (v ∷ vs) l i (suc k) d h g =
+      ap (λ (n : ℕ). getD (sets (set l i v) (suc i) vs) n d) (add-suc i k ∙ sym (suc-add i k))
+      ∙ sets-inside vs (set l i v) (suc i) k d (rw length-set (omega arith)) (omega arith)
+
+  -- A store into a run is the run that differs there.
+  pub set-run : (f g : ℕ → A) (n k : ℕ) (v : A) → g k ≡ v → ((j : ℕ) → (j ≡ k → ⊥) → g j ≡ f j) → set (run 0 n f) k v ≡ run 0 n g
+  set-run f g n k v here others =
+      as-run g (set (run 0 n f) k v) 0 n v (length-set (run 0 n f) k v ∙ length-run f 0 n) (λ j h. rw zero-add (go j h (ℕ-discrete j k)))
+    where
+      go : (j : ℕ) → j < n → Dec (j ≡ k) → getD (set (run 0 n f) k v) j v ≡ g j
+      go j h (yes e) = rw e (getD-set-same (run 0 n f) k v v (omega (arith, length-run f 0 n)) ∙ sym here)
+      go j h (no e) = getD-set-other (run 0 n f) k j v v e ∙ getD-run-0 f n j v h ∙ sym (others j e)
+
+  -- One element over and over, read with that element as what stands past the end.
+  pub getD-same : (n i : ℕ) (d : A) → getD (replicate n d) i d ≡ d
+  getD-same zero i d = refl
+  getD-same (suc n) zero d = refl
+  getD-same (suc n) (suc i) d = getD-same n i d
+
+-- An element of a map, whatever stands past its end.
+pub getD-map : {A B : Type 0} (f : A → B) (l : List A) (i : ℕ) (d : A) (e : B) → i < length l → getD (map f l) i e ≡ f (getD l i d)
+getD-map f [] i d e h = absurd (omega arith)
+getD-map f (x ∷ l) zero d e h = refl
+getD-map f (x ∷ l) (suc i) d e h = getD-map f l i d e (omega arith)

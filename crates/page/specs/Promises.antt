@@ -1,0 +1,53 @@
+-- The promises of page and serve: each fixes the answer and every byte handed back.
+use mathlib.Core.Path.{_≡_}
+use mathlib.Core.Bool.{Bool, true, false, cond, _&&_}
+use mathlib.Core.List.{List, []}
+use Prim.Native.Nat.{ℕ}
+use lib.Dec.{leb}
+use lib.ListN.{length, take}
+use denote.Ref.{RefT}
+use Rattle.plan.specs.PlanTable.{planOf}
+use Rattle.store.specs.declared.Answer.{Answer}
+use Rattle.store.specs.declared.Store.{Store}
+use Rattle.store.specs.Answers.{BADSTORE, SAMPLE, bare}
+use Rattle.store.specs.Layout.{stateOf}
+use Rattle.store.specs.StoreRules.{goodStore}
+use Rattle.wire.specs.Writing.{writtenAnswer, writtenBuffer}
+use Rattle.page.specs.Page.{lastSample, pageOf, begins}
+
+-- The sample's page as the store is now.
+abbrev pub pageNow : Store → ℕ → List ℕ
+pageNow z sample = pageOf (planOf (z .plan)) (stateOf z) sample
+
+-- BADSTORE, SAMPLE, SMALL with the bytes needed, or DONE with the bytes written.
+unfoldable pub pageAnswer : Store → ℕ → List ℕ → Answer
+pageAnswer z sample before =
+    cond (goodStore z) (cond (leb sample lastSample) (writtenAnswer (pageNow z sample) before) (bare SAMPLE)) (bare BADSTORE)
+
+-- A refusal leaves every byte; the bytes beyond the page are kept.
+unfoldable pub pageBuffer : Store → ℕ → List ℕ → List ℕ
+pageBuffer z sample before = cond (goodStore z && leb sample lastSample) (writtenBuffer (pageNow z sample) before) before
+
+abbrev pub Pages : Store → ℕ → List ℕ → Answer → List ℕ → Type 0
+Pages store sample before r after = (r ≡ pageAnswer store sample before) × (after ≡ pageBuffer store sample before)
+
+-- "If the kept bytes begin with the sample's page as it is now": of a good store and a sample that is not too large.
+unfoldable pub fresh? : Store → ℕ → List ℕ → Bool
+fresh? z sample kept = goodStore z && leb sample lastSample && begins kept (pageNow z sample)
+
+-- Whose bytes are handed back (a pointer), and which.
+abbrev pub Handed : Type 0
+Handed = (ℕ × ℕ) × List ℕ
+
+abbrev pub handed : Bool → Handed → Handed → Handed
+handed true kept notice = kept
+handed false kept notice = notice
+
+-- "exactly that beginning is returned; otherwise, and for a bad store or sample, the whole notice"
+unfoldable pub served : Store → ℕ → RefT (List ℕ) → RefT (List ℕ) → Handed
+served z sample kept notice =
+    handed (fresh? z sample (kept .now)) (kept .ptr, take (length (pageNow z sample)) (kept .now)) (notice .ptr, notice .now)
+
+-- Of what is handed back, its pointer and its bytes.
+abbrev pub Serves : Store → ℕ → RefT (List ℕ) → RefT (List ℕ) → RefT (List ℕ) → Type 0
+Serves store sample kept notice r = (r .ptr ≡ served store sample kept notice .0) × (r .now ≡ served store sample kept notice .1)

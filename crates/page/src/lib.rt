@@ -1,0 +1,1 @@
+// The household's bytes: page and serve.

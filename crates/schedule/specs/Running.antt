@@ -1,0 +1,65 @@
+-- The runner, and the lines that the program prints. Document 01, "Bytes" and "A schedule in full".
+use mathlib.Core.Bool.{Bool, cond}
+use mathlib.Core.List.{List, [], _∷_}
+use Prim.Native.Nat.{ℕ}
+use lib.Dec.{ltb, eqb}
+use lib.ListN.{length, getD}
+use Rattle.plan.specs.Plan.{Plan}
+use Rattle.store.specs.declared.Answer.{Answer}
+use Rattle.store.specs.declared.Outcome.{Outcome}
+use Rattle.store.specs.declared.Store.{Store}
+use Rattle.store.specs.Answers.{OP, answer}
+use Rattle.store.specs.State.{State}
+use Rattle.store.specs.Layout.{freshStore}
+use Rattle.store.specs.Calls.{Effect, onStore}
+use Rattle.steps.specs.Entries.{enterStep, withdrawStep}
+use Rattle.steps.specs.Carries.{carryStep}
+use Rattle.steps.specs.Searches.{startStep, stepStep, cancelStep}
+use Rattle.wire.specs.Reading.{Got, got, fault}
+use Rattle.schedule.specs.declared.Step.{Step}
+use Rattle.schedule.specs.Schedule.{ENTER, WITHDRAW, CARRY, START, STEP, CANCEL, Schedule, stepRecord, scheduleAt}
+
+-- What stands at a place outside the list: a record of zeros, whose step number is unknown.
+abbrev pub noStep : Step
+noStep = stepRecord 0 0 0
+
+-- OP with the place, and the state as it was.
+abbrev pub unknownStep : ℕ → State → Effect
+unknownStep place s = record { answer = answer OP place 0 0 0; after = s }
+
+-- The step of a record, "ignoring a step's unused numbers".
+unfoldable pub stepOf : Step → ℕ → Plan → State → Effect
+stepOf r place p s =
+    cond (eqb (r .number) ENTER) (enterStep (r .x) (r .y) p s)
+    (cond (eqb (r .number) WITHDRAW) (withdrawStep (r .x) p s)
+    (cond (eqb (r .number) CARRY) (carryStep (r .x) (r .y) p s)
+    (cond (eqb (r .number) START) (startStep (r .x) p s)
+    (cond (eqb (r .number) STEP) (stepStep (r .x) p s)
+    (cond (eqb (r .number) CANCEL) (cancelStep (r .x) p s) (unknownStep place s))))))
+
+-- "The runner does the record at a given place, with BADSTORE before OP".
+unfoldable pub runOutcome : Store → List Step → ℕ → Outcome
+runOutcome z steps place = onStore (stepOf (getD steps place noStep) place) z
+
+-- A printed line: six numbers.
+abbrev pub Line : Type 0
+Line = List ℕ
+
+abbrev pub line : ℕ → Answer → Line
+line first r = first ∷ r .number ∷ r .a ∷ r .b ∷ r .c ∷ r .d ∷ []
+
+-- "Then one line a step": its number and its answer.
+unfoldable pub stepLines : List Step → Store → List Line
+stepLines [] z = []
+stepLines (x ∷ xs) z =
+    let o = onStore (stepOf x 0) z in
+    line (x .number) (o .answer) ∷ stepLines xs (o .store)
+
+-- "It prints one line first: 0, answer number, step count (or, if refused, the offset), 0 0 0; a refused schedule stops there."
+abbrev pub linesOf : Got Schedule → List Line
+linesOf (fault number at) = line 0 (answer number at 0 0 0) ∷ []
+linesOf (got d end) = line 0 (answer 0 (length (d .steps)) 0 0 0) ∷ stepLines (d .steps) (freshStore (d .plan))
+
+-- The lines that the program prints for a schedule's bytes.
+unfoldable pub scheduleLines : List ℕ → List Line
+scheduleLines s = linesOf (scheduleAt s)

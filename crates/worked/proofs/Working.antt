@@ -1,0 +1,48 @@
+-- Document 01's P1 to P10, by computing. Assumes nothing.
+use mathlib.Core.Path.{refl}
+use mathlib.Core.Bool.{Bool, true}
+use Rattle.lists.specs.Runs.{run, allFrom}
+use Rattle.number.specs.Number.{formIn, form, readLast, putBelow, readIn, readAt}
+use Rattle.plan.specs.Plan.{holds, firstEdge, next, walk, pathFrom}
+use Rattle.plan.specs.PlanTable.{planTable, plans, planOf}
+use Rattle.store.specs.Copies.{find, member, different}
+use Rattle.store.specs.State.{fresh, firstOn, inReach}
+use Rattle.store.specs.Layout.{nodeIn, stateOf, column, storeOf, freshStore}
+use Rattle.store.specs.StoreRules.{
+  shapeTest,
+  planNumberTest,
+  clockTest,
+  kindTest,
+  copyTest,
+  placeTest,
+  allZero,
+  unusedTest,
+  nodeTest,
+  stampsFrom,
+  standsAt,
+  slotTest,
+  goodStore,
+}
+use Rattle.store.specs.Calls.{onStore, ofStore}
+use Rattle.steps.specs.Entries.{put, room, entered, entry}
+use Rattle.steps.specs.Carries.{carries, merge, countHeld, mergeAlong, carriedTo, carriedOut, carryStep}
+use Rattle.steps.specs.Searches.{lowestIdle, startStep, withRunning, stepStep, cancelStep, visitsOn, lookAnswer}
+use Rattle.wire.specs.Reading.{bind, numbered, numberAt}
+use Rattle.wire.specs.Writing.{writtenAnswer, writtenBuffer}
+use Rattle.image.specs.Image.{valueBytes, copyBytes, copiesBytes, nodeBytes, nodesBytes, imageOf}
+use Rattle.image.specs.Loading.{imageAt, finished, loadOutcome}
+use Rattle.image.specs.Promises.{saveBuffer}
+use Rattle.page.specs.Page.{linesFrom, lineBytes, linesBytes, pageBytes}
+use Rattle.page.specs.Promises.{pageAnswer, pageBuffer}
+use Rattle.schedule.specs.Schedule.{knownStep, hasTwo, secondAt, stepAt, stepsAt, scheduleAt}
+use Rattle.schedule.specs.Running.{stepOf, stepLines, scheduleLines}
+use Rattle.worked.specs.Worked.{answersOf, storeAfter, storeAfterInput, Worked}
+
+-- Whoever unfolds this unfolds all definitions that the table is about.
+opened : Bool
+unfolding run allFrom formIn form readLast putBelow readIn readAt holds firstEdge next walk pathFrom planTable plans planOf find member different fresh firstOn inReach nodeIn stateOf column storeOf freshStore shapeTest planNumberTest clockTest kindTest copyTest placeTest allZero unusedTest nodeTest stampsFrom standsAt slotTest goodStore onStore ofStore put room entered entry carries merge countHeld mergeAlong carriedTo carriedOut carryStep lowestIdle startStep withRunning stepStep cancelStep visitsOn lookAnswer bind numbered numberAt writtenAnswer writtenBuffer valueBytes copyBytes copiesBytes nodeBytes nodesBytes imageOf imageAt finished loadOutcome saveBuffer linesFrom lineBytes linesBytes pageBytes pageAnswer pageBuffer knownStep hasTwo secondAt stepAt stepsAt scheduleAt stepOf stepLines scheduleLines answersOf storeAfter storeAfterInput
+opened = true
+
+pub worked : Worked
+unfolding opened
+worked = record { p1 = refl; p2 = refl; p3 = refl; p4 = refl; p5 = refl; p6 = refl; p7 = refl; p8 = refl; p9 = refl; p10 = refl }
