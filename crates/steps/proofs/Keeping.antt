@@ -20,6 +20,7 @@ use Rattle.store.specs.Copies.{WITHDRAWN, RESULT, copy, keyOf}
 use Rattle.store.specs.State.{State, nodeAt, slotAt, idle, line, lastClock, slotCount}
 use Rattle.store.specs.StateRules.{KindAndValue, OnPath, StateRules}
 use Rattle.store.specs.Calls.{Effect}
+use Rattle.store.proofs.Lifting.{Keeps}
 use Rattle.steps.specs.Entries.{room, entered, entry, enterStep, withdrawStep}
 use Rattle.steps.specs.Carries.{Merged, bit, mergeAlong, carriedTo, carriedOut, carryStep}
 use Rattle.steps.specs.Searches.{running, withSlot, startStep, stepStep, cancelStep}
@@ -47,10 +48,6 @@ use Rattle.steps.proofs.LineSteps.{
   afterCarry,
 }
 use Rattle.steps.proofs.LinesKept.{lines-kept}
-
--- A step keeps the state rules.
-abbrev pub Keeps : (Plan → State → Effect) → Type 0
-Keeps f = (p : Plan) → PlanRules p → (s : State) → StateRules p s → StateRules p (f p s .after)
 
 bit-one : (b : Bool) → bit b ≡ 1 → b ≡ true
 bit-one true e = refl

@@ -6,4 +6,3 @@ pub mod LineSteps
 pub mod RulesOnLines
 pub mod LinesKept
 pub mod Keeping
-pub mod Worked
