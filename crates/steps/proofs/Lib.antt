@@ -6,3 +6,5 @@ pub mod LineSteps
 pub mod RulesOnLines
 pub mod LinesKept
 pub mod Keeping
+pub mod CarryLaws
+pub mod Refusals
