@@ -1,0 +1,3 @@
+pub mod ImageParts
+pub mod ImageReads
+pub mod LoadWays
