@@ -40,6 +40,7 @@ back-one {s} last more first {at} {v} {next} g h r k =
     ∙ last-value first v (at + 1) r
     ∙ ap (Value v) e
 
+-- A group below a number gives the number of both.
 below-value : (low v next : ℕ) → putBelow low (Value v next) ≡ Value (low + 128 * v) next
 unfolding putBelow
 below-value low v next = refl
@@ -74,12 +75,13 @@ pub record Accepted (last more : ℕ) (s : List ℕ) (first : Bool) (at v next :
   pub small : v ≤ largest last more
   pub real : first ≡ false → 1 ≤ v
 
--- What a last byte that gives a number says.
+-- What a last byte that gives a number says: which number, the offset after it, and that after others it is not 0.
 record Ended (first : Bool) (b at v next : ℕ) : Type 0 where
   value : v ≡ b
   after : next ≡ at
   real : first ≡ false → 1 ≤ v
 
+-- A last byte that gives a number says so.
 ended : {first : Bool} {b at v next : ℕ} → readLast first b at ≡ Value v next → Ended first b at v next
 ended {first} {b} {at} {v} {next} e = go (last-way first b at)
   where

@@ -97,7 +97,7 @@ below-malformed low (Value w m) = (λ e. absurd (value-or-malformed refl e), λ 
 below-malformed low Cut = (λ e. absurd (cut-or-malformed refl e), λ e. absurd (cut-or-malformed refl e))
 below-malformed low Malformed = (λ e. refl, λ e. refl)
 
--- A last byte 00, which must come after others only if none came before.
+-- A last byte 00, at most `more` bytes further on; where the number begins, it comes after others.
 record ZeroEnd (first : Bool) (more : ℕ) (s : List ℕ) (at : ℕ) : Type 0 where
   place : ℕ
   from : at ≤ place

@@ -15,12 +15,15 @@ use Rattle.number.specs.Number.{readLast, putBelow, readIn}
 -- ---- the three readings are different
 
 module _ {r : Reading} where
+  -- A reading that gives a number is not CUT.
   pub value-or-cut : {v next : ℕ} → r ≡ Value v next → r ≡ Cut → ⊥
   value-or-cut p q = let z : _≡_ {A = ℕ} 0 1 = cc in omega arith
 
+  -- A reading that gives a number is not NUMBER.
   pub value-or-malformed : {v next : ℕ} → r ≡ Value v next → r ≡ Malformed → ⊥
   value-or-malformed p q = let z : _≡_ {A = ℕ} 0 1 = cc in omega arith
 
+  -- A reading that is CUT is not NUMBER.
   pub cut-or-malformed : r ≡ Cut → r ≡ Malformed → ⊥
   cut-or-malformed p q = let z : _≡_ {A = ℕ} 0 1 = cc in omega arith
 
@@ -43,9 +46,11 @@ pub data LastWay (first : Bool) (b next : ℕ) : Type 0 where
   gives : (first ≡ false → 1 ≤ b) → readLast first b next ≡ Value b next → LastWay first b next
   refuses : first ≡ false → b ≡ 0 → readLast first b next ≡ Malformed → LastWay first b next
 
+-- True is not false.
 pub never : true ≡ false → ⊥
 never e = let z : _≡_ {A = ℕ} 0 1 = cc in omega arith
 
+-- A last byte goes one of these ways.
 pub last-way : (first : Bool) (b next : ℕ) → LastWay first b next
 last-way true b next = gives (λ e. absurd (never e)) (last-value true b next (λ e. absurd (never e)))
 last-way false zero next = refuses refl refl (last-zero next)
@@ -87,6 +92,7 @@ pub data FullWay (s : List ℕ) (last : ℕ) (first : Bool) (at : ℕ) : Type 0 
   above : at < length s → last < getD s at 0 → readIn s last 0 first at ≡ Malformed → FullWay s last first at
   ends : at < length s → getD s at 0 ≤ last → readIn s last 0 first at ≡ readLast first (getD s at 0) (at + 1) → FullWay s last first at
 
+-- Reading goes one of these ways.
 pub full-way : (s : List ℕ) (last : ℕ) (first : Bool) (at : ℕ) → FullWay s last first at
 full-way s last first at = go (decLe (length s) at) (decLt last (getD s at 0))
   where
@@ -102,6 +108,7 @@ pub data MoreWay (s : List ℕ) (last more : ℕ) (first : Bool) (at : ℕ) : Ty
   goes : at < length s → 128 ≤ getD s at 0 → readIn s last (suc more) first at ≡ putBelow (getD s at 0 - 128) (readIn s last more false (at + 1))
       → MoreWay s last more first at
 
+-- Reading goes one of these ways.
 pub more-way : (s : List ℕ) (last more : ℕ) (first : Bool) (at : ℕ) → MoreWay s last more first at
 more-way s last more first at = go (decLe (length s) at) (decLt (getD s at 0) 128)
   where

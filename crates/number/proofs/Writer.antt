@@ -19,10 +19,12 @@ pub record Counting (value rest count : ℕ) : Type 0 where
   pub small : rest ≤ largest lastByte left
   pub total : count + length (formIn left rest) ≡ suc (length (form value))
 
+-- Before the loop one byte is counted.
 pub count-starts : (value : ℕ) → value ≤ 4294967295 → Counting value value 1
 unfolding form
 count-starts value h = record { left = moreBytes; room = refl; small = small-32 h; total = omega arith }
 
+-- A turn counts one byte with the top bit.
 pub count-turns : {value rest count : ℕ} → 128 ≤ rest → Counting value rest count → Counting value (rest / 128) (count + 1)
 count-turns {value} {rest} g k =
     let t = form-turn lastByte low-32 (k .left) rest (k .small) g in
@@ -33,6 +35,7 @@ count-turns {value} {rest} g k =
       total = let s = k .total in let b = ap length (t .bytes) in omega arith;
     }
 
+-- When the rest is one byte, all are counted.
 pub count-ends : {value rest count : ℕ} → rest < 128 → Counting value rest count → count ≡ length (form value)
 count-ends {value} {rest} g k = let s = k .total in let b = ap length (form-one (k .left) rest g) in omega arith
 
@@ -46,6 +49,7 @@ pub record Writing (before : List ℕ) (at value : ℕ) (buffer : List ℕ) (res
   pub fits : i + length (formIn left rest) ≤ length buffer
   pub joins : (next : ℕ) (after : List ℕ) → Wrote buffer i (formIn left rest) next after → Wrote before at (form value) next after
 
+-- Before the loop the whole form is to be written.
 pub write-starts : (before : List ℕ) (at value : ℕ) → value ≤ 4294967295 → at + length (form value) ≤ length before → Writing before at value before value at
 unfolding form
 write-starts before at value h g = record { left = moreBytes; small = small-32 h; kept = refl; fits = g; joins = λ next after w. w }
@@ -54,6 +58,7 @@ write-starts before at value h g = record { left = moreBytes; small = small-32 h
 pub write-room : {before : List ℕ} {at value : ℕ} {buffer : List ℕ} {rest i : ℕ} → Writing before at value buffer rest i → i < length buffer
 write-room {rest = rest} k = let f = k .fits in omega (arith, form-some-in (k .left) rest)
 
+-- A turn writes one byte with the top bit.
 pub write-turns : {before : List ℕ} {at value : ℕ} {buffer : List ℕ} {rest i : ℕ} → 128 ≤ rest → Writing before at value buffer rest i
     → Writing before at value (set buffer i (128 + rest % 128)) (rest / 128) (i + 1)
 write-turns {before} {at} {value} {buffer} {rest} {i} g k =
@@ -69,6 +74,7 @@ write-turns {before} {at} {value} {buffer} {rest} {i} g k =
       joins = λ next after w. k .joins next after (rw (t .bytes) (wrote-cons w));
     }
 
+-- The last byte ends the form.
 pub write-ends : {before : List ℕ} {at value : ℕ} {buffer : List ℕ} {rest i : ℕ} → rest < 128 → Writing before at value buffer rest i
     → Wrote before at (form value) (i + 1) (set buffer i rest)
 write-ends {buffer = buffer} {rest} {i} g k = k .joins (i + 1) (set buffer i rest) (rw (form-one (k .left) rest g) (wrote-cons (wrote-nil (set buffer i rest) (i + 1))))

@@ -1,15 +1,15 @@
 -- The layout of a store: what a node's places hold, what a column is, and that a store and its state give each other back. Assumes nothing.
 use mathlib.Core.Path.{_≡_, refl, sym, ap, _∙_, subst}
 use mathlib.Core.List.{List, [], _∷_, _++_, map, append-nil}
-use Prim.Native.Nat.{ℕ, suc, _+_, _-_, _*_, _/_, _%_, _<_, _≤_}
+use Prim.Native.Nat.{ℕ, _+_, _-_, _*_, _/_, _%_, _<_, _≤_}
 use native.Mathlib.Omega.{arith}
 use native.Mathlib.Nat.{zero-add}
 use native.Mathlib.Decide.{decLt, ℕ-discrete}
-use lib.ListN.{length, getD, set, replicate, length-map, length-append, length-replicate, getD-replicate, List·getD-append, List·getD-eq-default}
+use lib.ListN.{length, getD, set, replicate, length-set, length-map, length-append, length-replicate, getD-replicate, List·getD-append, List·getD-eq-default}
 use lib.Seq.{ext-getD, sets, length-sets, getD-append-seam, getD-append-add, getD-set-same, getD-set-other}
 use Rattle.lists.specs.Runs.{run}
 use Rattle.lists.proofs.Running.{length-run, getD-run, getD-run-0, as-run, map-run}
-use Rattle.lists.proofs.Storing.{sets-below, sets-past, sets-inside, set-run, getD-map}
+use Rattle.lists.proofs.Storing.{sets-below, sets-past, sets-inside, set-run, getD-same, getD-map}
 use Rattle.plan.specs.Sizes.{mostNodes}
 use Rattle.plan.specs.Plan.{Plan, size}
 use Rattle.plan.specs.PlanRules.{PlanRules}
@@ -18,7 +18,7 @@ use Rattle.plan.proofs.TableLaws.{table-rules}
 use Rattle.store.specs.declared.Copy.{Copy}
 use Rattle.store.specs.declared.Store.{Store}
 use Rattle.store.specs.Copies.{noCopy}
-use Rattle.store.specs.State.{State, nodeAt, copyAt}
+use Rattle.store.specs.State.{State, nodeAt, copyAt, slotCount}
 use Rattle.store.specs.Layout.{width, places, copyIn, nodeIn, copyOf, countOf, nodeOf, stateOf, placeOf, column, storeOf, Shape}
 use Rattle.store.specs.StateRules.{StateRules}
 use Rattle.store.specs.StoreRules.{StoreRules}
@@ -146,21 +146,26 @@ module _ {n : ℕ} {ys : List Copy} {ns ms : List (List Copy)} (one : OneNode n 
     where
       c : List ℕ
       c = column part ns
+
       vs : List ℕ
       vs = map part ys ++ replicate k (part noCopy)
+
       long : length vs ≡ length ys + k
       long = simp (length-append, length-map, length-replicate)
+
       new : (i : ℕ) → i < length ys + k → Dec (i < length ys) → getD vs i 0 ≡ part (getD ys i noCopy)
       new i h (yes g) = List·getD-append (map part ys) (replicate k (part noCopy)) 0 i (rw length-map g) ∙ getD-map part ys i noCopy 0 g
       new i h (no g) =
           let e : length (map part ys) + (i - length ys) ≡ i = omega (arith, length-map ys part) in
           (rw e at (getD-append-add (map part ys) (replicate k (part noCopy)) (i - length ys) 0))
           ∙ getD-replicate k (i - length ys) (part noCopy) 0 (omega arith) ∙ ap part (sym (List·getD-eq-default ys noCopy (omega arith)))
+
       old : (i : ℕ) → i < width → Dec (i < length ys + k) → getD (sets c (width * n) vs) (width * n + i) 0 ≡ part (getD ys i noCopy)
       old i h (yes g) = sets-inside vs c (width * n) i 0 (omega (arith, long, length-column part ns)) (omega (arith, long)) ∙ new i g (decLt i (length ys))
       old i h (no g) =
           sets-past vs c (width * n) (width * n + i) 0 (omega (arith, long)) ∙ place-at part ns n i few h
           ∙ ap part (List·getD-eq-default (getD ns n []) noCopy (omega arith) ∙ sym (List·getD-eq-default ys noCopy (omega arith)))
+
       here : (i : ℕ) → i < width → getD (sets c (width * n) vs) (width * n + i) 0 ≡ part (getD ys i noCopy)
       here i h = old i h (decLt i (length ys + k))
 
@@ -175,6 +180,28 @@ module _ {n : ℕ} {ys : List Copy} {ns ms : List (List Copy)} (one : OneNode n 
       sym
       (set-run (λ m. length (getD ns m [])) (λ m. length (getD ms m [])) mostNodes n (length ys) (ap length (one .here))
       (λ m e. ap length (one .others m e)))
+
+-- A column where one copy of a node is replaced.
+pub copy-written : (part : Copy → ℕ) (ns : List (List Copy)) (n i : ℕ) (x : Copy) → n < length ns → n < mostNodes → i < length (getD ns n [])
+    → i < width → set (column part ns) (width * n + i) (part x) ≡ column part (set ns n (set (getD ns n []) i x))
+copy-written part ns n i x in-list few held fits =
+    node-written (set-one ns n (set xs i x) in-list) part (set c (width * n + i) (part x))
+    (length-set c (width * n + i) (part x) ∙ length-column part ns) (λ j h. here j h (ℕ-discrete j i))
+    (λ m j h e. getD-set-other c (width * n + i) (width * m + j) (part x) 0 (λ same. e (omega arith)))
+  where
+    c : List ℕ
+    c = column part ns
+
+    xs : List Copy
+    xs = getD ns n []
+
+    here : (j : ℕ) → j < width → Dec (j ≡ i) → getD (set c (width * n + i) (part x)) (width * n + j) 0 ≡ part (getD (set xs i x) j noCopy)
+    here j h (yes e) =
+        rw e
+        (getD-set-same c (width * n + i) (part x) 0 (omega (arith, length-column part ns)) ∙ ap part (sym (getD-set-same xs i x noCopy held)))
+    here j h (no e) =
+        getD-set-other c (width * n + i) (width * n + j) (part x) 0 (λ same. e (omega arith)) ∙ place-at part ns n j few h
+        ∙ ap part (sym (getD-set-other xs i j x noCopy e))
 
 -- A column where two nodes are written, as a carry does.
 pub two-written : {n t : ℕ} {xs ys : List Copy} {ns ls ms : List (List Copy)} → OneNode n xs ns ls → OneNode t ys ls ms → (n ≡ t → ⊥)
@@ -199,6 +226,34 @@ unfolding storeOf
 store-is plan s z p c n k d v t q =
     λ i. record { plan = p i; clock = c i; counts = n i; keys = k i; kinds = d i; values = v i; stamps = t i; slots = q i }
 
+-- A store in which no node holds anything: zeros over all places and counts.
+module _ (ns : List (List Copy)) (empty : (n : ℕ) → getD ns n [] ≡ []) where
+  pub blank-column : (part : Copy → ℕ) → replicate places (part noCopy) ≡ column part ns
+  blank-column part =
+      column-is part ns (replicate places (part noCopy)) (length-replicate places (part noCopy))
+      (λ m i h g. getD-replicate places (width * m + i) (part noCopy) 0 (omega arith) ∙ ap (λ (xs : List Copy). part (getD xs i noCopy)) (sym (empty m)))
+
+  pub blank-counts : replicate mostNodes 0 ≡ run 0 mostNodes (λ n. length (getD ns n []))
+  blank-counts =
+      as-run (λ n. length (getD ns n [])) (replicate mostNodes 0) 0 mostNodes 0 (length-replicate {A = ℕ} mostNodes 0)
+      (λ n h. rw zero-add (getD-same mostNodes n 0 ∙ ap length (sym (empty n))))
+
+pub blank-store : (plan : ℕ) (s : State) → ((n : ℕ) → nodeAt s n ≡ [])
+    → record {
+      plan = plan;
+      clock = s .clock;
+      counts = replicate mostNodes 0;
+      keys = replicate places 0;
+      kinds = replicate places 0;
+      values = replicate places 0;
+      stamps = replicate places 0;
+      slots = s .slots;
+    } ≡ storeOf plan s
+blank-store plan s empty =
+    store-is plan s _ refl refl (blank-counts (s .nodes) empty) (blank-column (s .nodes) empty (λ (x : Copy). x .key))
+    (blank-column (s .nodes) empty (λ (x : Copy). x .kind)) (blank-column (s .nodes) empty (λ (x : Copy). x .value))
+    (blank-column (s .nodes) empty (λ (x : Copy). x .stamp)) refl
+
 -- The store of a state, and its state again.
 module _ (plan : ℕ) (s : State) where
   pub stored-count : (n : ℕ) → n < mostNodes → countOf (storeOf plan s) n ≡ length (nodeAt s n)
@@ -222,8 +277,21 @@ module _ (plan : ℕ) (s : State) where
     where
       z : Store
       z = storeOf plan s
+
       long : length (nodeOf z n) ≡ length (nodeAt s n)
       long = length-node z n ∙ stored-count n h
+
+  pub stored-shape : length (s .slots) ≡ slotCount → Shape (storeOf plan s)
+  unfolding storeOf
+  stored-shape slots =
+      record {
+        counts-8 = length-run (λ n. length (nodeAt s n)) 0 mostNodes;
+        keys-512 = length-column (λ (x : Copy). x .key) (s .nodes);
+        kinds-512 = length-column (λ (x : Copy). x .kind) (s .nodes);
+        values-512 = length-column (λ (x : Copy). x .value) (s .nodes);
+        stamps-512 = length-column (λ (x : Copy). x .stamp) (s .nodes);
+        slots-8 = slots;
+      }
 
   -- A state with a list for each node of the plan, none longer than a node's places, comes back.
   pub state-back : length (s .nodes) ≡ size (planOf plan) → size (planOf plan) ≤ mostNodes → ((n : ℕ) → length (nodeAt s n) ≤ width)
@@ -271,6 +339,7 @@ module _ (z : Store) (rules : StoreRules z) where
       counts : z .counts ≡ run 0 mostNodes (λ n. length (nodeAt (stateOf z) n))
       counts =
           as-run (λ n. length (nodeAt (stateOf z) n)) (z .counts) 0 mostNodes 0 (rules .shape .counts-8) (λ n h. rw zero-add (sym (every-count n h)))
+
       back : (part : Copy → ℕ) (c : List ℕ) → length c ≡ places → ((j : ℕ) → getD c j 0 ≡ part (copyOf z j)) → c ≡ column part (stateOf z .nodes)
       back part c long of =
           column-is part (stateOf z .nodes) c long (λ m i h g. of (width * m + i) ∙ ap part (sym (every-copy m i h g)))
@@ -293,27 +362,15 @@ module _ (plan : ℕ) (low : 1 ≤ plan) (high : plan ≤ plans) {s : State} (ru
       let p = table-rules plan low high in
       state-back plan s (rules .a-list-for-each-node) (p .two-to-eight-nodes .1) (node-fits p rules)
 
-  pub stored-shape : Shape (storeOf plan s)
-  unfolding storeOf
-  stored-shape =
-      record {
-        counts-8 = length-run (λ n. length (nodeAt s n)) 0 mostNodes;
-        keys-512 = length-column (λ (x : Copy). x .key) (s .nodes);
-        kinds-512 = length-column (λ (x : Copy). x .kind) (s .nodes);
-        values-512 = length-column (λ (x : Copy). x .value) (s .nodes);
-        stamps-512 = length-column (λ (x : Copy). x .stamp) (s .nodes);
-        slots-8 = rules .eight-slots;
-      }
-
   pub rules-store : StoreRules (storeOf plan s)
   unfolding storeOf
   rules-store =
       record {
-        shape = stored-shape;
+        shape = stored-shape plan s (rules .eight-slots);
         plan-1-to-3 = (low, high);
         unused-places-all-zero =
-        λ n i h u g. stored-copy plan s n i h g ∙ List·getD-eq-default (nodeAt s n) noCopy (omega (arith, stored-count plan s n h));
+            λ n i h u g. stored-copy plan s n i h g ∙ List·getD-eq-default (nodeAt s n) noCopy (omega (arith, stored-count plan s n h));
         unused-counts-zero =
-        λ n past h. stored-count plan s n h ∙ ap length (nothing-past rules n past);
+            λ n past h. stored-count plan s n h ∙ ap length (nothing-past rules n past);
         state-rules = subst (λ (t : State). StateRules (planOf plan) t) (sym rules-back) rules;
       }

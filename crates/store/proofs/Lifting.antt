@@ -1,29 +1,29 @@
 -- Calls on stores: what a step on states shows of its call, the store rules kept by it, and the fresh store. Assumes nothing.
-use mathlib.Core.Path.{_≡_, refl, sym, ap, _∙_, subst}
-use mathlib.Core.Bool.{Bool, true, false}
+use mathlib.Core.Path.{_≡_, ap, _∙_}
+use mathlib.Core.Bool.{true, false}
 use mathlib.Core.Logic.{_⊎_, inl, inr}
-use mathlib.Core.List.{List, []}
-use Prim.Native.Nat.{ℕ, suc, _<_, _≤_}
+use mathlib.Core.List.{[]}
+use Prim.Native.Nat.{ℕ, suc, _≤_}
 use native.Mathlib.Omega.{arith}
-use lib.ListN.{length, length-replicate}
+use lib.ListN.{length, replicate, length-replicate}
 use Rattle.lists.proofs.Truths.{bool?}
 use Rattle.lists.proofs.Storing.{getD-same}
+use Rattle.plan.specs.Sizes.{mostNodes}
 use Rattle.plan.specs.Plan.{Plan, size}
 use Rattle.plan.specs.PlanRules.{PlanRules}
 use Rattle.plan.specs.PlanTable.{planOf, plans}
 use Rattle.plan.proofs.TableLaws.{table-rules}
 use Rattle.store.specs.declared.Answer.{Answer}
-use Rattle.store.specs.declared.Copy.{Copy}
 use Rattle.store.specs.declared.Outcome.{Outcome}
 use Rattle.store.specs.declared.Slot.{Slot}
 use Rattle.store.specs.declared.Store.{Store}
 use Rattle.store.specs.Answers.{BADSTORE, bare}
 use Rattle.store.specs.State.{State, nodeAt, slotAt, slotCount, idle, fresh}
 use Rattle.store.specs.StateRules.{StateRules, HeldAt}
-use Rattle.store.specs.Layout.{stateOf, storeOf, freshStore}
+use Rattle.store.specs.Layout.{places, stateOf, storeOf, freshStore}
 use Rattle.store.specs.StoreRules.{StoreRules, goodStore}
 use Rattle.store.specs.Calls.{Effect, onStore, ofStore}
-use Rattle.store.proofs.Laying.{store-back, rules-back, rules-store}
+use Rattle.store.proofs.Laying.{blank-store, store-back, rules-back, rules-store}
 
 -- The two ways of a call: a bad store, and a good one.
 module _ (f : Plan → State → Effect) (z : Store) where
@@ -63,11 +63,11 @@ Keeps f = (p : Plan) → PlanRules p → (s : State) → StateRules p s → Stat
 
 -- A fresh state keeps the rules: it holds nothing, and all its slots are idle.
 module _ (p : Plan) where
-  fresh-node : (n : ℕ) → nodeAt (fresh p) n ≡ []
+  pub fresh-node : (n : ℕ) → nodeAt (fresh p) n ≡ []
   unfolding fresh
   fresh-node n = getD-same (size p) n []
 
-  fresh-slot : (i : ℕ) → slotAt (fresh p) i ≡ idle
+  pub fresh-slot : (i : ℕ) → slotAt (fresh p) i ≡ idle
   unfolding fresh
   fresh-slot i = getD-same slotCount i idle
 
@@ -91,6 +91,21 @@ module _ (p : Plan) where
         idle-slots-all-zero = λ i h e. fresh-slot i;
         running-searches-on-their-paths = λ i h runs. absurd (runs (ap (λ (q : Slot). q .running) (fresh-slot i)));
       }
+
+-- The fresh store: zeros over all places and counts, and idle slots.
+pub fresh-is : (plan : ℕ)
+    → record {
+      plan = plan;
+      clock = 1;
+      counts = replicate mostNodes 0;
+      keys = replicate places 0;
+      kinds = replicate places 0;
+      values = replicate places 0;
+      stamps = replicate places 0;
+      slots = replicate slotCount idle;
+    } ≡ freshStore plan
+unfolding freshStore fresh
+fresh-is plan = blank-store plan (fresh (planOf plan)) (fresh-node (planOf plan))
 
 pub fresh-back : (plan : ℕ) → 1 ≤ plan → plan ≤ plans → stateOf (freshStore plan) ≡ fresh (planOf plan)
 unfolding freshStore

@@ -5,3 +5,5 @@ pub mod StateRules
 pub mod Layout
 pub mod StoreRules
 pub mod Calls
+pub mod Workers
+pub mod Promises

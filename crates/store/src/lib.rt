@@ -1,4 +1,14 @@
-// The store: its data and its rules.
+// The store: its data, its sizes, the answers, and the making of a fresh store. Document 01, "Lines, copies, plans".
+ghost use mathlib.Core.Path.{_≡_};
+ghost use Rattle.store.specs.Answers.{answer, bare};
+ghost use Rattle.store.specs.Layout.{freshStore};
+ghost use Rattle.store.specs.StoreRules.{planNumberTest};
+ghost use Rattle.store.specs.Promises.{Freshens};
+
+pub mod columns; // columns.rt: the workers on lent columns
+
+// "A copy has a key, a kind (0 withdrawn, 1 result), a value .. and a stamp."
+#[repr(C)]
 pub struct Copy {
     pub key: u32,
     pub kind: u32,
@@ -6,6 +16,8 @@ pub struct Copy {
     pub stamp: u32,
 }
 
+// A search slot: 1 if a search runs in it, its key, the node that it stands at, and the nodes visited. An idle slot is all zero.
+#[repr(C)]
 pub struct Slot {
     pub running: u32,
     pub key: u32,
@@ -13,17 +25,21 @@ pub struct Slot {
     pub visits: u32,
 }
 
+// The places in four columns; node n has those from 64 n on, and uses the first, as many as its count says, by rising key.
+#[repr(C)]
 pub struct Store {
     pub plan: u32,
     pub clock: u32,
-    pub counts: [u32; 8],
-    pub keys: [u32; 512],
-    pub kinds: [u32; 512],
-    pub values: [u32; 512],
-    pub stamps: [u32; 512],
-    pub slots: [Slot; 8],
+    pub counts: [u32; Store::NODES],
+    pub keys: [u32; Store::PLACES],
+    pub kinds: [u32; Store::PLACES],
+    pub values: [u32; Store::PLACES],
+    pub stamps: [u32; Store::PLACES],
+    pub slots: [Slot; Store::SLOTS],
 }
 
+// "Each answer has a number and four numbers a, b, c, d, zero unless named."
+#[repr(C)]
 pub struct Answer {
     pub number: u32,
     pub a: u64,
@@ -32,12 +48,148 @@ pub struct Answer {
     pub d: u64,
 }
 
+// What a call that may alter the store gives back.
+#[repr(C)]
 pub struct Outcome {
     pub answer: Answer,
     pub store: Store,
 }
 
+// "A look in one node gives a found copy or nothing."
 pub enum Found {
     Held(Copy),
     Nothing,
+}
+
+impl Answer {
+    pub const DONE: u32 = 0;
+
+    pub const GOING: u32 = 1;
+
+    pub const BADSTORE: u32 = 2;
+
+    pub const PLAN: u32 = 3;
+
+    pub const CLOCK: u32 = 4;
+
+    pub const FULL: u32 = 5;
+
+    pub const NODE: u32 = 6;
+
+    pub const EDGE: u32 = 7;
+
+    pub const SLOTS: u32 = 8;
+
+    pub const SLOT: u32 = 9;
+
+    pub const IDLE: u32 = 10;
+
+    pub const SMALL: u32 = 11;
+
+    pub const SAMPLE: u32 = 12;
+
+    pub const CUT: u32 = 13;
+
+    pub const NUMBER: u32 = 14;
+
+    pub const FORMAT: u32 = 15;
+
+    pub const RULE: u32 = 16;
+
+    pub const TRAIL: u32 = 17;
+
+    pub const OP: u32 = 18;
+
+    pub const MANY: u32 = 19;
+
+    // An answer of which nothing but the number is named.
+    pub fn bare(number: u32) -> Answer
+        ensures { λ r. ⌜ r ≡ bare number ⌝ }
+    {
+        Answer {
+            number: number,
+            a: 0,
+            b: 0,
+            c: 0,
+            d: 0,
+        }
+    }
+
+    pub fn of(number: u32, a: u64, b: u64, c: u64, d: u64) -> Answer
+        ensures { λ r. ⌜ r ≡ answer number a b c d ⌝ }
+    {
+        Answer {
+            number: number,
+            a: a,
+            b: b,
+            c: c,
+            d: d,
+        }
+    }
+}
+
+impl Store {
+    pub const LAST_CLOCK: u32 = 4294967295;
+
+    pub const SLOTS: usize = 8;
+
+    pub const NODES: usize = plan::MOST_NODES;
+
+    pub const WIDTH: usize = 64;
+
+    pub const PLACES: usize = Store::NODES * Store::WIDTH;
+
+    // "Fresh: clock 1, nothing held, all slots idle."
+    fn empty(plan: u32) -> Store
+        ensures { λ r. ⌜ r ≡ freshStore plan ⌝ }
+    {
+        let idle = Slot {
+            running: 0,
+            key: 0,
+            node: 0,
+            visits: 0,
+        };
+        let counts = [0; Store::NODES];
+        let keys = [0; Store::PLACES];
+        let kinds = [0; Store::PLACES];
+        let values = [0; Store::PLACES];
+        let stamps = [0; Store::PLACES];
+        let slots = [idle; Store::SLOTS];
+        Store {
+            plan: plan,
+            clock: 1,
+            counts: counts,
+            keys: keys,
+            kinds: kinds,
+            values: values,
+            stamps: stamps,
+            slots: slots,
+        }
+    }
+
+    // "plan 1 to 3"
+    pub fn is_plan(plan: u32) -> bool
+        ensures { λ r. ⌜ r ≡ planNumberTest plan ⌝ }
+    {
+        if plan < 1 {
+            return false;
+        }
+        plan as usize <= plan::PLANS
+    }
+
+    // A fresh store of the plan; "plan not 1 to 3": PLAN, and a fresh store of plan 1.
+    pub fn fresh(plan: u32) -> Outcome
+        ensures { λ r. ⌜ Freshens plan r ⌝ }
+    {
+        if Store::is_plan(plan) {
+            return Outcome {
+                answer: Answer::bare(Answer::DONE),
+                store: Store::empty(plan),
+            };
+        }
+        Outcome {
+            answer: Answer::bare(Answer::PLAN),
+            store: Store::empty(1),
+        }
+    }
 }

@@ -1,0 +1,18 @@
+-- The promise of the fresh store: it fixes the answer and the store for every number. Document 01, "Answer numbers".
+use mathlib.Core.Path.{_≡_}
+use mathlib.Core.Bool.{cond}
+use Prim.Native.Nat.{ℕ}
+use Rattle.store.specs.declared.Outcome.{Outcome}
+use Rattle.store.specs.Answers.{DONE, PLAN, bare}
+use Rattle.store.specs.Layout.{freshStore}
+use Rattle.store.specs.StoreRules.{planNumberTest}
+
+-- "PLAN: plan not 1 to 3"; "A refused fresh .. returns a fresh store of plan 1."
+unfoldable pub freshOutcome : ℕ → Outcome
+freshOutcome plan =
+    cond (planNumberTest plan)
+    (record { answer = bare DONE; store = freshStore plan })
+    (record { answer = bare PLAN; store = freshStore 1 })
+
+abbrev pub Freshens : ℕ → Outcome → Type 0
+Freshens plan r = r ≡ freshOutcome plan

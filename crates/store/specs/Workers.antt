@@ -1,0 +1,37 @@
+-- What the workers on lent columns promise: the place of a key by rising keys, and a number put in between others.
+use mathlib.Core.Bool.{cond}
+use mathlib.Core.List.{List, _∷_, _++_}
+use Prim.Native.Nat.{ℕ, suc, _+_, _-_, _<_, _≤_}
+use lib.Dec.{ltb}
+use lib.ListN.{length, getD, take, drop}
+use lib.Seq.{slice}
+use Rattle.lists.specs.Runs.{run}
+
+-- The number of a column at a place.
+abbrev pub numberIn : List ℕ → ℕ → ℕ
+numberIn column i = getD column i 0
+
+-- A number is its own key.
+abbrev pub itself : ℕ → ℕ
+itself k = k
+
+-- How many things at the front of a list have a key below k: the place of k by rising keys.
+unfoldable pub below : {A : Type 0} → (A → ℕ) → List A → ℕ → ℕ
+below key [] k = 0
+below key (x ∷ xs) k = cond (ltb (key x) k) (suc (below key xs k)) 0
+
+-- The first of the places from one up to another whose key is not below k, or the end.
+abbrev pub placeIn : List ℕ → ℕ → ℕ → ℕ → ℕ
+placeIn keys from end k = from + below itself (run from (end - from) (numberIn keys)) k
+
+-- The keys of a list strictly rise, each below the next; the thing named stands for what is not there.
+abbrev pub Rises : {A : Type 0} → (A → ℕ) → A → List A → Type 0
+Rises key none xs = (i : ℕ) → suc i < length xs → key (getD xs i none) < key (getD xs (suc i) none)
+
+-- The same of a column, from one place up to another.
+abbrev pub RisesIn : List ℕ → ℕ → ℕ → Type 0
+RisesIn keys from end = (i : ℕ) → from ≤ i → suc i < end → numberIn keys i < numberIn keys (suc i)
+
+-- A list with x put in at a place; those from there up to end stand one place further up, over the one that stood at end.
+unfoldable pub opened : {A : Type 0} → List A → ℕ → ℕ → A → List A
+opened xs at end x = take at xs ++ x ∷ (slice at end xs ++ drop (suc end) xs)

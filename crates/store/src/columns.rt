@@ -1,0 +1,98 @@
+// The workers on the store's columns, each lent: 512 places, 64 to a node, read by places from..end.
+ghost use mathlib.Core.Path.{_≡_};
+ghost use Prim.Native.Nat.{_-_, _≤_, _<_};
+ghost use lib.ListN.{length};
+ghost use lib.Seq.{slice};
+ghost use Rattle.lists.specs.Runs.{run};
+ghost use Rattle.store.specs.Copies.{keyOf, find, foundOf};
+ghost use Rattle.store.specs.Layout.{places, copyIn};
+ghost use Rattle.store.specs.StoreRules.{allZero};
+ghost use Rattle.store.specs.Workers.{placeIn, RisesIn, opened};
+use crate::Copy;
+use crate::Found;
+use crate::Store;
+
+// The first of the places from..end whose key is not below the key, or end: by halves.
+pub fn seek(keys: &[u32; Store::PLACES], from: usize, end: usize, key: u32) -> usize
+    requires { ⌜ (from ≤ end) × (end ≤ places) × RisesIn (now keys) from end ⌝ }
+    ensures { λ r. ⌜ r ≡ placeIn (now (keys .entry)) from end key ⌝ }
+{
+    let mut low = from;
+    let mut high = end;
+    while low < high {
+        let mid = low + (high - low) / 2;
+        if keys[mid] < key {
+            low = mid + 1;
+        } else {
+            high = mid;
+        }
+    }
+    low
+}
+
+// A look in one node: the copy of the key among the places from..end, by halves, or nothing.
+pub fn look_in<'a>(
+    keys: &'a [u32; Store::PLACES],
+    kinds: &'a [u32; Store::PLACES],
+    values: &'a [u32; Store::PLACES],
+    stamps: &'a [u32; Store::PLACES],
+    from: usize,
+    end: usize,
+    key: u32,
+) -> Found
+    requires { ⌜ (from ≤ end) × (end ≤ places) × RisesIn (now keys) from end ⌝ }
+    ensures { λ r. ⌜ r ≡ foundOf (find keyOf (run from (end - from) (copyIn (now (keys .entry)) (now (kinds .entry)) (now (values .entry)) (now (stamps .entry)))) key) ⌝ }
+{
+    let mut low = from;
+    let mut high = end;
+    let at = loop {
+        if high <= low {
+            return Found::Nothing;
+        }
+        let mid = low + (high - low) / 2;
+        let here = keys[mid];
+        if here == key {
+            break mid;
+        }
+        if here < key {
+            low = mid + 1;
+        } else {
+            high = mid;
+        }
+    };
+    Found::Held(Copy {
+        key: key,
+        kind: kinds[at],
+        value: values[at],
+        stamp: stamps[at],
+    })
+}
+
+// The number put in at a place; those from there up to end move one place up, over the one at end.
+pub fn open(column: &mut [u32; Store::PLACES], at: usize, end: usize, number: u32)
+    requires { ⌜ (at ≤ end) × (end < places) × (length (now column) ≡ places) ⌝ }
+    ensures { λ _. ⌜ now (column .exit) ≡ opened (now (column .entry)) at end number ⌝ }
+{
+    let mut hole = end;
+    while at < hole {
+        let x = column[hole - 1];
+        column[hole] = x;
+        hole -= 1;
+    }
+    column[at] = number;
+}
+
+// The places from..end of the column are all zero.
+pub fn all_zero(column: &[u32; Store::PLACES], from: usize, end: usize) -> bool
+    requires { ⌜ (from ≤ end) × (end ≤ places) × (length (now column) ≡ places) ⌝ }
+    ensures { λ r. ⌜ r ≡ allZero (slice from end (now (column .entry))) ⌝ }
+{
+    let mut i = from;
+    while i < end {
+        if column[i] != 0 {
+            return false;
+        }
+        i += 1;
+    }
+    true
+}

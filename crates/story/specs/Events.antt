@@ -1,0 +1,133 @@
+-- Sequences of steps on a state, over any plan, and what is counted over them.
+use mathlib.Core.Bool.{Bool, true, false, cond, not, _&&_, _||_}
+use mathlib.Core.List.{List, [], _∷_, _++_}
+use mathlib.Core.Option.{Option, none, some}
+use Prim.Native.Nat.{ℕ, zero, suc, _+_}
+use lib.Dec.{eqb}
+use lib.ListN.{length}
+use Rattle.plan.specs.declared.Edge.{Edge}
+use Rattle.plan.specs.Plan.{Plan, edgesOf, holds, path}
+use Rattle.store.specs.declared.Answer.{Answer}
+use Rattle.store.specs.declared.Copy.{Copy}
+use Rattle.store.specs.Answers.{DONE, GOING, bare}
+use Rattle.store.specs.Copies.{WITHDRAWN, RESULT, copy, isSome}
+use Rattle.store.specs.State.{State, line}
+use Rattle.store.specs.Calls.{Effect}
+use Rattle.steps.specs.Entries.{enterStep, withdrawStep}
+use Rattle.steps.specs.Carries.{bit, carryStep}
+use Rattle.steps.specs.Searches.{startStep, stepStep, cancelStep}
+
+-- What a call does to a state: one of the six steps, or nothing (a look, a save, a page, a serve, an unknown step).
+pub data Event : Type 0 where
+  enters : ℕ → ℕ → Event
+  withdraws : ℕ → Event
+  carries : ℕ → ℕ → Event
+  starts : ℕ → Event
+  steps : ℕ → Event
+  cancels : ℕ → Event
+  asks : Event
+
+unfoldable pub effect : Plan → Event → State → Effect
+effect p (enters k v) s = enterStep k v p s
+effect p (withdraws k) s = withdrawStep k p s
+effect p (carries n i) s = carryStep n i p s
+effect p (starts k) s = startStep k p s
+effect p (steps i) s = stepStep i p s
+effect p (cancels i) s = cancelStep i p s
+effect p asks s = record { answer = bare DONE; after = s }
+
+abbrev pub after : Plan → Event → State → State
+after p e s = effect p e s .after
+
+abbrev pub answerOf : Plan → Event → State → Answer
+answerOf p e s = effect p e s .answer
+
+-- The state after a sequence.
+unfoldable pub run : Plan → List Event → State → State
+run p [] s = s
+run p (e ∷ es) s = run p es (after p e s)
+
+-- The copy that an event enters, if it is an accepted entry.
+unfoldable pub entryOf : Plan → Event → State → Option Copy
+entryOf p (enters k v) s = cond (eqb (answerOf p (enters k v) s .number) DONE) (some (copy k RESULT v (s .clock))) none
+entryOf p (withdraws k) s = cond (eqb (answerOf p (withdraws k) s .number) DONE) (some (copy k WITHDRAWN 0 (s .clock))) none
+entryOf p (carries n i) s = none
+entryOf p (starts k) s = none
+entryOf p (steps i) s = none
+entryOf p (cancels i) s = none
+entryOf p asks s = none
+
+abbrev pub optionList : Option Copy → List Copy
+optionList none = []
+optionList (some x) = x ∷ []
+
+-- The copies entered by a sequence, in order.
+unfoldable pub entered : Plan → List Event → State → List Copy
+entered p [] s = []
+entered p (e ∷ es) s = optionList (entryOf p e s) ++ entered p es (after p e s)
+
+abbrev pub ofLine : ℕ → Option Copy → Bool
+ofLine k none = false
+ofLine k (some x) = eqb (x .key) k
+
+-- The accepted entries of a line, withdrawals included.
+unfoldable pub entries : Plan → ℕ → List Event → State → ℕ
+entries p k [] s = 0
+entries p k (e ∷ es) s = bit (ofLine k (entryOf p e s)) + entries p k es (after p e s)
+
+-- "A carry carries a line exactly when the node had its copy before and lacks it after."
+unfoldable pub carriesLine : Plan → ℕ → Event → State → Bool
+carriesLine p k (carries n i) s = isSome (line s k n) && not (isSome (line (after p (carries n i) s) k n))
+carriesLine p k (enters j v) s = false
+carriesLine p k (withdraws j) s = false
+carriesLine p k (starts j) s = false
+carriesLine p k (steps i) s = false
+carriesLine p k (cancels i) s = false
+carriesLine p k asks s = false
+
+-- The copies of a line carried, summed over a sequence.
+unfoldable pub carried : Plan → ℕ → List Event → State → ℕ
+carried p k [] s = 0
+carried p k (e ∷ es) s = bit (carriesLine p k e s) + carried p k es (after p e s)
+
+-- The search in a slot goes on through an event: it is not cancelled, and a step of its own does not end it.
+unfoldable pub goesOnThrough : Plan → ℕ → Event → State → Bool
+goesOnThrough p i (steps j) s = not (eqb j i) || eqb (answerOf p (steps j) s .number) GOING
+goesOnThrough p i (cancels j) s = not (eqb j i)
+goesOnThrough p i (enters k v) s = true
+goesOnThrough p i (withdraws k) s = true
+goesOnThrough p i (carries n j) s = true
+goesOnThrough p i (starts k) s = true
+goesOnThrough p i asks s = true
+
+unfoldable pub goesOn : Plan → ℕ → List Event → State → Bool
+goesOn p i [] s = true
+goesOn p i (e ∷ es) s = goesOnThrough p i e s && goesOn p i es (after p e s)
+
+-- A search's own steps in a sequence.
+unfoldable pub isOwnStep : ℕ → Event → Bool
+isOwnStep i (steps j) = eqb j i
+isOwnStep i (enters k v) = false
+isOwnStep i (withdraws k) = false
+isOwnStep i (carries n j) = false
+isOwnStep i (starts k) = false
+isOwnStep i (cancels j) = false
+isOwnStep i asks = false
+
+unfoldable pub ownSteps : ℕ → List Event → ℕ
+ownSteps i [] = 0
+ownSteps i (e ∷ es) = bit (isOwnStep i e) + ownSteps i es
+
+-- The sequence that reaches demand 3's bound: enter the line, carry it down its whole path, and again, so many times.
+unfoldable pub edgeFor : List Edge → ℕ → ℕ
+edgeFor [] k = 0
+edgeFor (e ∷ es) k = cond (holds e k) 0 (suc (edgeFor es k))
+
+unfoldable pub carriesDown : Plan → ℕ → List ℕ → List Event
+carriesDown p k [] = []
+carriesDown p k (n ∷ []) = []
+carriesDown p k (n ∷ m ∷ ns) = carries n (edgeFor (edgesOf p n) k) ∷ carriesDown p k (m ∷ ns)
+
+unfoldable pub rounds : Plan → ℕ → ℕ → ℕ → List Event
+rounds p k v zero = []
+rounds p k v (suc r) = enters k v ∷ carriesDown p k (path p k) ++ rounds p k v r

@@ -1,0 +1,69 @@
+-- The paper's words (source document 004, sections 3 and 6) for a store's state: contents, edgesets, the upsert history and the
+-- logical contents.
+use mathlib.Core.Path.{_≡_}
+use mathlib.Core.Bool.{true}
+use mathlib.Core.List.{List, List·Memᴰ}
+use mathlib.Core.Option.{Option, none, some}
+use mathlib.Core.Logic.{_⊎_}
+use Prim.Native.Nat.{ℕ, _<_, _≤_}
+use Rattle.plan.specs.declared.Hop.the-variants.{To}
+use Rattle.plan.specs.Plan.{Plan, size, edgesOf, edgeOf, holds}
+use Rattle.plan.specs.PlanRules.{IsEdge}
+use Rattle.store.specs.declared.Copy.{Copy}
+use Rattle.store.specs.Copies.{stampOf}
+use Rattle.store.specs.State.{State, line, inReach}
+
+-- Contents: C_n(k), the copy of the key in the node, or nothing.
+abbrev pub Contents : State → ℕ → ℕ → Option Copy
+Contents s n k = line s k n
+
+-- Edgeset: the key is in es(n, m).
+pub record Edgeset (p : Plan) (n m k : ℕ) : Type 0 where
+  pub edge : ℕ
+  pub is-edge : IsEdge p n edge
+  pub target : edgeOf p n edge .target ≡ m
+  pub key : holds (edgeOf p n edge) k ≡ true
+
+-- Contents-in-reach: C_ir(n)(k).
+abbrev pub ContentsInReach : Plan → State → ℕ → ℕ → Option Copy
+ContentsInReach p s n k = inReach p s k (To n)
+
+-- The upsert history: the copies entered or loaded so far, and for every key the copy "never" of stamp 0.
+abbrev pub History : Type 0
+History = List Copy
+
+-- (k, (v, t)) is in H: a copy of the key entered or loaded, or never, at stamp 0.
+abbrev pub InHistory : History → ℕ → Option Copy → Type 0
+InHistory h k none = Unit {0}
+InHistory h k (some x) = (x .key ≡ k) × List·Memᴰ x h
+
+-- HInit: "never" of every key is in the history.
+abbrev pub HInit : History → Type 0
+HInit h = (k : ℕ) → InHistory h k none
+
+-- HUnique: a key and a stamp have one copy, and no copy has the stamp of "never".
+pub record HUnique (h : History) : Type 0 where
+  pub one : (x y : Copy) → List·Memᴰ x h → List·Memᴰ y h → x .stamp ≡ y .stamp → x ≡ y
+  pub above-never : (x : Copy) → List·Memᴰ x h → 1 ≤ x .stamp
+
+-- HClock: every stamp in the history is below the clock.
+abbrev pub HClock : ℕ → History → Type 0
+HClock t h = (x : Copy) → List·Memᴰ x h → x .stamp < t
+
+-- The logical contents: of the copies of the key in the history the one with the greatest stamp, or never.
+pub record Logical (h : History) (k : ℕ) (o : Option Copy) : Type 0 where
+  pub in-history : InHistory h k o
+  pub greatest : (x : Copy) → x .key ≡ k → List·Memᴰ x h → x .stamp ≤ stampOf o
+
+-- The paper's structure: what holds of a state and its history at all times.
+pub record Multicopy (p : Plan) (s : State) (h : History) : Type 0 where
+  -- "the edgesets of all outgoing edges of a node n are pairwise disjoint"
+  pub edgesets-disjoint : (n m l k : ℕ) → Edgeset p n m k → Edgeset p n l k → m ≡ l
+  pub h-init : HInit h
+  pub h-unique : HUnique h
+  -- Invariant 4, HClock: "All timestamps in H are smaller than the current time of the global clock"
+  pub h-clock : HClock (s .clock) h
+  -- Invariant 1: "The logical contents .. is the contents-in-reach of its root node"
+  pub invariant-1 : (k : ℕ) → Logical h k (ContentsInReach p s 0 k)
+  -- Invariant 3: "for all nodes n, C_n ⊆ H"
+  pub invariant-3 : (n k : ℕ) → InHistory h k (Contents s n k)

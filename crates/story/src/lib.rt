@@ -1,0 +1,1 @@
+// The demands, proved over all sequences of calls. No code.
