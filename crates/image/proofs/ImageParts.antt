@@ -37,7 +37,7 @@ pub record Writable (x : Copy) : Type 0 where
   pub value : x .value ≤ lastValue
   pub stamp : x .stamp ≤ lastClock
 
-kind-small : (x : Copy) → KindAndValue x → x .kind < 2
+pub kind-small : (x : Copy) → KindAndValue x → x .kind < 2
 kind-small x (inl r) = omega arith
 kind-small x (inr w) = let k = w .0 in omega arith
 
@@ -90,6 +90,15 @@ pub record WritableNodes (p : Plan) (ns : List (List Copy)) : Type 0 where
   pub room : (n : ℕ) → n < size p → (length (getD ns n []) ≤ capacityOf p n) × (capacityOf p n ≤ mostCapacity)
   pub copies : (n i : ℕ) → n < size p → i < length (getD ns n []) → Writable (getD (getD ns n []) i noCopy)
 
+-- So can the nodes after the first.
+pub rest-writable : {n : Node} {p : Plan} {xs : List Copy} {ns : List (List Copy)} → WritableNodes (n ∷ p) (xs ∷ ns) → WritableNodes p ns
+rest-writable w =
+    record {
+      lists = omega (arith, w .lists);
+      room = λ m g. w .room (suc m) (omega arith);
+      copies = λ m i g j. w .copies (suc m) i (omega arith) j;
+    }
+
 pub nodes-back : {s : List ℕ} {at : ℕ} (p : Plan) (ns : List (List Copy)) {next : ℕ} → WritableNodes p ns → Stands s at (nodesBytes ns) next
     → nodesAt s p at ≡ got ns next
 unfolding nodesAt nodesBytes
@@ -98,15 +107,8 @@ nodes-back [] (xs ∷ ns) w h = absurd (omega (arith, w .lists))
 nodes-back (n ∷ p) [] w h = absurd (omega (arith, w .lists))
 nodes-back (n ∷ p) (xs ∷ ns) w h =
     let r = w .room 0 (omega arith) in
-    let l = w .lists in
-    let rest : WritableNodes p ns =
-        record {
-          lists = omega arith;
-          room = λ m g. w .room (suc m) (omega arith);
-          copies = λ m i g j. w .copies (suc m) i (omega arith) j;
-        } in
     bind-got _ _ (node-back (n .capacity) xs (r .0) (r .1) (λ i g. w .copies 0 i (omega arith) g) (stands-left (nodeBytes xs) (nodesBytes ns) h))
-    ∙ bind-got _ _ (nodes-back p ns rest (stands-right (nodeBytes xs) (nodesBytes ns) h))
+    ∙ bind-got _ _ (nodes-back p ns (rest-writable w) (stands-right (nodeBytes xs) (nodesBytes ns) h))
 
 -- ---- what is read stands there
 

@@ -56,7 +56,7 @@ image-back plan t p c w h =
 
 -- The nodes of a store that keeps the rules can be written.
 module _ (z : Store) (rules : StoreRules z) (declared : Declared z) where
-  nodes-writable : WritableNodes (planOf (z .plan)) (stateOf z .nodes)
+  pub nodes-writable : WritableNodes (planOf (z .plan)) (stateOf z .nodes)
   nodes-writable =
       record {
         lists = length-nodes z;
