@@ -1,3 +1,4 @@
 pub mod EventSteps
 pub mod InReach
 pub mod Invariants
+pub mod Updates
