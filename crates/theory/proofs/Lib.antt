@@ -2,3 +2,4 @@ pub mod EventSteps
 pub mod InReach
 pub mod Invariants
 pub mod Updates
+pub mod Searching
