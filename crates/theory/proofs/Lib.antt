@@ -3,3 +3,4 @@ pub mod InReach
 pub mod Invariants
 pub mod Updates
 pub mod Searching
+pub mod Recency

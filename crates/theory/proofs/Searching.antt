@@ -38,7 +38,7 @@ use Rattle.steps.proofs.WaysOut.Visit.{finds, never, goes}
 use Rattle.steps.proofs.WaysOut.Freed.{freed}
 use Rattle.steps.proofs.LineSteps.{slot-set, slot-other, entry-slots, carry-slots}
 use Rattle.steps.proofs.OnPaths.{on-path-in-plan}
-use Rattle.theory.specs.Events.{Event, effect, after, answerOf, run, goesOnThrough, goesOn, isOwnStep, ownSteps, cancelsSlot, notCancelled}
+use Rattle.theory.specs.Events.{Event, effect, after, answerOf, run, goesOnThrough, goesOn, isOwnStep, ownSteps, cancelsSlot, notCancelled, EndsIn}
 use Rattle.theory.specs.Events.Event.{enters, withdraws, carries, starts, steps, cancels, asks}
 use Rattle.theory.proofs.EventSteps.{event-keeps, run-keeps}
 use Rattle.theory.proofs.Invariants.{reach-increases}
@@ -276,15 +276,7 @@ module _ (p : Plan) (rules : PlanRules p) (k t₀ i : ℕ) where
       (goes-through s good v r e (and-left (goesOnThrough p i e s) (goesOn p i es (after p e s)) t))
       (and-right (goesOnThrough p i e s) (goesOn p i es (after p e s)) t))
 
-  -- A sequence with as many steps of its own as are left on the path, in which it is not cancelled, ends it.
-  pub record EndsIn (es : List Event) (s : State) : Type 0 where
-    pub first : List Event
-    pub rest : List Event
-    pub parts : es ≡ first ++ steps i ∷ rest
-    pub until : goesOn p i first s ≡ true
-    pub done : answerOf p (steps i) (run p first s) .number ≡ DONE
-
-  later : (e : Event) (es : List Event) (s : State) → goesOnThrough p i e s ≡ true → EndsIn es (after p e s) → EndsIn (e ∷ es) s
+  later : (e : Event) (es : List Event) (s : State) → goesOnThrough p i e s ≡ true → EndsIn p i es (after p e s) → EndsIn p i (e ∷ es) s
   unfolding goesOn run
   later e es s t w =
       record {
@@ -295,8 +287,9 @@ module _ (p : Plan) (rules : PlanRules p) (k t₀ i : ℕ) where
         done = w .done;
       }
 
+  -- A sequence with as many steps of its own as are left on the path, in which it is not cancelled, ends it.
   pub ends-in : (es : List Event) (s : State) → StateRules p s → (v : ℕ) → Searches p k t₀ i v s → notCancelled i es ≡ true
-      → length (path p k) ≤ ownSteps i es + v → EndsIn es s
+      → length (path p k) ≤ ownSteps i es + v → EndsIn p i es s
   unfolding notCancelled ownSteps goesOn run
   ends-in [] s good v r c h = absurd (omega (arith, in-time s good v r))
   ends-in (e ∷ es) s good v r c h =
@@ -311,15 +304,15 @@ module _ (p : Plan) (rules : PlanRules p) (k t₀ i : ℕ) where
 
       go : (isOwnStep i e ≡ true) ⊎ (isOwnStep i e ≡ false)
           → ((v : ℕ) → Searches p k t₀ i v (after p e s) → notCancelled i es ≡ true → length (path p k) ≤ ownSteps i es + v
-              → EndsIn es (after p e s))
-          → EndsIn (e ∷ es) s
+              → EndsIn p i es (after p e s))
+          → EndsIn p i (e ∷ es) s
       go (inl a) ih = own (own-step s good v r)
         where
           is : e ≡ steps i
           is = own-event i e a
 
           own : Finishes p k t₀ i v s ⊎ (Searches p k t₀ i (suc v) (after p (steps i) s) × (answerOf p (steps i) s .number ≡ GOING))
-              → EndsIn (e ∷ es) s
+              → EndsIn p i (e ∷ es) s
           own (inl f) =
               record {
                 first = [];

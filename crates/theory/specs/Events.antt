@@ -1,10 +1,10 @@
 -- Sequences of steps on a state, over any plan, and what is counted over them.
+use mathlib.Core.Path.{_≡_}
 use mathlib.Core.Bool.{Bool, true, false, cond, not, _&&_, _||_}
 use mathlib.Core.List.{List, [], _∷_, _++_}
 use mathlib.Core.Option.{Option, none, some}
 use Prim.Native.Nat.{ℕ, zero, suc, _+_}
 use lib.Dec.{eqb}
-use lib.ListN.{length}
 use Rattle.plan.specs.declared.Edge.{Edge}
 use Rattle.plan.specs.Plan.{Plan, edgesOf, holds, path}
 use Rattle.store.specs.declared.Answer.{Answer}
@@ -131,6 +131,14 @@ cancelsSlot i asks = false
 unfoldable pub notCancelled : ℕ → List Event → Bool
 notCancelled i [] = true
 notCancelled i (e ∷ es) = not (cancelsSlot i e) && notCancelled i es
+
+-- The search in a slot ends in a sequence: by a step of its own that says DONE, having gone on until then.
+pub record EndsIn (p : Plan) (i : ℕ) (es : List Event) (s : State) : Type 0 where
+  pub first : List Event
+  pub rest : List Event
+  pub parts : es ≡ first ++ steps i ∷ rest
+  pub until : goesOn p i first s ≡ true
+  pub done : answerOf p (steps i) (run p first s) .number ≡ DONE
 
 -- The sequence that reaches demand 3's bound: enter the line, carry it down its whole path, and again, so many times.
 unfoldable pub edgeFor : List Edge → ℕ → ℕ
