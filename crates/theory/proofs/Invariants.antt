@@ -44,11 +44,10 @@ use Rattle.steps.specs.Carries.{bit}
 use Rattle.steps.proofs.RulesOnLines.{line-rules, line-key, line-held, held-line}
 use Rattle.steps.proofs.LineSteps.{LineThrough}
 use Rattle.steps.proofs.LineSteps.LineStep.{same, enters, carries}
-use Rattle.theory.specs.Events.{Event, effect, after, run, entryOf, optionList, entered, ofLine, carriesLine}
+use Rattle.theory.specs.Events.{Event, effect, after, run, entryOf, optionList, entered, held, ofLine, carriesLine}
 use Rattle.theory.specs.Paper.{
   ContentsInReach,
   History,
-  held,
   InHistory,
   HUnique,
   HClock,

@@ -4,3 +4,5 @@ pub mod Invariants
 pub mod Updates
 pub mod Searching
 pub mod Recency
+pub mod Looks
+pub mod Bound

@@ -31,9 +31,9 @@ use Rattle.store.specs.Copies.{stampOf}
 use Rattle.store.specs.State.{State, line, inReach, current}
 use Rattle.store.specs.StateRules.{StateRules}
 use Rattle.steps.specs.Searches.{ended}
-use Rattle.theory.specs.Events.{Event, effect, after, answerOf, run, entryOf, optionList, entered, goesOn, ownSteps, notCancelled, EndsIn}
+use Rattle.theory.specs.Events.{Event, effect, after, answerOf, run, entryOf, optionList, entered, held, goesOn, ownSteps, notCancelled, EndsIn}
 use Rattle.theory.specs.Events.Event.{starts, steps}
-use Rattle.theory.specs.Paper.{History, InHistory, held, upserted, Multicopy, SearchRecency}
+use Rattle.theory.specs.Paper.{History, InHistory, upserted, Multicopy, SearchRecency}
 use Rattle.theory.proofs.EventSteps.{event-keeps, run-keeps, run-append}
 use Rattle.theory.proofs.InReach.{in-reach-held}
 use Rattle.theory.proofs.Invariants.{history-in, in-history, member-option, entered-append, multicopy}

@@ -23,7 +23,7 @@ use Rattle.plan.proofs.NextLaws.{next-down}
 use Rattle.store.specs.declared.Answer.{Answer}
 use Rattle.store.specs.declared.Copy.{Copy}
 use Rattle.store.specs.declared.Slot.{Slot}
-use Rattle.store.specs.Answers.{DONE, GOING, answer}
+use Rattle.store.specs.Answers.{DONE, GOING, SLOTS, answer}
 use Rattle.store.specs.Copies.{RESULT, WITHDRAWN, stampOf}
 use Rattle.store.specs.State.{State, slotAt, slotCount, idle, line, orElse, inReach, current}
 use Rattle.store.specs.StateRules.{OnPath, StateRules}
@@ -44,7 +44,7 @@ use Rattle.theory.proofs.EventSteps.{event-keeps, run-keeps}
 use Rattle.theory.proofs.Invariants.{reach-increases}
 
 -- A slot that runs is one of the slots.
-slot-there : (s : State) (i : ℕ) → slotAt s i .running ≢ 0 → i < length (s .slots)
+pub slot-there : (s : State) (i : ℕ) → slotAt s i .running ≢ 0 → i < length (s .slots)
 slot-there s i r = go (decLt i (length (s .slots)))
   where
     go : Dec (i < length (s .slots)) → i < length (s .slots)
@@ -128,12 +128,12 @@ module _ (p : Plan) (s : State) (i : ℕ) where
   goes-on-if (starts k) a b = refl
   goes-on-if asks a b = refl
 
-  own-goes-on : goesOnThrough p i (steps i) s ≡ (eqb (answerOf p (steps i) s .number) GOING)
+  pub own-goes-on : goesOnThrough p i (steps i) s ≡ (eqb (answerOf p (steps i) s .number) GOING)
   unfolding goesOnThrough
   own-goes-on = rw (eq-eqb i i refl)
 
   -- A step of a running search is a visit of the node where it stands.
-  own-visit : (k n v : ℕ) → slotAt s i ≡ running k n v → stepStep i p s ≡ visited (line s k n) (next p n k) i (running k n v) s
+  pub own-visit : (k n v : ℕ) → slotAt s i ≡ running k n v → stepStep i p s ≡ visited (line s k n) (next p n k) i (running k n v) s
   unfolding stepStep withRunning
   own-visit k n v e =
       let r : slotAt s i .running ≢ 0 = λ z. let one = ap (λ (q : Slot). q .running) e in omega arith in
@@ -333,18 +333,22 @@ module _ (p : Plan) (rules : PlanRules p) (k t₀ i : ℕ) where
           (ih v (others-pass s good v r e a b) left (let none-own : bit (isOwnStep i e) ≡ 0 = ap bit a in omega arith))
 
 -- A search that has just been started stands at the root after 0 visits.
-pub just-started : (p : Plan) → PlanRules p → (s : State) → StateRules p s → (k i : ℕ) → answerOf p (starts k) s ≡ answer DONE i 0 0 0
-    → Searches p k (stampOf (current p s k)) i 0 (after p (starts k) s)
+pub started-slot : (p : Plan) (s : State) (k i : ℕ) → answerOf p (starts k) s ≡ answer DONE i 0 0 0
+    → slotAt (after p (starts k) s) i ≡ running k 0 0
 unfolding effect
-just-started p rules s good k i h =
-    record {
-      node = 0;
-      at = go (start-way k p s) h;
-      recent = reach-increases p rules s good (starts k) 0 k (root-in-plan p rules k);
-    }
+started-slot p s k i h = go (start-way k p s) h
   where
     go : {o : Effect} → StartWay k s o → o .answer ≡ answer DONE i 0 0 0 → slotAt (o .after) i ≡ running k 0 0
-    go (all-running f) e = let z : _≡_ {A = ℕ} 8 0 = ap (λ (a : Answer). a .number) e in absurd (omega arith)
+    go (all-running f) e = let z : SLOTS ≡ DONE = ap (λ (a : Answer). a .number) e in absurd (omega arith)
     go (taken j f g l) e =
         let its : j ≡ i = ap (λ (a : Answer). a .a) e in
         subst (λ (n : ℕ). slotAt (withSlot j (running k 0 0) s) n ≡ running k 0 0) its (slot-set j (running k 0 0) s f)
+
+pub just-started : (p : Plan) → PlanRules p → (s : State) → StateRules p s → (k i : ℕ) → answerOf p (starts k) s ≡ answer DONE i 0 0 0
+    → Searches p k (stampOf (current p s k)) i 0 (after p (starts k) s)
+just-started p rules s good k i h =
+    record {
+      node = 0;
+      at = started-slot p s k i h;
+      recent = reach-increases p rules s good (starts k) 0 k (root-in-plan p rules k);
+    }
