@@ -61,6 +61,12 @@ pub enum Found {
     Nothing,
 }
 
+impl Copy {
+    pub const WITHDRAWN: u32 = 0;
+
+    pub const RESULT: u32 = 1;
+}
+
 impl Answer {
     pub const DONE: u32 = 0;
 
