@@ -1,2 +1,4 @@
 pub mod Walking
 pub mod Resting
+pub mod Reaching
+pub mod Copying
