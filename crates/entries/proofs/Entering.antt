@@ -115,7 +115,7 @@ module _ (kind k v : ℕ) (p : Plan) (s : State) where
   unfolding entry
   has-room h e = rw (lt-ltb (s .clock) lastClock h, e)
 
-module _ (z : Store) (good : goodStore z ≡ true) (kind k v : ℕ) where
+module _ (z : Store) (good : goodStore z ≡ true) where
   abbrev p : Plan
   p = planOf (z .plan)
 
@@ -125,9 +125,6 @@ module _ (z : Store) (good : goodStore z ≡ true) (kind k v : ℕ) where
   abbrev root : List Copy
   root = nodeAt s 0
 
-  abbrev x : Copy
-  x = copy k kind v (z .clock)
-
   root-listed : 0 < length (s .nodes)
   root-listed = omega (arith, length-nodes z, root-there z good)
 
@@ -136,6 +133,10 @@ module _ (z : Store) (good : goodStore z ≡ true) (kind k v : ℕ) where
 
   pub root-fits : countOf z 0 ≤ width
   root-fits = count-fits z good 0 (omega arith)
+
+  -- A free place by the root's capacity is one of its places.
+  pub has-place : (most : ℕ) → most ≡ capacityOf p 0 → countOf z 0 < most → countOf z 0 < width
+  has-place most e h = omega (arith, plan-good z good .capacity-1-to-64 0 (root-there z good))
 
   pub root-rises : RisesIn (z .keys) 0 (countOf z 0)
   root-rises = node-rises z good 0 0 (countOf z 0) (omega arith) (omega arith) (omega arith)
@@ -164,111 +165,115 @@ module _ (z : Store) (good : goodStore z ≡ true) (kind k v : ℕ) where
   unfolding storeOf
   stamps-are = ap (λ (y : Store). y .stamps) (sym (good-back z good))
 
-  -- A store with the columns of the root that the copy was put into.
-  entered-is : (counts keys kinds values stamps : List ℕ) → counts ≡ set (z .counts) 0 (length (put keyOf x root))
-      → keys ≡ column (λ (y : Copy). y .key) (set (s .nodes) 0 (put keyOf x root))
-      → kinds ≡ column (λ (y : Copy). y .kind) (set (s .nodes) 0 (put keyOf x root))
-      → values ≡ column (λ (y : Copy). y .value) (set (s .nodes) 0 (put keyOf x root))
-      → stamps ≡ column (λ (y : Copy). y .stamp) (set (s .nodes) 0 (put keyOf x root))
-      → record {
-        plan = z .plan;
-        clock = z .clock + 1;
-        counts = counts;
-        keys = keys;
-        kinds = kinds;
-        values = values;
-        stamps = stamps;
-        slots = z .slots;
-      } ≡ storeOf (z .plan) (entered x s)
-  unfolding entered
-  entered-is counts keys kinds values stamps n a b c d =
-      store-is (z .plan) (entered x s) _ refl (omega (arith, state-clock z))
-      (n ∙ ap (λ (l : List ℕ). set l 0 (length (put keyOf x root))) counts-are ∙ sym (counts-written (set-one (s .nodes) 0 (put keyOf x root) root-listed)))
-      a b c d (sym (state-slots z))
+  module _ (kind k v : ℕ) where
+    abbrev x : Copy
+    x = copy k kind v (z .clock)
 
-  -- "CLOCK: entry at clock 4294967295"
-  pub entry-at-last-clock : (a : Answer) → a ≡ bare CLOCK → lastClock ≤ z .clock → record { answer = a; store = z } ≡ onStore (entry kind k v) z
-  unfolding stateOf
-  entry-at-last-clock a e h =
-      rw e (on-refusal (entry kind k v) z good CLOCK (at-last kind k v p s h))
+    -- A store with the columns of the root that the copy was put into.
+    entered-is : (counts keys kinds values stamps : List ℕ) → counts ≡ set (z .counts) 0 (length (put keyOf x root))
+        → keys ≡ column (λ (y : Copy). y .key) (set (s .nodes) 0 (put keyOf x root))
+        → kinds ≡ column (λ (y : Copy). y .kind) (set (s .nodes) 0 (put keyOf x root))
+        → values ≡ column (λ (y : Copy). y .value) (set (s .nodes) 0 (put keyOf x root))
+        → stamps ≡ column (λ (y : Copy). y .stamp) (set (s .nodes) 0 (put keyOf x root))
+        → record {
+          plan = z .plan;
+          clock = z .clock + 1;
+          counts = counts;
+          keys = keys;
+          kinds = kinds;
+          values = values;
+          stamps = stamps;
+          slots = z .slots;
+        } ≡ storeOf (z .plan) (entered x s)
+    unfolding entered
+    entered-is counts keys kinds values stamps n a b c d =
+        store-is (z .plan) (entered x s) _ refl (omega (arith, state-clock z))
+        (n ∙ ap (λ (l : List ℕ). set l 0 (length (put keyOf x root))) counts-are ∙ sym (counts-written (set-one (s .nodes) 0 (put keyOf x root) root-listed)))
+        a b c d (sym (state-slots z))
 
-  module _ (early : z .clock < lastClock) (at : ℕ) (place : at ≡ placeIn (z .keys) 0 (countOf z 0) k) where
-    at-below : at ≡ below keyOf root k
-    at-below =
-        let e = node-place z 0 0 (countOf z 0) k (omega arith) (omega arith) in
-        let n = state-node z 0 (root-there z good) in
-        rw n (omega arith)
-
-    pub at-most : at ≤ countOf z 0
-    at-most = omega (arith, at-below, below-length keyOf root k, root-count)
-
-    -- An entry that the root has room for.
-    done : (a : Answer) (r : Store) → a ≡ answer DONE (z .clock) 0 0 0 → r ≡ storeOf (z .plan) (entered x s)
-        → room keyOf (capacityOf p 0) root k ≡ true → record { answer = a; store = r } ≡ onStore (entry kind k v) z
+    -- "CLOCK: entry at clock 4294967295"
+    pub entry-at-last-clock : (a : Answer) → a ≡ bare CLOCK → lastClock ≤ z .clock → record { answer = a; store = z } ≡ onStore (entry kind k v) z
     unfolding stateOf
-    done a r e q h =
-        rw e (on-way (entry kind k v) z good (answer DONE (z .clock) 0 0 0) (entered x s) r (has-room kind k v p s early h) q)
+    entry-at-last-clock a e h =
+        rw e (on-refusal (entry kind k v) z good CLOCK (at-last kind k v p s h))
 
-    -- "A root copy of that key is replaced",
-    module _ (held : at < countOf z 0) (same : getD (z .keys) at 0 ≡ k) where
-      replaced : put keyOf x root ≡ set root at x
-      replaced = put-replaced keyOf noCopy x root at at-below (omega (arith, root-count)) (sym (root-key at held) ∙ same)
+    module _ (early : z .clock < lastClock) (at : ℕ) (place : at ≡ placeIn (z .keys) 0 (countOf z 0) k) where
+      at-below : at ≡ below keyOf root k
+      at-below =
+          let e = node-place z 0 0 (countOf z 0) k (omega arith) (omega arith) in
+          let n = state-node z 0 (root-there z good) in
+          rw n (omega arith)
 
-      over : (part : Copy → ℕ) (c : List ℕ) → c ≡ column part (s .nodes) → set c at (part x) ≡ column part (set (s .nodes) 0 (put keyOf x root))
-      over part c e =
-          ap (λ (l : List ℕ). set l at (part x)) e
-          ∙ (rw zero-add at (copy-written part (s .nodes) 0 at x root-listed (omega arith) (omega (arith, root-count)) (omega (arith, root-fits))))
-          ∙ ap (λ (ys : List Copy). column part (set (s .nodes) 0 ys)) (sym replaced)
+      pub at-most : at ≤ countOf z 0
+      at-most = omega (arith, at-below, below-length keyOf root k, root-count)
 
-      over-is : overCopy z at kind v ≡ storeOf (z .plan) (entered x s)
-      over-is =
-          entered-is (z .counts) (z .keys) (set (z .kinds) at kind) (set (z .values) at v) (set (z .stamps) at (z .clock))
-          (sym (set-getD (z .counts) 0 0) ∙ ap (λ (n : ℕ). set (z .counts) 0 n) (sym (ap length replaced ∙ length-set root at x ∙ root-count)))
-          (sym (set-getD (z .keys) at 0) ∙ ap (λ (n : ℕ). set (z .keys) at n) same ∙ over (λ (y : Copy). y .key) (z .keys) keys-are)
-          (over (λ (y : Copy). y .kind) (z .kinds) kinds-are) (over (λ (y : Copy). y .value) (z .values) values-are)
-          (over (λ (y : Copy). y .stamp) (z .stamps) stamps-are)
-
-      pub entry-replaced : (a : Answer) (r : Store) → a ≡ answer DONE (z .clock) 0 0 0 → r ≡ overCopy z at kind v
-          → record { answer = a; store = r } ≡ onStore (entry kind k v) z
-      entry-replaced a r e q = done a r e (q ∙ over-is) (room-has keyOf (capacityOf p 0) root k (getD root at noCopy) found)
-        where
-          found : find keyOf root k ≡ some (getD root at noCopy)
-          found =
-              find-rising keyOf noCopy root (state-good z good .keys-strictly-rise 0) k at (omega (arith, root-count)) (sym (root-key at held) ∙ same)
-
-    module _ (lacks : at < countOf z 0 → getD (z .keys) at 0 ≡ k → ⊥) where
-      added : put keyOf x root ≡ take at root ++ x ∷ drop at root
-      added = put-added keyOf noCopy x root at at-below (λ h e. let l = root-count in lacks (omega arith) (root-key at (omega arith) ∙ e))
-
-      between : (part : Copy → ℕ) (c : List ℕ) → c ≡ column part (s .nodes) → countOf z 0 < width
-          → opened c at (countOf z 0) (part x) ≡ column part (set (s .nodes) 0 (put keyOf x root))
-      between part c e h =
-          ap (λ (l : List ℕ). opened l at (countOf z 0) (part x)) e
-          ∙ (rw (zero-add, zero-add, root-count) at (copy-opened part (s .nodes) 0 at x root-listed (omega arith) (omega (arith, at-most, root-count)) (omega (arith, root-count))))
-          ∙ ap (λ (ys : List Copy). column part (set (s .nodes) 0 ys)) (sym added)
-
-      with-is : countOf z 0 < width → withCopy z at (countOf z 0) k kind v ≡ storeOf (z .plan) (entered x s)
-      with-is h =
-          entered-is _ _ _ _ _
-          (ap (λ (n : ℕ). set (z .counts) 0 n) (omega (arith, ap length added, length-put-in x root at (omega (arith, at-most, root-count)), root-count)))
-          (between (λ (y : Copy). y .key) (z .keys) keys-are h) (between (λ (y : Copy). y .kind) (z .kinds) kinds-are h)
-          (between (λ (y : Copy). y .value) (z .values) values-are h) (between (λ (y : Copy). y .stamp) (z .stamps) stamps-are h)
-
-      -- "otherwise one is added if the root has a free place".
-      pub entry-added : (a : Answer) (r : Store) → a ≡ answer DONE (z .clock) 0 0 0 → r ≡ withCopy z at (countOf z 0) k kind v
-          → countOf z 0 < capacityOf p 0 → record { answer = a; store = r } ≡ onStore (entry kind k v) z
-      entry-added a r e q h = done a r e (q ∙ with-is (omega (arith, plan-good z good .capacity-1-to-64 0 (root-there z good)))) (room-free keyOf (capacityOf p 0) root k (omega (arith, root-count)))
-
-      missing : find keyOf root k ≡ none
-      missing = find-none keyOf noCopy root (state-good z good .keys-strictly-rise 0) k
-          (λ h e. let l = root-count in let b = at-below in lacks (omega arith) (root-key at (omega arith) ∙ rw at-below e))
-
-      -- "FULL: root full and lacks the key"
-      pub entry-full : (a : Answer) → a ≡ bare FULL → capacityOf p 0 ≤ countOf z 0 → record { answer = a; store = z } ≡ onStore (entry kind k v) z
+      -- An entry that the root has room for.
+      done : (a : Answer) (r : Store) → a ≡ answer DONE (z .clock) 0 0 0 → r ≡ storeOf (z .plan) (entered x s)
+          → room keyOf (capacityOf p 0) root k ≡ true → record { answer = a; store = r } ≡ onStore (entry kind k v) z
       unfolding stateOf
-      entry-full a e h =
-          rw e
-          (on-refusal (entry kind k v) z good FULL (no-room kind k v p s early (room-none keyOf (capacityOf p 0) root k missing (omega (arith, root-count)))))
+      done a r e q h =
+          rw e (on-way (entry kind k v) z good (answer DONE (z .clock) 0 0 0) (entered x s) r (has-room kind k v p s early h) q)
+
+      -- "A root copy of that key is replaced",
+      module _ (held : at < countOf z 0) (same : getD (z .keys) at 0 ≡ k) where
+        replaced : put keyOf x root ≡ set root at x
+        replaced = put-replaced keyOf noCopy x root at at-below (omega (arith, root-count)) (sym (root-key at held) ∙ same)
+
+        over : (part : Copy → ℕ) (c : List ℕ) → c ≡ column part (s .nodes) → set c at (part x) ≡ column part (set (s .nodes) 0 (put keyOf x root))
+        over part c e =
+            ap (λ (l : List ℕ). set l at (part x)) e
+            ∙ (rw zero-add at (copy-written part (s .nodes) 0 at x root-listed (omega arith) (omega (arith, root-count)) (omega (arith, root-fits))))
+            ∙ ap (λ (ys : List Copy). column part (set (s .nodes) 0 ys)) (sym replaced)
+
+        over-is : overCopy z at kind v ≡ storeOf (z .plan) (entered x s)
+        over-is =
+            entered-is (z .counts) (z .keys) (set (z .kinds) at kind) (set (z .values) at v) (set (z .stamps) at (z .clock))
+            (sym (set-getD (z .counts) 0 0) ∙ ap (λ (n : ℕ). set (z .counts) 0 n) (sym (ap length replaced ∙ length-set root at x ∙ root-count)))
+            (sym (set-getD (z .keys) at 0) ∙ ap (λ (n : ℕ). set (z .keys) at n) same ∙ over (λ (y : Copy). y .key) (z .keys) keys-are)
+            (over (λ (y : Copy). y .kind) (z .kinds) kinds-are) (over (λ (y : Copy). y .value) (z .values) values-are)
+            (over (λ (y : Copy). y .stamp) (z .stamps) stamps-are)
+
+        pub entry-replaced : (a : Answer) (r : Store) → a ≡ answer DONE (z .clock) 0 0 0 → r ≡ overCopy z at kind v
+            → record { answer = a; store = r } ≡ onStore (entry kind k v) z
+        entry-replaced a r e q = done a r e (q ∙ over-is) (room-has keyOf (capacityOf p 0) root k (getD root at noCopy) found)
+          where
+            found : find keyOf root k ≡ some (getD root at noCopy)
+            found =
+                find-rising keyOf noCopy root (state-good z good .keys-strictly-rise 0) k at (omega (arith, root-count)) (sym (root-key at held) ∙ same)
+
+      module _ (lacks : at < countOf z 0 → getD (z .keys) at 0 ≡ k → ⊥) where
+        added : put keyOf x root ≡ take at root ++ x ∷ drop at root
+        added = put-added keyOf noCopy x root at at-below (λ h e. let l = root-count in lacks (omega arith) (root-key at (omega arith) ∙ e))
+
+        between : (part : Copy → ℕ) (c : List ℕ) → c ≡ column part (s .nodes) → countOf z 0 < width
+            → opened c at (countOf z 0) (part x) ≡ column part (set (s .nodes) 0 (put keyOf x root))
+        between part c e h =
+            ap (λ (l : List ℕ). opened l at (countOf z 0) (part x)) e
+            ∙ (rw (zero-add, zero-add, root-count) at (copy-opened part (s .nodes) 0 at x root-listed (omega arith) (omega (arith, at-most, root-count)) (omega (arith, root-count))))
+            ∙ ap (λ (ys : List Copy). column part (set (s .nodes) 0 ys)) (sym added)
+
+        with-is : countOf z 0 < width → withCopy z at (countOf z 0) k kind v ≡ storeOf (z .plan) (entered x s)
+        with-is h =
+            entered-is _ _ _ _ _
+            (ap (λ (n : ℕ). set (z .counts) 0 n) (omega (arith, ap length added, length-put-in x root at (omega (arith, at-most, root-count)), root-count)))
+            (between (λ (y : Copy). y .key) (z .keys) keys-are h) (between (λ (y : Copy). y .kind) (z .kinds) kinds-are h)
+            (between (λ (y : Copy). y .value) (z .values) values-are h) (between (λ (y : Copy). y .stamp) (z .stamps) stamps-are h)
+
+        -- "otherwise one is added if the root has a free place".
+        pub entry-added : (a : Answer) (r : Store) → a ≡ answer DONE (z .clock) 0 0 0 → r ≡ withCopy z at (countOf z 0) k kind v
+            → (most : ℕ) → most ≡ capacityOf p 0 → countOf z 0 < most → record { answer = a; store = r } ≡ onStore (entry kind k v) z
+        entry-added a r e q most c h = done a r e (q ∙ with-is (has-place most c h)) (room-free keyOf (capacityOf p 0) root k (omega (arith, root-count)))
+
+        missing : find keyOf root k ≡ none
+        missing = find-none keyOf noCopy root (state-good z good .keys-strictly-rise 0) k
+            (λ h e. let l = root-count in let b = at-below in lacks (omega arith) (root-key at (omega arith) ∙ rw at-below e))
+
+        -- "FULL: root full and lacks the key"
+        pub entry-full : (a : Answer) → a ≡ bare FULL → (most : ℕ) → most ≡ capacityOf p 0 → most ≤ countOf z 0 → record { answer = a; store = z } ≡ onStore (entry kind k v) z
+        unfolding stateOf
+        entry-full a e most c h =
+            rw e
+            (on-refusal (entry kind k v) z good FULL (no-room kind k v p s early (room-none keyOf (capacityOf p 0) root k missing (omega (arith, root-count)))))
 
 -- Four columns with a number put in are the store with the copy.
 pub four-opened : (z : Store) (at end k kind v : ℕ) {keys kinds values stamps : List ℕ} → keys ≡ opened (z .keys) at end k

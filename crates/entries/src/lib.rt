@@ -40,3 +40,37 @@ fn inserted(mut store: Store, at: usize, end: usize, key: u32, kind: u32, value:
     store.clock = stamp + 1;
     store
 }
+
+// An entry on a good store: CLOCK before FULL, and neither alters the store.
+fn good_entry(store: Store, kind: u32, key: u32, value: u32) -> Outcome
+    requires { ⌜ goodStore store ≡ true ⌝ }
+    ensures { λ r. ⌜ r ≡ onStore (entryStep kind key value) store ⌝ }
+{
+    if Store::LAST_CLOCK <= store.clock {
+        return Outcome {
+            answer: Answer::bare(Answer::CLOCK),
+            store: store,
+        };
+    }
+    let stamp = store.clock as u64;
+    let end = store.counts[0] as usize;
+    let at = columns::seek(&store.keys, 0, end, key);
+    if at < end {
+        if store.keys[at] == key {
+            return Outcome {
+                answer: Answer::of(Answer::DONE, stamp, 0, 0, 0),
+                store: replaced(store, at, kind, value),
+            };
+        }
+    }
+    if end < plan::capacity(store.plan, 0) as usize {
+        return Outcome {
+            answer: Answer::of(Answer::DONE, stamp, 0, 0, 0),
+            store: inserted(store, at, end, key, kind, value),
+        };
+    }
+    Outcome {
+        answer: Answer::bare(Answer::FULL),
+        store: store,
+    }
+}
