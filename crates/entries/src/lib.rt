@@ -8,10 +8,10 @@ ghost use Rattle.store.specs.Layout.{width};
 ghost use Rattle.store.specs.State.{lastClock};
 ghost use Rattle.store.specs.StoreRules.{goodStore};
 ghost use Rattle.entries.specs.Columns.{overCopy, withCopy};
-use store::columns;
 use store::Answer;
 use store::Outcome;
 use store::Store;
+use store::columns;
 
 // "A root copy of that key is replaced": the place has the new kind and value, and the clock as its stamp.
 fn replaced(mut store: Store, at: usize, kind: u32, value: u32) -> Store

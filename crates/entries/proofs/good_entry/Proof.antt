@@ -6,17 +6,9 @@ use lib.ListN.{getD}
 use borrow.Author.Needs.{needs}
 use Rattle.store.specs.declared.Store.{Store}
 use Rattle.store.specs.Layout.{width, countOf}
-use Rattle.entries.proofs.Entering.{root-fits, root-rises, has-place, at-most, entry-at-last-clock, entry-replaced, entry-added, entry-full}
+use Rattle.entries.proofs.Entering.{root-fits, root-rises, has-place, at-most, entry-at-last, entry-replaced, entry-added, entry-full}
 use Rattle.entries.proofs.good_entry.Statement.{statement}
 use Rattle.entries.proofs.good_entry.Tie as tie
-use Rattle.entries.proofs.good_entry.Reads as reads
-use Rattle.entries.proofs.good_entry.Lts as lts
-use Rattle.entries.proofs.inserted.Reads as inserted-reads
-use Rattle.entries.proofs.replaced.Reads as replaced-reads
-use Rattle.plan.proofs.capacity.Reads as capacity-reads
-use Rattle.store.proofs.Answer.bare.Reads as bare-reads
-use Rattle.store.proofs.Answer.of.Reads as of-reads
-use Rattle.store.proofs.columns.seek.Reads as seek-reads
 
 abbrev S : tie.Start → Store
 S c = c .args .t1
@@ -39,7 +31,7 @@ bare-requires c κs = search needs
 returns : tie.Need-returns
 returns c =
     let s = c .before .before in
-    entry-at-last-clock (S s) (s .pre) (s .args .kind) (s .args .key) (s .args .value) (c .bare .result) (c .bare .ensures) (c .before .if1 .taken)
+    entry-at-last (S s) (s .pre) (s .args .kind) (s .args .key) (s .args .value) (c .bare .result) (c .bare .ensures) (c .before .if1 .taken)
 
 cast-stamp : tie.Need-cast-stamp
 cast-stamp c = search needs
@@ -70,13 +62,13 @@ of-requires : tie.Need-of-requires
 of-requires c κs = search needs
 
 replaced-requires : tie.Need-replaced-requires
-replaced-requires c κs =
-    (within (c .before .before .before .before) (c .before .before .before .if2 .taken), c .before .before .before .before .before .before .before .before .if1 .left)
+replaced-requires c κs = (within (c .before .before .before .before) (c .before .before .before .if2 .taken), c .before .before .before .before .before .before .before .before .if1 .left)
 
 returns-2 : tie.Need-returns-2
 returns-2 c =
     let s = c .before .before .before .before .before .before .before .before .before .before in
-    entry-replaced (S s) (s .pre) (s .args .kind) (s .args .key) (s .args .value) (c .before .before .before .before .before .before .before .before .before .if1 .left) (c .before .before .before .before .before .seek .result) (c .before .before .before .before .before .seek .ensures)
+    let w = c .before .before .before .before .before in
+    entry-replaced (S s) (s .pre) (s .args .key) (w .seek .result) (w .seek .ensures) (s .args .kind) (s .args .value) (c .before .before .before .before .before .before .before .before .before .if1 .left)
     (c .before .before .before .before .if2 .taken) (c .before .before .if3 .taken) (c .before .of .result) (c .replaced .result) (c .before .of .ensures) (c .replaced .ensures)
 
 capacity-requires : tie.Need-capacity-requires
@@ -91,16 +83,21 @@ of-requires-2 c κs = search needs
 inserted-requires : tie.Need-inserted-requires
 inserted-requires c κs =
     let s = c .before .before .before .before .before .before .before .before .before in
-    let early = c .before .before .before .before .before .before .before .before .if1 .left in
     let w = c .before .before .before .before in
-    (at-most (S s) (s .pre) (s .args .kind) (s .args .key) (s .args .value) early (w .seek .result) (w .seek .ensures),
-    has-place (S s) (s .pre) (c .before .before .capacity .result) (c .before .before .capacity .ensures) (c .before .if4 .taken), early)
+    let m = c .before .before .capacity in (
+      at-most (S s) (s .pre) (s .args .key) (w .seek .result) (w .seek .ensures),
+      has-place (S s) (s .pre) (m .result) (m .ensures) (c .before .if4 .taken),
+      c .before .before .before .before .before .before .before .before .if1 .left,
+    )
 
 returns-3 : tie.Need-returns-3
 returns-3 c =
     let s = c .before .before .before .before .before .before .before .before .before .before in
-    entry-added (S s) (s .pre) (s .args .kind) (s .args .key) (s .args .value) (c .before .before .before .before .before .before .before .before .before .if1 .left) (c .before .before .before .before .before .seek .result) (c .before .before .before .before .before .seek .ensures)
-    (lacks (c .before .before .before .before)) (c .before .of2 .result) (c .inserted .result) (c .before .of2 .ensures) (c .inserted .ensures) (c .before .before .before .capacity .result) (c .before .before .before .capacity .ensures) (c .before .before .if4 .taken)
+    let w = c .before .before .before .before .before in
+    let m = c .before .before .before .capacity in
+    entry-added (S s) (s .pre) (s .args .key) (w .seek .result) (w .seek .ensures) (s .args .kind) (s .args .value) (c .before .before .before .before .before .before .before .before .before .if1 .left)
+    (lacks (c .before .before .before .before)) (m .result) (m .ensures) (c .before .of2 .result) (c .inserted .result) (c .before .of2 .ensures) (c .inserted .ensures)
+    (c .before .before .if4 .taken)
 
 bare-requires-2 : tie.Need-bare-requires-2
 bare-requires-2 c κs = search needs
@@ -108,8 +105,10 @@ bare-requires-2 c κs = search needs
 returns-4 : tie.Need-returns-4
 returns-4 c =
     let s = c .before .before .before .before .before .before .before .before .before in
-    entry-full (S s) (s .pre) (s .args .kind) (s .args .key) (s .args .value) (c .before .before .before .before .before .before .before .before .if1 .left) (c .before .before .before .before .seek .result) (c .before .before .before .before .seek .ensures)
-    (lacks (c .before .before .before)) (c .bare2 .result) (c .bare2 .ensures) (c .before .before .capacity .result) (c .before .before .capacity .ensures) (c .before .if4 .left)
+    let w = c .before .before .before .before in
+    let m = c .before .before .capacity in
+    entry-full (S s) (s .pre) (s .args .key) (w .seek .result) (w .seek .ensures) (s .args .kind) (s .args .value) (c .before .before .before .before .before .before .before .before .if1 .left)
+    (lacks (c .before .before .before)) (m .result) (m .ensures) (c .bare2 .result) (c .bare2 .ensures) (c .before .if4 .left)
 
 pub good-entry-spec : {M : Type 1} → statement M
 good-entry-spec =

@@ -2,9 +2,6 @@ use borrow.Author.Needs.{needs}
 use Rattle.entries.proofs.Entering.{four-opened}
 use Rattle.entries.proofs.inserted.Statement.{statement}
 use Rattle.entries.proofs.inserted.Tie as tie
-use Rattle.entries.proofs.inserted.Reads as reads
-use Rattle.entries.proofs.inserted.Lts as lts
-use Rattle.store.proofs.columns.open.Reads as open-reads
 
 open-requires : tie.Need-open-requires
 open-requires c κs = search needs
