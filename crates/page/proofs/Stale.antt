@@ -88,8 +88,7 @@ pub serves-kept : (z : Store) (sample : ℕ) (kept notice : RefT (List ℕ)) →
 unfolding served fresh?
 serves-kept z sample kept notice t =
     let b : begins (kept .now) (pageNow z sample) ≡ true =
-    and-right (leb sample lastSample) (begins (kept .now) (pageNow z sample))
-    (and-right (goodStore z) (leb sample lastSample && begins (kept .now) (pageNow z sample)) t)
+    and-right (goodStore z && leb sample lastSample) (begins (kept .now) (pageNow z sample)) t
     in
     let w = begins-rest (kept .now) (pageNow z sample) b in
     rw t
