@@ -1,4 +1,9 @@
 pub mod Laying
+pub mod RulingLists
+pub mod RulingLines
+pub mod RulingStamps
+pub mod RulingParts
+pub mod Ruling
 pub mod Lifting
 pub mod Seeking
 pub mod Halving
