@@ -2,3 +2,4 @@ pub mod Walking
 pub mod Resting
 pub mod Reaching
 pub mod Copying
+pub mod Noding
