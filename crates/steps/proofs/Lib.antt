@@ -8,3 +8,4 @@ pub mod LinesKept
 pub mod Keeping
 pub mod CarryLaws
 pub mod Refusals
+pub mod Putting

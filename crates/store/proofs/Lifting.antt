@@ -1,5 +1,5 @@
 -- Calls on stores: what a step on states shows of its call, the store rules kept by it, and the fresh store. Assumes nothing.
-use mathlib.Core.Path.{_≡_, ap, _∙_}
+use mathlib.Core.Path.{_≡_, sym, ap, _∙_}
 use mathlib.Core.Bool.{true, false}
 use mathlib.Core.Logic.{_⊎_, inl, inr}
 use mathlib.Core.List.{[]}
@@ -133,3 +133,16 @@ module _ (f : Plan → State → Effect) (z : Store) where
     state-agrees =
         let r = good-rules z good .plan-1-to-3 in
         ap (λ (o : Outcome). stateOf (o .store)) (on-good f z good) ∙ rules-back (z .plan) (r .0) (r .1) after-good
+
+-- A call's outcome by the way out of its step: the answer and a store of the state after it,
+module _ (f : Plan → State → Effect) (z : Store) (good : goodStore z ≡ true) where
+  pub on-way : (a : Answer) (t : State) (r : Store) → f (planOf (z .plan)) (stateOf z) ≡ record { answer = a; after = t }
+      → r ≡ storeOf (z .plan) t → record { answer = a; store = r } ≡ onStore f z
+  on-way a t r e q =
+      ap (λ (y : Store). record { answer = a; store = y }) q
+      ∙ sym (on-good f z good ∙ ap (λ (w : Effect). record { answer = w .answer; store = storeOf (z .plan) (w .after) }) e)
+
+  -- or a refusal, and the store as it was.
+  pub on-refusal : (number : ℕ) → f (planOf (z .plan)) (stateOf z) ≡ record { answer = bare number; after = stateOf z }
+      → record { answer = bare number; store = z } ≡ onStore f z
+  on-refusal number e = on-way (bare number) (stateOf z) z e (sym (good-back z good))

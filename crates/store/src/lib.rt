@@ -61,6 +61,13 @@ pub enum Found {
     Nothing,
 }
 
+// The kinds of copies.
+impl Copy {
+    pub const WITHDRAWN: u32 = 0;
+
+    pub const RESULT: u32 = 1;
+}
+
 // The answer numbers, in the table's order.
 impl Answer {
     pub const DONE: u32 = 0;
