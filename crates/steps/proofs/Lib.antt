@@ -9,3 +9,4 @@ pub mod Keeping
 pub mod CarryLaws
 pub mod Refusals
 pub mod SearchLaws
+pub mod Putting

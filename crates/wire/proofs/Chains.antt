@@ -41,7 +41,15 @@ unfolding bind
 bound (got x next) f e = record { value = x; mid = next; first = refl; then = e }
 bound (fault number at) f e = absurd (got-or-fault e refl)
 
--- A check between two readings: a chain that succeeds passed it.
+-- A check between two readings.
+module _ {A : Type 0} (test : Bool) (number at : ℕ) (rest : Got A) where
+  pub check-holds : test ≡ true → cond test rest (fault number at) ≡ rest
+  check-holds t = ap (λ (b : Bool). cond b rest (fault number at)) t
+
+  pub check-fails : test ≡ false → cond test rest (fault number at) ≡ fault number at
+  check-fails t = ap (λ (b : Bool). cond b rest (fault number at)) t
+
+-- A chain that succeeds passed its check.
 pub passed : {A : Type 0} (test : Bool) (number at : ℕ) (rest : Got A) {x : A} {end : ℕ} → cond test rest (fault number at) ≡ got x end
     → (test ≡ true) × (rest ≡ got x end)
 passed true number at rest e = (refl, e)
