@@ -93,3 +93,13 @@ pub getD-map-within : {A B : Type 0} (f : A → B) (l : List A) (j : ℕ) (d : B
 getD-map-within f [] j d c h = absurd (not-suc-le-zero h)
 getD-map-within f (x ∷ xs) zero d c h = refl
 getD-map-within f (x ∷ xs) (suc j) d c h = getD-map-within f xs j d c (le-of-suc-le-suc h)
+
+-- A run up to a number: its first element and the run after it, or nothing.
+module _ {A : Type 0} (f : ℕ → A) (i n : ℕ) where
+  pub run-on : i < n → run i (n - i) f ≡ f i ∷ run (suc i) (n - suc i) f
+  unfolding run
+  run-on h = let s : n - i ≡ suc (n - suc i) = omega arith in rw s
+
+  pub run-off : n ≤ i → run i (n - i) f ≡ []
+  unfolding run
+  run-off h = let s : n - i ≡ 0 = omega arith in rw s
