@@ -25,6 +25,21 @@ use Rattle.carries.specs.declared.decision.Merge.{Merge}
 use Rattle.carries.specs.Decisions.{span, standing, outcome, Going, Turned}
 use Rattle.carries.proofs.Passing.{span-length, first-least, span-rising, put-past, find-past}
 
+-- The target as it stands once it has got a place x,
+module _ (target : List ℕ) (end : ℕ) (m : Merge) where
+  pub stood : (x place next : ℕ) → m .got < length target
+      → standing (set target (m .got) x) end (record { place = place; next = next; kept = m .kept; got = m .got + 1 })
+      ≡ take (m .got) target ++ x ∷ span next end
+  unfolding standing
+  stood x place next h =
+      rw (add-one (m .got), take-suc-set target (m .got) x h) (append-assoc (take (m .got) target) (x ∷ []) (span next end))
+
+  -- and its own next place: it stands as before.
+  pub own-stands : m .next < end → take (m .got) target ++ m .next ∷ span (m .next + 1) end ≡ standing target end m
+  unfolding standing
+  own-stands h = rw (add-one, run-on itself (m .next) end h)
+
+-- A merge under way.
 module _ (e : Edge) {keys : List ℕ} {capacity to end : ℕ} {stay target : List ℕ} {m : Merge}
     (g : Going keys capacity to end stay target m) (more : m .place < to) where
   abbrev key : ℕ → ℕ
@@ -86,17 +101,13 @@ module _ (e : Edge) {keys : List ℕ} {capacity to end : ℕ} {stay target : Lis
   unfolding carries
   held-carries h t = rw h t
 
+  inside : m .got < width → m .got < length target
+  inside h = omega (arith, g .target-64)
+
   -- The target gets a place x, and the walk goes on.
   module _ (x place next : ℕ) (free : m .got < width) where
     abbrev after : Merge
     after = record { place = place; next = next; kept = m .kept; got = m .got + 1 }
-
-    stood : standing (set target (m .got) x) end after ≡ had ++ x ∷ span next end
-    unfolding standing
-    stood =
-        let l = g .target-64 in
-        let h : m .got < length target = omega arith in
-        rw (add-one (m .got), take-suc-set target (m .got) x h) (append-assoc had (x ∷ []) (span next end))
 
     gets : m .place ≤ place → place ≤ to → m .next ≤ next → next ≤ end → m .got + 1 + (end - next) ≤ capacity
         → ((j : ℕ) → place ≤ j → j < to → key x < key j) → Going keys capacity to end stay (set target (m .got) x) after
@@ -116,9 +127,7 @@ module _ (e : Edge) {keys : List ℕ} {capacity to end : ℕ} {stay target : Lis
       where
         go : (i j : ℕ) → i < m .got + 1 → place ≤ j → j < to → Dec (i ≡ m .got) → key (numberIn (set target (m .got) x) i) < key j
         go i j a b c (yes i-is) =
-            let l = g .target-64 in
-            let h : m .got < length target = omega arith in
-            rw (i-is, getD-set-same target (m .got) x 0 h) (low j b c)
+            rw (i-is, getD-set-same target (m .got) x 0 (inside free)) (low j b c)
         go i j a b c (no i-not) =
             rw (getD-set-other target (m .got) i x 0 i-not) (g .low i j (omega arith) (omega arith) c)
 
@@ -126,7 +135,7 @@ module _ (e : Edge) {keys : List ℕ} {capacity to end : ℕ} {stay target : Lis
   pub own-first : m .next < end → key (m .next) < key (m .place) → (r : Merge) (target′ : List ℕ)
       → r ≡ record { place = m .place; next = m .next + 1; kept = m .kept; got = m .got + 1 } → target′ ≡ set target (m .got) (m .next)
       → Turned keys capacity e to end stay target m stay target′ r
-  unfolding outcome standing
+  unfolding outcome
   own-first h below r target′ r-is target-is =
       let f = g .fits in
       let w = g .few in
@@ -136,12 +145,11 @@ module _ (e : Edge) {keys : List ℕ} {capacity to end : ℕ} {stay target : Lis
         going =
             gets (m .next) (m .place) (m .next + 1) free (omega arith) (g .place-within .0) (omega arith) (omega arith) (omega arith)
             (λ j p q. omega (arith, first-least keys (m .place) to (g .node-rises) j p q));
-        same = ap (from-here (take (m .kept) stay) (span (m .place) to)) (stood (m .next) (m .place) (m .next + 1) free ∙ again);
+        same =
+            ap (from-here (take (m .kept) stay) (span (m .place) to))
+            (stood target end m (m .next) (m .place) (m .next + 1) (inside free) ∙ own-stands target end m h);
         less = omega arith;
       })
-    where
-      again : had ++ m .next ∷ span (m .next + 1) end ≡ stands
-      again = rw (add-one, run-on itself (m .next) end h)
 
   -- The node's copy is carried: it comes after what the target has got.
   carried : (next : ℕ) → m .next ≤ next → next ≤ end → m .got + 1 + (end - next) ≤ capacity → had ++ m .place ∷ span next end ≡ put key (m .place) stands
@@ -157,7 +165,7 @@ module _ (e : Edge) {keys : List ℕ} {capacity to end : ℕ} {stay target : Lis
         going =
             gets (m .place) (m .place + 1) next free (omega arith) (omega arith) n o f
             (λ j p q. omega (arith, g .node-rises (m .place) (omega arith) (omega arith), first-least keys (suc (m .place)) to (λ i a b. g .node-rises i (omega arith) b) j (omega arith) q));
-        same = ap (from-here (take (m .kept) stay) (span (m .place + 1) to)) (stood (m .place) (m .place + 1) next free ∙ puts)
+        same = ap (from-here (take (m .kept) stay) (span (m .place + 1) to)) (stood target end m (m .place) (m .place + 1) next (inside free) ∙ puts)
             ∙ carry-turn (take (m .kept) stay) t;
         less = omega arith;
       })

@@ -7,7 +7,7 @@ ghost use Rattle.plan.specs.Plan.{holds as heldBy};
 ghost use Rattle.store.specs.Layout.{width, places};
 ghost use Rattle.store.specs.Workers.{numberIn};
 ghost use Rattle.steps.specs.Carries.{merge, countHeld};
-ghost use Rattle.carries.specs.Decisions.{span, Going, Turned, Ready, Decided};
+ghost use Rattle.carries.specs.Decisions.{span, standing, Going, Turned, Ready, Lists, Decided, Within};
 use plan::Edge;
 use store::Store;
 
@@ -87,4 +87,59 @@ fn turn(
         return get(target, m, place, place + 1, next);
     }
     keep(stay, m)
+}
+
+// After the node's last copy the rest of the target's own.
+fn rest(target: &mut [usize; Store::WIDTH], mut m: Merge, end: usize) -> Merge
+    requires { ⌜ (m .next ≤ end) × (m .got + (end - m .next) ≤ width) × (length (now target) ≡ width) ⌝ }
+    ensures { λ r. ⌜ (r .kept ≡ m .kept) × Lists (now (target .exit)) (r .got) (standing (now (target .entry)) end m) ⌝ }
+{
+    while m.next < end {
+        m = get(target, m, m.next, m.place, m.next + 1);
+    }
+    m
+}
+
+// The places that stay, and those whose copies the target then has: of the node's from..to and the target's start..end.
+pub fn decide(
+    keys: &[u32; Store::PLACES],
+    stay: &mut [usize; Store::WIDTH],
+    target: &mut [usize; Store::WIDTH],
+    from: usize,
+    to: usize,
+    start: usize,
+    end: usize,
+    edge: Edge,
+    capacity: usize,
+) -> Merge
+    requires { ⌜ Ready (now keys) capacity from to start end × (length (now stay) ≡ width) × (length (now target) ≡ width) ⌝ }
+    ensures { λ r. ⌜ Decided (merge (numberIn (now (keys .entry))) capacity edge (span from to) (span start end)) (now (stay .exit)) (now (target .exit)) r ⌝ }
+{
+    let mut m = Merge {
+        place: from,
+        next: start,
+        kept: 0,
+        got: 0,
+    };
+    while m.place < to {
+        m = turn(keys, stay, target, m, to, end, edge, capacity);
+    }
+    rest(target, m, end)
+}
+
+// How many places of a list have a key that the edge holds.
+pub fn count_held(keys: &[u32; Store::PLACES], list: &[usize], edge: Edge) -> usize
+    requires { ⌜ Within (now list) places ⌝ }
+    ensures { λ r. ⌜ r ≡ countHeld (numberIn (now (keys .entry))) edge (now (list .entry)) ⌝ }
+{
+    let mut count = 0;
+    let mut i = 0;
+    while i < list.len() {
+        let place = list[i];
+        if holds(edge, keys[place]) {
+            count += 1;
+        }
+        i += 1;
+    }
+    count
 }
