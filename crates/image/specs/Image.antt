@@ -2,10 +2,11 @@
 -- rising key: key, kind, value (only for kind 1), stamp. Searches aren't saved".
 use mathlib.Core.Bool.{cond}
 use mathlib.Core.List.{List, [], _∷_, _++_}
-use Prim.Native.Nat.{ℕ}
+use Prim.Native.Nat.{ℕ, _≤_}
 use lib.Dec.{eqb}
-use lib.ListN.{length}
+use lib.ListN.{length, getD}
 use Rattle.number.specs.Number.{form}
+use Rattle.plan.specs.Sizes.{lastKey}
 use Rattle.store.specs.declared.Copy.{Copy}
 use Rattle.store.specs.declared.Store.{Store}
 use Rattle.store.specs.Copies.{RESULT}
@@ -42,3 +43,12 @@ imageOf plan s = form formatNumber ++ (form plan ++ (form (s .clock) ++ nodesByt
 -- The image of a store.
 abbrev pub image : Store → List ℕ
 image z = imageOf (z .plan) (stateOf z)
+
+-- "a value (any 32-bit unsigned number ..)"
+abbrev pub lastValue : ℕ
+lastValue = 4294967295
+
+-- A store of the declared type: its keys and values have 32 bits. (Its other numbers have them by the store rules.)
+pub record Declared (z : Store) : Type 0 where
+  pub keys-32 : (i : ℕ) → getD (z .keys) i 0 ≤ lastKey
+  pub values-32 : (i : ℕ) → getD (z .values) i 0 ≤ lastValue

@@ -1,12 +1,12 @@
 -- Loading an image. Document 01, "Bytes": "Load reads from the left, and the first fault wins: for each number CUT, NUMBER, then
 -- its own check (FORMAT, PLAN; RULE for clock 0, count above capacity, kind above 1). At the end TRAIL, then RULE with the image's
 -- length as offset."
-use mathlib.Core.Bool.{Bool, true, false, cond}
+use mathlib.Core.Bool.{Bool, cond}
 use mathlib.Core.List.{List, [], _∷_}
 use Prim.Native.Nat.{ℕ, zero, suc, _+_}
 use lib.Dec.{ltb, eqb}
 use lib.ListN.{length, replicate}
-use Rattle.plan.specs.Plan.{Node, Plan}
+use Rattle.plan.specs.Plan.{Plan}
 use Rattle.plan.specs.PlanTable.{planOf}
 use Rattle.store.specs.declared.Copy.{Copy}
 use Rattle.store.specs.declared.Outcome.{Outcome}
@@ -21,8 +21,7 @@ use Rattle.image.specs.Image.{formatNumber}
 
 -- A check on what was just read, or the fault.
 abbrev pub checked : {A : Type 0} → Bool → ℕ → ℕ → Got A → Got A
-checked true number at rest = rest
-checked false number at rest = fault number at
+checked test number at rest = cond test rest (fault number at)
 
 -- The value of a result; a withdrawn copy has none and holds 0.
 unfoldable pub valueAt : List ℕ → ℕ → ℕ → Got ℕ
@@ -92,3 +91,17 @@ finished s (got z end) =
 -- What loading a byte string gives.
 unfoldable pub loadOutcome : List ℕ → Outcome
 loadOutcome s = finished s (imageAt s)
+
+-- "loading a saved store gives it with all slots idle"
+unfoldable pub idled : Store → Store
+idled z =
+    record {
+      plan = z .plan;
+      clock = z .clock;
+      counts = z .counts;
+      keys = z .keys;
+      kinds = z .kinds;
+      values = z .values;
+      stamps = z .stamps;
+      slots = replicate slotCount idle;
+    }

@@ -2,14 +2,14 @@
 -- Assumes nothing.
 use mathlib.Core.Path.{_≡_, refl, sym, ap, ap₂, _∙_}
 use mathlib.Core.Bool.{Bool, true, false}
-use mathlib.Core.List.{List, [], _∷_, _++_, append-assoc}
+use mathlib.Core.List.{List, [], _∷_, _++_, append-assoc, append-nil}
 use Prim.Native.Nat.{ℕ, suc, _+_, _-_, _<_, _≤_}
 use native.Mathlib.Omega.{arith}
 use native.Mathlib.Numerals.{add-one}
 use native.Mathlib.Nat.{add-zero}
 use lib.Dec.{ltb}
-use lib.ListN.{length, getD, set, take, drop, length-append, length-drop, List·getD-append}
-use lib.Seq.{sets, sets-eq, length-sets, length-take-le, drop-cons, drop-drop, take-at, drop-at, drop-append-seam, getD-drop, getD-set-other}
+use lib.ListN.{length, getD, set, take, drop, length-append, length-drop, drop-of-length-le, List·getD-append}
+use lib.Seq.{sets, sets-eq, length-sets, length-take-le, drop-cons, drop-drop, drop-length, take-at, drop-at, drop-append-seam, getD-drop, getD-set-other}
 use borrow.Author.Tests.{ltb-true, ltb-false}
 use Rattle.lists.specs.Stands.{Stands, Wrote}
 
@@ -178,3 +178,16 @@ module _ {A : Type 0} where
       go : (l b : List A) (at : ℕ) → at + length l ≤ i → getD (sets b at l) i d ≡ getD b i d
       go [] b at h = refl
       go (x ∷ l) b at h = go l (set b at x) (suc at) (omega arith) ∙ getD-set-other b at i x d (omega arith)
+
+  -- A list stands in itself, from its beginning to its end.
+  pub stands-itself : (l : List A) → Stands l 0 l (length l)
+  stands-itself l = record { here = sym (ap (λ (t : List A). l ++ t) (drop-length l) ∙ append-nil l); width = omega arith }
+
+  -- What stands from the beginning of a list to its end is the list.
+  pub stands-whole : {s l : List A} {next : ℕ} → Stands s 0 l next → length s ≤ next → l ≡ s
+  stands-whole {s} {l} h g = sym (h .here ∙ ap (λ (t : List A). l ++ t) (drop-of-length-le s g) ∙ append-nil l)
+
+  -- A list of no elements is empty.
+  pub no-elements : (l : List A) → length l ≡ 0 → l ≡ []
+  no-elements [] h = refl
+  no-elements (x ∷ l) h = absurd (omega arith)

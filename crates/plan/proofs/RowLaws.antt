@@ -1,18 +1,22 @@
--- In a table with a row for each plan, made of the plans' arrays, the row of a plan's number says what the plan does. Assumes nothing.
+-- In a table with a row for each plan the row of a plan's number is the plan's own, and the plan's arrays say what the plan does:
+-- for every number, also one that no plan has. Assumes nothing.
 use mathlib.Core.Path.{_≡_, refl, sym, ap, _∙_}
 use mathlib.Core.List.{List, [], map}
 use Prim.Native.Nat.{ℕ, zero, suc, _-_, _<_, _≤_}
 use native.Mathlib.Omega.{arith}
+use native.Mathlib.Nat.{not-suc-le-zero}
+use native.Mathlib.Decide.{decLt}
 use lib.ListN.{length, getD, List·getD-eq-default}
 use Rattle.lists.proofs.Running.{getD-map-within}
 use Rattle.plan.specs.declared.Edge.{Edge}
+use Rattle.plan.specs.Sizes.{mostNodes, mostEdges}
 use Rattle.plan.specs.Plan.{Plan, noEdge, size, capacityOf, edgesOf, edgeOf, firstEdge, next}
-use Rattle.plan.specs.PlanRules.{PlanRules}
 use Rattle.plan.specs.PlanTable.{planTable, plans, planOf}
 use Rattle.plan.specs.PlanArrays.{Grid, edgeCountIn, edgesIn, capacitiesRow, countsRow, gridOf, rowOf}
-use Rattle.plan.proofs.TableLaws.{table-rules}
+use Rattle.plan.proofs.TableLaws.{table-rules, no-plan}
 use Rattle.plan.proofs.ArrayLaws.{capacities-back, count-back, edges-back}
 
+-- The row of a number is the number less 1, and past the last row for 0.
 pub row-is : (plan : ℕ) → 1 ≤ plan → plan - 1 ≡ rowOf plan
 unfolding rowOf
 row-is zero h = absurd (omega arith)
@@ -23,55 +27,59 @@ unfolding rowOf
 row-none zero h = refl
 row-none (suc p) h = absurd (omega arith)
 
-pub row-plan : (plan r : ℕ) → r ≡ rowOf plan → planOf plan ≡ getD planTable r []
+row-plan : (plan r : ℕ) → r ≡ rowOf plan → planOf plan ≡ getD planTable r []
 unfolding planOf rowOf plans
 row-plan zero r e = sym (List·getD-eq-default planTable [] (omega arith))
 row-plan (suc p) r e = ap (λ (i : ℕ). getD planTable i []) (sym e)
 
--- Past the last row there is no plan: what is said of it is said of one without nodes.
+-- What a table of the plans' f has in the plan's row, and what stands for it past the last row.
+pub at-row : {A : Type 0} (f : Plan → A) (d : A) (plan r : ℕ) → r ≡ rowOf plan → r < plans → getD (map f planTable) r d ≡ f (planOf plan)
+unfolding plans
+at-row f d plan r e h = getD-map-within f planTable r d [] h ∙ ap f (sym (row-plan plan r e))
+
 pub past-rows : {A : Type 0} (f : Plan → A) (plan r : ℕ) → r ≡ rowOf plan → plans ≤ r → f [] ≡ f (planOf plan)
 unfolding plans
 past-rows f plan r e h = ap f (sym (row-plan plan r e ∙ List·getD-eq-default planTable [] h))
 
-row-rules : (plan r : ℕ) → r ≡ rowOf plan → r < plans → PlanRules (planOf plan)
-unfolding rowOf
-row-rules zero r e h = absurd (omega arith)
-row-rules (suc p) r e h = table-rules (suc p) (omega arith) (omega arith)
+-- A plan by any number has at most so many nodes, and edges at each.
+pub few-nodes : (plan : ℕ) → size (planOf plan) ≤ mostNodes
+unfolding planOf
+few-nodes zero = omega arith
+few-nodes (suc p) = go (decLt plans (suc p))
+  where
+    go : Dec (plans < suc p) → size (planOf (suc p)) ≤ mostNodes
+    go (yes h) = rw (no-plan (suc p) h) (omega arith)
+    go (no h) = table-rules (suc p) (omega arith) (omega arith) .two-to-eight-nodes .1
 
-module _ (plan r : ℕ) (e : r ≡ rowOf plan) (h : r < plans) where
-  at-row : {A : Type 0} (f : Plan → A) (d : A) → getD (map f planTable) r d ≡ f (planOf plan)
-  unfolding plans
-  at-row f d = getD-map-within f planTable r d [] h ∙ ap f (sym (row-plan plan r e))
+pub few-edges : (plan n : ℕ) → n < size (planOf plan) → length (edgesOf (planOf plan) n) ≤ mostEdges
+unfolding planOf
+few-edges zero n q = absurd (not-suc-le-zero q)
+few-edges (suc p) n q = go (decLt plans (suc p))
+  where
+    go : Dec (plans < suc p) → length (edgesOf (planOf (suc p)) n) ≤ mostEdges
+    go (yes h) = rw (no-plan (suc p) h) (omega arith)
+    go (no h) = table-rules (suc p) (omega arith) (omega arith) .up-to-four-edges n q
 
-  pub row-size : getD (map (λ p. size p) planTable) r 0 ≡ size (planOf plan)
-  row-size = at-row (λ p. size p) 0
+-- So its arrays give its capacities, edge counts, edges and next steps.
+module _ (plan : ℕ) where
+  pub capacity-of : (cs : List ℕ) → cs ≡ capacitiesRow (planOf plan) → (n : ℕ) → getD cs n 0 ≡ capacityOf (planOf plan) n
+  capacity-of cs e n = ap (λ (l : List ℕ). getD l n 0) e ∙ capacities-back (planOf plan) (few-nodes plan) n
 
-  pub row-capacity : (n : ℕ) → getD (getD (map capacitiesRow planTable) r []) n 0 ≡ capacityOf (planOf plan) n
-  row-capacity n =
-      ap (λ (l : List ℕ). getD l n 0) (at-row capacitiesRow [])
-      ∙ capacities-back (planOf plan) (row-rules plan r e h .two-to-eight-nodes .1) n
+  pub count-of : (cs : List ℕ) → cs ≡ countsRow (planOf plan) → (n : ℕ) → edgeCountIn cs n ≡ length (edgesOf (planOf plan) n)
+  count-of cs e n = ap (λ (l : List ℕ). edgeCountIn l n) e ∙ count-back (planOf plan) (few-nodes plan) (few-edges plan) n
 
-  pub row-count : (n : ℕ) → edgeCountIn (getD (map countsRow planTable) r []) n ≡ length (edgesOf (planOf plan) n)
-  row-count n =
-      ap (λ (l : List ℕ). edgeCountIn l n) (at-row countsRow [])
-      ∙ count-back (planOf plan) (row-rules plan r e h .two-to-eight-nodes .1) (row-rules plan r e h .up-to-four-edges) n
+  module _ (cs : List ℕ) (ls hs ts : Grid)
+      (c : cs ≡ countsRow (planOf plan))
+      (l : ls ≡ gridOf (λ e. e .lowest) (planOf plan))
+      (h : hs ≡ gridOf (λ e. e .highest) (planOf plan))
+      (t : ts ≡ gridOf (λ e. e .target) (planOf plan))
+    where
+      edges-of : (n : ℕ) → edgesIn cs ls hs ts n ≡ edgesOf (planOf plan) n
+      edges-of n = rw (c, l, h, t) (edges-back (planOf plan) (few-nodes plan) (few-edges plan) n)
 
-  abbrev grid : (Edge → ℕ) → Grid
-  grid part = getD (map (gridOf part) planTable) r []
+      pub edge-of : (n i : ℕ) → getD (edgesIn cs ls hs ts n) i noEdge ≡ edgeOf (planOf plan) n i
+      edge-of n i = ap (λ (es : List Edge). getD es i noEdge) (edges-of n)
 
-  row-edges : (n : ℕ) → edgesIn (getD (map countsRow planTable) r []) (grid (λ e. e .lowest)) (grid (λ e. e .highest)) (grid (λ e. e .target)) n
-      ≡ edgesOf (planOf plan) n
-  row-edges n =
-      rw (at-row countsRow [], at-row (gridOf (λ e. e .lowest)) [], at-row (gridOf (λ e. e .highest)) [], at-row (gridOf (λ e. e .target)) [])
-      (edges-back (planOf plan) (row-rules plan r e h .two-to-eight-nodes .1) (row-rules plan r e h .up-to-four-edges) n)
-
-  pub row-edge : (n i : ℕ)
-      → getD (edgesIn (getD (map countsRow planTable) r []) (grid (λ e. e .lowest)) (grid (λ e. e .highest)) (grid (λ e. e .target)) n) i noEdge
-      ≡ edgeOf (planOf plan) n i
-  row-edge n i = ap (λ (es : List Edge). getD es i noEdge) (row-edges n)
-
-  pub row-next : (n k : ℕ)
-      → firstEdge (edgesIn (getD (map countsRow planTable) r []) (grid (λ e. e .lowest)) (grid (λ e. e .highest)) (grid (λ e. e .target)) n) k
-      ≡ next (planOf plan) n k
-  unfolding next
-  row-next n k = ap (λ (es : List Edge). firstEdge es k) (row-edges n)
+      pub next-of : (n k : ℕ) → firstEdge (edgesIn cs ls hs ts n) k ≡ next (planOf plan) n k
+      unfolding next
+      next-of n k = ap (λ (es : List Edge). firstEdge es k) (edges-of n)

@@ -4,9 +4,9 @@ ghost use lib.ListN.{length};
 ghost use Rattle.plan.specs.Plan.{size, capacityOf, edgesOf, edgeOf};
 ghost use Rattle.plan.specs.Plan.{next as nextOf};
 ghost use Rattle.plan.specs.PlanTable.{planOf};
-ghost use Rattle.plan.specs.PlanArrays.{rowOf};
+ghost use Rattle.plan.specs.PlanArrays.{rowOf, capacitiesRow, countsRow, gridOf};
 
-mod arrays; // arrays.rt: a plan's arrays, lent
+pub mod arrays; // arrays.rt: a plan's arrays, lent
 
 // "up to four edges", "2 to 8 nodes", and the number of plans.
 pub const MOST_EDGES: usize = 4;
@@ -106,64 +106,91 @@ pub fn nodes(plan: u32) -> u32
     0
 }
 
+// The plan's arrays, all zeros for a number that no plan has. A loop takes them once, and lends them to the readers of arrays.rt.
+pub fn capacities_of(plan: u32) -> [u32; MOST_NODES]
+    ensures { λ r. ⌜ r ≡ capacitiesRow (planOf plan) ⌝ }
+{
+    let p = row(plan);
+    if p < PLANS {
+        return CAPACITIES[p];
+    }
+    [0; MOST_NODES]
+}
+
+pub fn edge_counts_of(plan: u32) -> [u32; MOST_NODES]
+    ensures { λ r. ⌜ r ≡ countsRow (planOf plan) ⌝ }
+{
+    let p = row(plan);
+    if p < PLANS {
+        return EDGE_COUNTS[p];
+    }
+    [0; MOST_NODES]
+}
+
+pub fn lowest_of(plan: u32) -> [[u32; MOST_EDGES]; MOST_NODES]
+    ensures { λ r. ⌜ r ≡ gridOf (λ e. e .lowest) (planOf plan) ⌝ }
+{
+    let p = row(plan);
+    if p < PLANS {
+        return LOWEST[p];
+    }
+    [NONE; MOST_NODES]
+}
+
+pub fn highest_of(plan: u32) -> [[u32; MOST_EDGES]; MOST_NODES]
+    ensures { λ r. ⌜ r ≡ gridOf (λ e. e .highest) (planOf plan) ⌝ }
+{
+    let p = row(plan);
+    if p < PLANS {
+        return HIGHEST[p];
+    }
+    [NONE; MOST_NODES]
+}
+
+pub fn targets_of(plan: u32) -> [[u32; MOST_EDGES]; MOST_NODES]
+    ensures { λ r. ⌜ r ≡ gridOf (λ e. e .target) (planOf plan) ⌝ }
+{
+    let p = row(plan);
+    if p < PLANS {
+        return TARGETS[p];
+    }
+    [NONE; MOST_NODES]
+}
+
 // The node's capacity; 0 where the plan has no such node.
 pub fn capacity(plan: u32, node: u32) -> u32
     ensures { λ r. ⌜ r ≡ capacityOf (planOf plan) node ⌝ }
 {
-    let p = row(plan);
-    if p < PLANS {
-        return arrays::capacity_in(&CAPACITIES[p], node);
-    }
-    0
+    let capacities = capacities_of(plan);
+    arrays::capacity_in(&capacities, node)
 }
 
 // How many edges the node has; 0 where the plan has no such node.
 pub fn edge_count(plan: u32, node: u32) -> u32
     ensures { λ r. ⌜ r ≡ length (edgesOf (planOf plan) node) ⌝ }
 {
-    let p = row(plan);
-    if p < PLANS {
-        return arrays::edge_count_in(&EDGE_COUNTS[p], node);
-    }
-    0
+    let counts = edge_counts_of(plan);
+    arrays::edge_count_in(&counts, node)
 }
 
 // The node's edge by its number, from 0; all zeros where the node has no such edge.
 pub fn edge_at(plan: u32, node: u32, edge: u32) -> Edge
     ensures { λ r. ⌜ r ≡ edgeOf (planOf plan) node edge ⌝ }
 {
-    let p = row(plan);
-    if p < PLANS {
-        return arrays::edge_in(
-            &EDGE_COUNTS[p],
-            &LOWEST[p],
-            &HIGHEST[p],
-            &TARGETS[p],
-            node,
-            edge,
-        );
-    }
-    Edge {
-        lowest: 0,
-        highest: 0,
-        target: 0,
-    }
+    let counts = edge_counts_of(plan);
+    let lows = lowest_of(plan);
+    let highs = highest_of(plan);
+    let targets = targets_of(plan);
+    arrays::edge_in(&counts, &lows, &highs, &targets, node, edge)
 }
 
 // The key's next step: the target of the first edge, in edge order, whose range holds the key.
 pub fn next(plan: u32, node: u32, key: u32) -> Hop
     ensures { λ r. ⌜ r ≡ nextOf (planOf plan) node key ⌝ }
 {
-    let p = row(plan);
-    if p < PLANS {
-        return arrays::next_in(
-            &EDGE_COUNTS[p],
-            &LOWEST[p],
-            &HIGHEST[p],
-            &TARGETS[p],
-            node,
-            key,
-        );
-    }
-    Hop::Ends
+    let counts = edge_counts_of(plan);
+    let lows = lowest_of(plan);
+    let highs = highest_of(plan);
+    let targets = targets_of(plan);
+    arrays::next_in(&counts, &lows, &highs, &targets, node, key)
 }

@@ -5,7 +5,7 @@ use native.Mathlib.Omega.{arith}
 use native.Mathlib.Decide.{decLt}
 use lib.ListN.{length, getD}
 use Rattle.lists.proofs.Orders.{Order, order?}
-use Rattle.lists.proofs.Orders.Order.{less, same, more}
+use Rattle.lists.proofs.Orders.Order.{less, equal, more}
 use Rattle.plan.specs.declared.Hop.the-variants.{To}
 use Rattle.plan.specs.Plan.{Plan, size, next, path, IsPath}
 use Rattle.plan.specs.PlanRules.{PlanRules}
@@ -54,7 +54,7 @@ module _ (p : Plan) (rules : PlanRules p) (k : ℕ) where
 
       go : Order (suc a) b → Order b a → t ≤ m
       go (less g) d = omega (arith, path-down p rules k (suc a) b g (q .inside), after .here, q .here)
-      go (same g) d = omega (arith, after .here, at (suc a) g)
+      go (equal g) d = omega (arith, after .here, at (suc a) g)
       go (more g) (less f) = absurd (omega (arith, path-down p rules k b a f (o .inside), o .here, q .here))
-      go (more g) (same f) = absurd (omega (arith, o .here, at a (sym f)))
+      go (more g) (equal f) = absurd (omega (arith, o .here, at a (sym f)))
       go (more g) (more f) = absurd (omega arith)

@@ -8,10 +8,10 @@ use native.Mathlib.Nat.{le-of-suc-le-suc, not-suc-le-zero}
 use native.Mathlib.Decide.{decLt, ℕ-discrete}
 use native.Mathlib.Omega.{arith}
 use lib.Dec.{ltb, eqb}
-use lib.ListN.{length, getD}
+use lib.ListN.{length, getD, length-map, List·getD-map}
 use borrow.Author.Tests.{ltb-true, ltb-false, eq-eqb, ne-eqb}
 use Rattle.lists.specs.Runs.{run}
-use Rattle.lists.proofs.Running.{length-run, getD-run}
+use Rattle.lists.proofs.Running.{length-run, getD-run, map-run}
 use Rattle.store.specs.Copies.{find}
 use Rattle.store.specs.Workers.{itself, below, Rises}
 
@@ -94,6 +94,24 @@ module _ {A : Type 0} (key : A → ℕ) where
             let b : key (getD xs (below key xs k) d) < k = rw e at g in
             omega arith)
 
+    -- These fix the place.
+    pub below-is : (xs : List A) (k b : ℕ) → b ≤ length xs → ((i : ℕ) → i < b → key (getD xs i d) < k)
+        → (b < length xs → k ≤ key (getD xs b d)) → below key xs k ≡ b
+    below-is xs k b h l g = go (decLt b (below key xs k)) (decLt (below key xs k) b) (below-length xs k)
+      where
+        go : Dec (b < below key xs k) → Dec (below key xs k < b) → below key xs k ≤ length xs → below key xs k ≡ b
+        go (yes p) q n =
+            absurd
+            (let u = before-below xs k b p in
+            let v = g (omega arith) in
+            omega arith)
+        go (no p) (yes q) n =
+            absurd
+            (let u = l (below key xs k) q in
+            let v = at-below xs k (omega arith) in
+            omega arith)
+        go (no p) (no q) n = omega arith
+
     -- Nothing is found where no key is k,
     pub find-missing : (xs : List A) (k : ℕ) → ((i : ℕ) → i < length xs → key (getD xs i d) ≡ k → ⊥) → find key xs k ≡ none
     unfolding find
@@ -172,6 +190,10 @@ module _ {A B : Type 0} (key : A → ℕ) (g : B → A) where
       go true e = refl
       go false e = e
 
+  pub rises-map : (d : B) (xs : List B) → Rises (λ x. key (g x)) d xs → Rises key (g d) (map g xs)
+  rises-map d xs r i h =
+      rw (List·getD-map g xs i d, List·getD-map g xs (suc i) d) (r i (rw length-map at h))
+
 -- A run: its things stand at the places from .. from + n.
 module _ {A : Type 0} (key : A → ℕ) (d : A) (f : ℕ → A) (from n : ℕ) where
   in-run : (i : ℕ) → from ≤ i → i < from + n → getD (run from n f) (i - from) d ≡ f i
@@ -240,3 +262,10 @@ module _ {A : Type 0} (key : A → ℕ) (d : A) (f : ℕ → A) (from n : ℕ) w
       let l = length-run f from n in
       let g = in-run i p q in
       find-rising key d (run from n f) r k (i - from) (omega arith) (ap key g ∙ h) ∙ ap some g
+
+  -- The same on the places themselves, each with its thing's key.
+  pub below-run : (k : ℕ) → below key (run from n f) k ≡ below (λ i. key (f i)) (run from n itself) k
+  below-run k = ap (λ (xs : List A). below key xs k) (sym (map-run f itself from n)) ∙ below-map key f (run from n itself) k
+
+  pub find-run : (k : ℕ) → find key (run from n f) k ≡ Option·map f (find (λ i. key (f i)) (run from n itself) k)
+  find-run k = ap (λ (xs : List A). find key xs k) (sym (map-run f itself from n)) ∙ find-map key f (run from n itself) k

@@ -61,6 +61,14 @@ pub enum Found {
     Nothing,
 }
 
+// The kinds of copies.
+impl Copy {
+    pub const WITHDRAWN: u32 = 0;
+
+    pub const RESULT: u32 = 1;
+}
+
+// The answer numbers, in the table's order.
 impl Answer {
     pub const DONE: u32 = 0;
 
@@ -115,6 +123,7 @@ impl Answer {
         }
     }
 
+    // An answer in full.
     pub fn of(number: u32, a: u64, b: u64, c: u64, d: u64) -> Answer
         ensures { λ r. ⌜ r ≡ answer number a b c d ⌝ }
     {
@@ -128,6 +137,7 @@ impl Answer {
     }
 }
 
+// The clock's last value, the slot count, the nodes, the places to each and in all.
 impl Store {
     pub const LAST_CLOCK: u32 = 4294967295;
 

@@ -1,10 +1,12 @@
 -- Reading numbers from the left, one after another: the first fault wins. Document 01, "Bytes".
+use mathlib.Core.Bool.{true, false}
 use mathlib.Core.List.{List}
 use Prim.Native.Nat.{ℕ}
 use Rattle.number.specs.declared.Reading.{Reading}
 use Rattle.number.specs.declared.Reading.the-variants.{Value, Cut, Malformed}
 use Rattle.number.specs.Number.{readAt}
 use Rattle.store.specs.Answers.{CUT, NUMBER}
+use Rattle.wire.specs.declared.Num.{Num}
 
 -- What was read and the offset after it, or a fault: an answer number and an offset.
 pub data Got (A : Type 0) : Type 0 where
@@ -24,3 +26,8 @@ numbered at Malformed = fault NUMBER at
 
 unfoldable pub numberAt : List ℕ → ℕ → Got ℕ
 numberAt s at = numbered at (readAt s at)
+
+-- What was read, as the declared record: the number and the offset after it, or the fault and its offset.
+unfoldable pub numOf : Got ℕ → Num
+numOf (got v next) = record { ok = true; fault = 0; at = next; value = v }
+numOf (fault number at) = record { ok = false; fault = number; at = at; value = 0 }

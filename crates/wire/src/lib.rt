@@ -1,1 +1,40 @@
 // Numbers read one after another, where the first fault wins; bytes written into a lent buffer.
+ghost use mathlib.Core.Path.{_≡_};
+ghost use Rattle.wire.specs.Reading.{numberAt, numOf};
+use number::Reading;
+use store::Answer;
+
+// A number and the offset after it, or a fault: an answer number and its offset.
+pub struct Num {
+    pub ok: bool,
+    pub fault: u32,
+    pub at: usize,
+    pub value: u32,
+}
+
+// The number at an offset, or CUT or NUMBER with that offset.
+pub fn read_number(bytes: &[u8], at: usize) -> Num
+    ensures { λ r. ⌜ r ≡ numOf (numberAt (now (bytes .entry)) at) ⌝ }
+{
+    let reading = number::read_at(bytes, at);
+    match reading {
+        Reading::Value(value, next) => Num {
+            ok: true,
+            fault: 0,
+            at: next,
+            value,
+        },
+        Reading::Cut => Num {
+            ok: false,
+            fault: Answer::CUT,
+            at,
+            value: 0,
+        },
+        Reading::Malformed => Num {
+            ok: false,
+            fault: Answer::NUMBER,
+            at,
+            value: 0,
+        },
+    }
+}

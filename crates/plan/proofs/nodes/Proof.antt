@@ -1,7 +1,7 @@
--- `plan::nodes` meets its contract: the counts are those of the plans' nodes. Assumes nothing.
+-- `plan::nodes` meets its contract: the counts of the table are those of the plans' nodes, computed. Assumes nothing.
 use Rattle.plan.specs.Plan.{size}
 use Rattle.plan.specs.PlanTable.{planTable, plans}
-use Rattle.plan.proofs.RowLaws.{row-size, past-rows}
+use Rattle.plan.proofs.RowLaws.{at-row, past-rows}
 use borrow.Author.Needs.{needs}
 use Rattle.plan.proofs.nodes.Statement.{statement}
 use Rattle.plan.proofs.nodes.Tie as tie
@@ -19,7 +19,7 @@ returns : tie.Need-returns
 unfolding plans planTable
 returns c =
     let s = c .before in
-    row-size (s .before .args .plan) (s .row .result) (s .row .ensures) (c .if1 .taken)
+    at-row (λ p. size p) 0 (s .before .args .plan) (s .row .result) (s .row .ensures) (c .if1 .taken)
 
 returns-2 : tie.Need-returns-2
 unfolding plans planTable

@@ -1,0 +1,33 @@
+-- The test of a slot, way out by way out: idle, of no known mark, or running. Assumes nothing.
+use mathlib.Core.Path.{_≡_, refl, sym, _∙_}
+use mathlib.Core.Bool.{Bool, true, false, and-false, _&&_}
+use Prim.Native.Nat.{ℕ}
+use lib.Dec.{eqb}
+use borrow.Author.Tests.{eq-eqb, ne-eqb}
+use Rattle.plan.specs.Plan.{Plan, path}
+use Rattle.store.specs.declared.Slot.{Slot}
+use Rattle.store.specs.StoreRules.{standsAt, slotTest}
+
+-- Three numbers that are to be zero.
+module _ (a b c : ℕ) where
+  pub first-is-not : (a ≡ 0 → ⊥) → false ≡ (eqb a 0 && eqb b 0 && eqb c 0)
+  first-is-not h = rw (ne-eqb a 0 h)
+
+  pub second-is-not : (b ≡ 0 → ⊥) → false ≡ (eqb a 0 && eqb b 0 && eqb c 0)
+  second-is-not h = rw (ne-eqb b 0 h, and-false (eqb a 0))
+
+  pub third-decides : a ≡ 0 → b ≡ 0 → eqb c 0 ≡ (eqb a 0 && eqb b 0 && eqb c 0)
+  third-decides h g = rw (eq-eqb a 0 h, eq-eqb b 0 g)
+
+module _ (p : Plan) (q : Slot) where
+  pub slot-rests : q .running ≡ 0 → slotTest p q ≡ (eqb (q .key) 0 && eqb (q .node) 0 && eqb (q .visits) 0)
+  unfolding slotTest
+  slot-rests h = rw (eq-eqb (q .running) 0 h)
+
+  pub slot-strange : (q .running ≡ 0 → ⊥) → (q .running ≡ 1 → ⊥) → slotTest p q ≡ false
+  unfolding slotTest
+  slot-strange h g = rw (ne-eqb (q .running) 0 h, ne-eqb (q .running) 1 g)
+
+  pub slot-runs : (q .running ≡ 0 → ⊥) → q .running ≡ 1 → slotTest p q ≡ standsAt (q .node) (path p (q .key)) (q .visits)
+  unfolding slotTest
+  slot-runs h g = rw (ne-eqb (q .running) 0 h, eq-eqb (q .running) 1 g)
