@@ -1,0 +1,3 @@
+pub mod EventSteps
+pub mod InReach
+pub mod Invariants

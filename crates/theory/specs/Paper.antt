@@ -1,17 +1,17 @@
 -- The paper's words (source document 004, sections 3 and 6) for a store's state: contents, edgesets, the upsert history and the
 -- logical contents.
 use mathlib.Core.Path.{_≡_}
-use mathlib.Core.Bool.{true}
-use mathlib.Core.List.{List, List·Memᴰ}
+use mathlib.Core.Bool.{true, cond}
+use mathlib.Core.List.{List, List·Memᴰ, flatten}
 use mathlib.Core.Option.{Option, none, some}
-use mathlib.Core.Logic.{_⊎_}
 use Prim.Native.Nat.{ℕ, _<_, _≤_}
+use lib.Dec.{eqb}
 use Rattle.plan.specs.declared.Hop.the-variants.{To}
-use Rattle.plan.specs.Plan.{Plan, size, edgesOf, edgeOf, holds}
+use Rattle.plan.specs.Plan.{Plan, edgeOf, holds}
 use Rattle.plan.specs.PlanRules.{IsEdge}
 use Rattle.store.specs.declared.Copy.{Copy}
 use Rattle.store.specs.Copies.{stampOf}
-use Rattle.store.specs.State.{State, line, inReach}
+use Rattle.store.specs.State.{State, line, inReach, current}
 
 -- Contents: C_n(k), the copy of the key in the node, or nothing.
 abbrev pub Contents : State → ℕ → ℕ → Option Copy
@@ -28,9 +28,19 @@ pub record Edgeset (p : Plan) (n m k : ℕ) : Type 0 where
 abbrev pub ContentsInReach : Plan → State → ℕ → ℕ → Option Copy
 ContentsInReach p s n k = inReach p s k (To n)
 
+-- (5): "C_n(k) if k ∈ dom(C_n); C_ir(n′)(k) else if ∃n′. k ∈ es(n, n′); ⊥ otherwise".
+pub record InReachEquation (p : Plan) (s : State) (n k : ℕ) : Type 0 where
+  pub here : (x : Copy) → Contents s n k ≡ some x → ContentsInReach p s n k ≡ some x
+  pub below : Contents s n k ≡ none → (m : ℕ) → Edgeset p n m k → ContentsInReach p s n k ≡ ContentsInReach p s m k
+  pub nowhere : Contents s n k ≡ none → ((m : ℕ) → Edgeset p n m k → ⊥) → ContentsInReach p s n k ≡ none
+
 -- The upsert history: the copies entered or loaded so far, and for every key the copy "never" of stamp 0.
 abbrev pub History : Type 0
 History = List Copy
+
+-- The copies that a state holds: a loaded store's history, each loaded copy as an entry. A fresh store's is empty.
+unfoldable pub held : State → History
+held s = flatten (s .nodes)
 
 -- (k, (v, t)) is in H: a copy of the key entered or loaded, or never, at stamp 0.
 abbrev pub InHistory : History → ℕ → Option Copy → Type 0
@@ -54,6 +64,10 @@ HClock t h = (x : Copy) → List·Memᴰ x h → x .stamp < t
 pub record Logical (h : History) (k : ℕ) (o : Option Copy) : Type 0 where
   pub in-history : InHistory h k o
   pub greatest : (x : Copy) → x .key ≡ k → List·Memᴰ x h → x .stamp ≤ stampOf o
+
+-- (1): M[k ↦ v], the logical contents after an upsert.
+abbrev pub upserted : (ℕ → Option Copy) → Copy → ℕ → Option Copy
+upserted M x k = cond (eqb (x .key) k) (some x) (M k)
 
 -- The paper's structure: what holds of a state and its history at all times.
 pub record Multicopy (p : Plan) (s : State) (h : History) : Type 0 where
