@@ -1,39 +1,65 @@
 // Carry: a node's copies move to a child. Document 01, "What each step does".
 ghost use mathlib.Core.Path.{_≡_};
-ghost use lib.ListN.{length};
-ghost use Prim.Native.Nat.{_+_, _-_, _*_, _<_, _≤_};
-ghost use Rattle.store.specs.Layout.{width, places};
-ghost use Rattle.carries.specs.Writings.{Movable, carriedColumn};
+ghost use mathlib.Core.Bool.{true};
+ghost use Prim.Native.Nat.{_-_, _≤_};
+ghost use Rattle.plan.specs.PlanRules.{IsEdge};
+ghost use Rattle.plan.specs.PlanTable.{planOf};
+ghost use Rattle.store.specs.Answers.{DONE, answer};
+ghost use Rattle.store.specs.Calls.{onStore};
+ghost use Rattle.store.specs.StoreRules.{goodStore};
+ghost use Rattle.steps.specs.Carries.{carryStep};
+use store::Answer;
+use store::Outcome;
 use store::Store;
 
 mod decision; // decision.rt: which copies move, by the keys alone
 
 mod writing; // writing.rt: a column after a carry, written in place
 
-fn settle<'a>(
-    keys: &mut [u32; Store::PLACES],
-    kinds: &mut [u32; Store::PLACES],
-    values: &mut [u32; Store::PLACES],
-    stamps: &mut [u32; Store::PLACES],
-    stay: &'a [usize],
-    target: &'a [usize],
-    from: usize,
-    had: usize,
-    start: usize,
-)
-    requires { ⌜ Movable (now stay) (now target) from had start × (length (now keys) ≡ places) × (length (now kinds) ≡ places) × (length (now values) ≡ places) × (length (now stamps) ≡ places) ⌝ }
+// "Carried is the fall in the node's count; discarded is carried less the rise in the target's"; and left.
+fn tally(had: usize, kept: usize, held: usize, got: usize, left: usize) -> Answer
+    requires { ⌜ (kept ≤ had) × (held ≤ got) × (got - held ≤ had - kept) ⌝ }
+    ensures { λ r. ⌜ r ≡ answer DONE (had - kept) ((had - kept) - (got - held)) left 0 ⌝ }
 {
-    writing::carry_column(keys, stay, target, from, had, start);
-    writing::carry_column(kinds, stay, target, from, had, start);
-    writing::carry_column(values, stay, target, from, had, start);
-    writing::carry_column(stamps, stay, target, from, had, start);
+    let carried = had - kept;
+    let rise = got - held;
+    Answer::of(
+        Answer::DONE,
+        carried as u64,
+        (carried - rise) as u64,
+        left as u64,
+        0,
+    )
 }
 
-fn along(mut store: Store, kept: usize, got: usize) -> Store 
-  requires { ⌜ (kept ≤ width) × (got ≤ width) ⌝ }
+fn good_carry(mut store: Store, node: u32, edge: u32) -> Outcome
+    requires { ⌜ (goodStore store ≡ true) × IsEdge (planOf (store .plan)) node edge ⌝ }
+    ensures { λ r. ⌜ r ≡ onStore (carryStep node edge) store ⌝ }
 {
-    let stay = [0; Store::WIDTH];
-    let target = [0; Store::WIDTH];
-    settle(&mut store.keys, &mut store.kinds, &mut store.values, &mut store.stamps, &stay[..kept], &target[..got], 0, 0, 64);
-    store
+    let e = plan::edge_at(store.plan, node, edge);
+    let n = node as usize;
+    let t = e.target as usize;
+    let had = store.counts[n] as usize;
+    let held = store.counts[t] as usize;
+    let from = Store::WIDTH * n;
+    let start = Store::WIDTH * t;
+    let mut stay = [0; Store::WIDTH];
+    let mut target = [0; Store::WIDTH];
+    let capacity = plan::capacity(store.plan, e.target) as usize;
+    let m = decision::decide(&store.keys, &mut stay, &mut target, from, from + had, start, start + held, e, capacity);
+    let kept = m.kept;
+    let got = m.got;
+    let stays = &stay[..kept];
+    let gets = &target[..got];
+    let left = decision::count_held(&store.keys, stays, e);
+    writing::carry_column(&mut store.keys, stays, gets, from, had, start);
+    writing::carry_column(&mut store.kinds, stays, gets, from, had, start);
+    writing::carry_column(&mut store.values, stays, gets, from, had, start);
+    writing::carry_column(&mut store.stamps, stays, gets, from, had, start);
+    store.counts[n] = kept as u32;
+    store.counts[t] = got as u32;
+    Outcome {
+        answer: tally(had, kept, held, got, left),
+        store: store,
+    }
 }
