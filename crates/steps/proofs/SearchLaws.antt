@@ -13,7 +13,8 @@ use Rattle.plan.specs.declared.Hop.the-variants.{To, Ends}
 use Rattle.plan.specs.Plan.{Plan, next, path, pathFrom, IsPath}
 use Rattle.plan.specs.Plan.IsPath.{last, more}
 use Rattle.plan.specs.PlanRules.{PlanRules}
-use Rattle.plan.proofs.PathLaws.{path-is, root-in-plan}
+use Rattle.plan.proofs.NextLaws.{root-in-plan}
+use Rattle.plan.proofs.PathLaws.{path-is}
 use Rattle.store.specs.declared.Answer.{Answer}
 use Rattle.store.specs.declared.Copy.{Copy}
 use Rattle.store.specs.Answers.{DONE, GOING, answer}
@@ -119,7 +120,7 @@ search-is-look p rules s k = go (start-way k p s)
     whole i h =
         subst (λ (x : Answer). SearchEnds i p (withSlot i (running k 0 0) s) x) (look-from-the-root p s k)
         (unfold Ends-at in
-        search-ends p i k (withSlot i (running k 0 0) s) 0 (path-is p rules k 0 (root-in-plan p rules k)) (simp length-set h)
+        search-ends p i k (withSlot i (running k 0 0) s) 0 (path-is p rules k 0 (root-in-plan p rules)) (simp length-set h)
         (slot-set i (running k 0 0) s h))
 
     go : {o : Effect} → StartWay k s o → o .answer .number ≡ DONE → SearchEnds (o .answer .a) p (o .after) (lookAnswer k p s)
