@@ -3,3 +3,4 @@ pub mod Resting
 pub mod Reaching
 pub mod Copying
 pub mod Noding
+pub mod Sorting

@@ -4,3 +4,5 @@ mod paths; // paths.rt: where a key's path goes
 mod nodes; // nodes.rt: nodes, used places and copies
 
 mod searches; // searches.rt: the search slots
+
+mod stamps; // stamps.rt: all stamps are different
