@@ -4,3 +4,4 @@ pub mod Reaching
 pub mod Copying
 pub mod Noding
 pub mod Sorting
+pub mod Judging

@@ -254,6 +254,9 @@ module _ (counts stamps : List ℕ) where
   unfolding stampsFrom run different
   took-no-node column l = record { sorted = record { long = l; rises = λ i h g. absurd (omega arith); same = λ v. refl }; differ = refl }
 
+  pub took-every-node : (n held : ℕ) (column : List ℕ) → TookNodes n held column → n ≤ 0 → true ≡ different (stampsFrom counts stamps 0 mostNodes)
+  took-every-node n held column k h = let e : n ≡ 0 = omega arith in sym (rw e at (k .differ))
+
   nodes-next : (n : ℕ) → 0 < n → n ≤ mostNodes
       → nodesFrom (n - 1) ≡ run (width * (n - 1)) (getD counts (n - 1) 0) (numberIn stamps) ++ nodesFrom n
   unfolding stampsFrom
@@ -271,33 +274,39 @@ module _ (counts stamps : List ℕ) where
 
   -- A turn: the stamps of the node before them are put, or one of them is there.
   module _ (n held : ℕ) (column : List ℕ) (k : TookNodes n held column) (h : 0 < n) (g : n ≤ mostNodes) (from count : ℕ)
-      (f : from ≡ width * (n - 1)) (c : count ≡ getD counts (n - 1) 0) (r : Bool)
-      (put : r ≡ different (run from count (numberIn stamps) ++ firsts held column)) where
-    put-node : nodesFrom (n - 1) ≡ run from count (numberIn stamps) ++ nodesFrom n
-    put-node = rw (f, c) (nodes-next n h g)
+      (f : from ≡ width * (n - 1)) (c : count ≡ getD counts (n - 1) 0) where
+    abbrev node-stamps : List ℕ
+    node-stamps = run from (from + count - from) (numberIn stamps)
 
-    next-node : different (nodesFrom (n - 1)) ≡ r
-    next-node =
-        ap different put-node
-        ∙ sym
-        (swap-different (run from count (numberIn stamps)) (firsts held column) (nodesFrom n) (k .sorted .same) (firsts-different column held (k .sorted .rises))
-        (k .differ))
-        ∙ sym put
+    same-count : from + count - from ≡ count
+    same-count = omega arith
 
-    pub took-node : r ≡ true → (after : List ℕ) → Sorted (run from count (numberIn stamps) ++ firsts held column) (held + count) after
-        → TookNodes (n - 1) (held + count) after
-    took-node t after s =
-        record {
-          sorted =
-              record {
-                long = s .long;
-                rises = s .rises;
-                same = λ v.
-                    s .same v ∙ swap-member (run from count (numberIn stamps)) (firsts held column) (nodesFrom n) (k .sorted .same) v
-                    ∙ ap (member v) (sym put-node);
-              };
-          differ = next-node ∙ t;
-        }
+    with-node : nodesFrom (n - 1) ≡ node-stamps ++ nodesFrom n
+    with-node = rw (same-count, f, c) (nodes-next n h g)
 
-    pub took-again : r ≡ false → different (nodesFrom 0) ≡ false
-    took-again t = nodes-fail (n - 1) (omega arith) (next-node ∙ t)
+    module _ (r : Bool) (put : r ≡ different (node-stamps ++ firsts held column)) where
+      next-node : different (nodesFrom (n - 1)) ≡ r
+      next-node =
+          ap different with-node
+          ∙ sym
+          (swap-different node-stamps (firsts held column) (nodesFrom n) (k .sorted .same) (firsts-different column held (k .sorted .rises)) (k .differ))
+          ∙ sym put
+
+      pub took-node : r ≡ true → (after : List ℕ) → Sorted (node-stamps ++ firsts held column) (held + (from + count - from)) after
+          → TookNodes (n - 1) (held + count) after
+      took-node t after s =
+          record {
+            sorted =
+                record {
+                  long = s .long;
+                  rises = rw same-count at (s .rises);
+                  same = λ v.
+                      (rw same-count at (s .same v))
+                      ∙ swap-member (run from count (numberIn stamps)) (firsts held column) (nodesFrom n) (k .sorted .same) v
+                      ∙ ap (member v) (sym (rw same-count at with-node));
+                };
+            differ = next-node ∙ t;
+          }
+
+      pub took-again : r ≡ false → different (nodesFrom 0) ≡ false
+      took-again t = nodes-fail (n - 1) (omega arith) (next-node ∙ t)
