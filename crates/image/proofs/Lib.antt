@@ -3,3 +3,4 @@ pub mod ImageReads
 pub mod ImageBytes
 pub mod LoadWays
 pub mod RoundTrips
+pub mod ReadWays

@@ -113,3 +113,13 @@ all-arrived f i n h t =
     let e : i ≡ 0 = omega arith in
     let s : n - 0 ≡ n = omega arith in
     sym (rw (e, s) at t)
+
+-- A run up to a number: its first element and the run after it, or nothing.
+module _ {A : Type 0} (f : ℕ → A) (i n : ℕ) where
+  pub run-on : i < n → run i (n - i) f ≡ f i ∷ run (suc i) (n - suc i) f
+  unfolding run
+  run-on h = let s : n - i ≡ suc (n - suc i) = omega arith in rw s
+
+  pub run-off : n ≤ i → run i (n - i) f ≡ []
+  unfolding run
+  run-off h = let s : n - i ≡ 0 = omega arith in rw s
