@@ -1,2 +1,5 @@
 pub mod Walking
 pub mod Resting
+pub mod Reaching
+pub mod Copying
+pub mod Noding

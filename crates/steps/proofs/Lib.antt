@@ -3,4 +3,10 @@ pub mod Merges
 pub mod OnPaths
 pub mod WaysOut
 pub mod LineSteps
-pub mod Worked
+pub mod RulesOnLines
+pub mod LinesKept
+pub mod Keeping
+pub mod CarryLaws
+pub mod Refusals
+pub mod SearchLaws
+pub mod Putting

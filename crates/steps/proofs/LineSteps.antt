@@ -11,7 +11,6 @@ use lib.Dec.{eqb}
 use lib.ListN.{length, getD, set, length-set}
 use lib.Seq.{getD-set-same, getD-set-other}
 use borrow.Author.Tests.{eq-eqb, ne-eqb}
-use Rattle.lists.proofs.RisingKeys.{Rising, neighbours-rising}
 use Rattle.plan.specs.declared.Edge.{Edge}
 use Rattle.plan.specs.declared.Hop.{Hop}
 use Rattle.plan.specs.declared.Hop.the-variants.{To}
@@ -20,17 +19,18 @@ use Rattle.plan.specs.PlanRules.{IsEdge, PlanRules}
 use Rattle.plan.proofs.NextLaws.{edge-next}
 use Rattle.store.specs.declared.Copy.{Copy}
 use Rattle.store.specs.declared.Slot.{Slot}
-use Rattle.store.specs.Answers.{DONE, NODE, EDGE}
-use Rattle.store.specs.Copies.{noCopy, copy, keyOf, find, isSome}
+use Rattle.store.specs.Answers.{DONE}
+use Rattle.store.specs.Copies.{copy, keyOf, find, isSome}
 use Rattle.store.specs.State.{State, nodeAt, slotAt, idle, line}
 use Rattle.store.specs.StateRules.{StateRules}
 use Rattle.store.specs.Calls.{Effect}
-use Rattle.steps.specs.Entries.{put, refused, entered, entry}
+use Rattle.steps.specs.Entries.{put, entered, entry}
 use Rattle.steps.specs.Carries.{Merged, bit, mergeAlong, carriedTo, carriedOut, carryStep}
 use Rattle.steps.specs.Searches.{withSlot, startStep, stepStep, cancelStep}
 use Rattle.steps.proofs.NodeLists.{put-same, put-other}
-use Rattle.steps.proofs.Merges.{KeyMerged, merging, key-merged}
+use Rattle.steps.proofs.Merges.{Merging, KeyMerged, merging, key-merged}
 use Rattle.steps.proofs.Merges.KeyMerged.{untouched, carried}
+use Rattle.steps.proofs.RulesOnLines.{rising-nodes}
 use Rattle.steps.proofs.WaysOut.{EntryWay, entry-way, CarryWay, carry-way, StartWay, start-way, RunningWay, Visit, step-way, Freed, cancel-way}
 use Rattle.steps.proofs.WaysOut.EntryWay.{at-last-clock, root-full, enters as copy-enters}
 use Rattle.steps.proofs.WaysOut.CarryWay.{no-node, no-edge, merges}
@@ -88,6 +88,24 @@ unfolding carriedTo
 carried-other n t m s j a b =
     getD-set-other (set (s .nodes) n (m .stay)) t j (m .target) [] b ∙ getD-set-other (s .nodes) n j (m .stay) [] a
 
+-- So what holds of the nodes that were set, and of every node before, holds of every node after.
+pub every-node-entered : (x : Copy) (s : State) → 0 < length (s .nodes) → (Holds : ℕ → List Copy → Type 0)
+    → Holds 0 (put keyOf x (nodeAt s 0)) → ((j : ℕ) → Holds j (nodeAt s j)) → (j : ℕ) → Holds j (nodeAt (entered x s) j)
+every-node-entered x s h Holds f g j = go (ℕ-discrete j 0)
+  where
+    go : Dec (j ≡ 0) → Holds j (nodeAt (entered x s) j)
+    go (yes q) = rw (q, entered-root x s h) f
+    go (no q) = rw (entered-other x s j q) (g j)
+
+pub every-node-carried : (n t : ℕ) (m : Merged Copy) (s : State) → n < t → t < length (s .nodes) → (Holds : ℕ → List Copy → Type 0)
+    → Holds n (m .stay) → Holds t (m .target) → ((j : ℕ) → Holds j (nodeAt s j)) → (j : ℕ) → Holds j (nodeAt (carriedTo n t m s) j)
+every-node-carried n t m s d h Holds f g r j = go (ℕ-discrete j n) (ℕ-discrete j t)
+  where
+    go : Dec (j ≡ n) → Dec (j ≡ t) → Holds j (nodeAt (carriedTo n t m s) j)
+    go (yes q) c = rw (q, carried-from n t m s (omega arith) (λ (e : n ≡ t). omega arith)) f
+    go (no q) (yes c) = rw (c, carried-into n t m s h) g
+    go (no q) (no c) = rw (carried-other n t m s j q c) (r j)
+
 -- The slots after a slot was set: that one, and the others as they were.
 pub slot-set : (i : ℕ) (q : Slot) (s : State) → i < length (s .slots) → slotAt (withSlot i q s) i ≡ q
 slot-set i q s h = getD-set-same (s .slots) i q idle h
@@ -108,11 +126,8 @@ entered-line x s h =
     }
 
 pub entered-other-line : (x : Copy) (s : State) → 0 < length (s .nodes) → (k : ℕ) → x .key ≢ k → (m : ℕ) → line (entered x s) k m ≡ line s k m
-entered-other-line x s h k e m = go (ℕ-discrete m 0)
-  where
-    go : Dec (m ≡ 0) → line (entered x s) k m ≡ line s k m
-    go (yes q) = rw q (line-of (entered x s) k 0 _ (entered-root x s h) ∙ put-other keyOf x (nodeAt s 0) k e)
-    go (no q) = line-of (entered x s) k m _ (entered-other x s m q)
+entered-other-line x s h k e =
+    every-node-entered x s h (λ j xs. find keyOf xs k ≡ line s k j) (put-other keyOf x (nodeAt s 0) k e) (λ j. refl)
 
 -- Searches leave nodes and clock as they were,
 pub record Still (s s′ : State) : Type 0 where
@@ -163,10 +178,6 @@ carry-slots n i p s = go (carry-way n i p s)
     go (no-edge h f) = refl
     go (merges d) = unfold carriedOut carriedTo in refl
 
--- The keys of each node rise.
-pub rising-nodes : (p : Plan) (s : State) → StateRules p s → (n : ℕ) → Rising keyOf 0 (nodeAt s n)
-rising-nodes p s r n = neighbours-rising keyOf 0 (nodeAt s n) noCopy (λ h. omega arith) (r .keys-strictly-rise n)
-
 -- "A carry carries a line exactly when the node had its copy before and lacks it after": 1 if so, else 0.
 abbrev pub carriedFrom : State → State → ℕ → ℕ → ℕ
 carriedFrom s s′ n k = bit (isSome (line s k n) && not (isSome (line s′ k n)))
@@ -184,51 +195,54 @@ LineThrough p s e k moves entries =
 abbrev pub afterCarry : Plan → ℕ → ℕ → State → State
 afterCarry p n i s = carriedTo n (edgeOf p n i .target) (mergeAlong p n (edgeOf p n i) s) s
 
+pub merging-along : (p : Plan) (n : ℕ) (e : Edge) (s : State)
+    → Merging keyOf (capacityOf p (e .target)) e (nodeAt s n) (nodeAt s (e .target)) (mergeAlong p n e s .stay) (mergeAlong p n e s .target)
+unfolding mergeAlong
+merging-along p n e s = merging keyOf (capacityOf p (e .target)) e (nodeAt s n) (nodeAt s (e .target))
+
 not-twice : (b : Bool) → bit (b && not b) ≡ 0
 not-twice true = refl
 not-twice false = refl
 
 module _ (p : Plan) (rules : PlanRules p) (s : State) (good : StateRules p s) (k : ℕ) where
-  -- A line that a step leaves as it was.
-  left : (e : Effect) → s .clock ≤ e .after .clock → ((m : ℕ) → line (e .after) k m ≡ line s k m) → (n : ℕ)
-      → LineThrough p s e k (carriedFrom s (e .after) n k) 0
-  left e h f n =
-      same (ap (λ (o : Option Copy). bit (isSome (line s k n) && not (isSome o))) (f n) ∙ not-twice (isSome (line s k n))) refl h f
+  -- A line that is left as it was.
+  left : (s′ : State) → ((m : ℕ) → line s′ k m ≡ line s k m) → (n : ℕ)
+      → LineStep (λ m. next p m k) (s .clock) (s .clock) (line s k) (line s′ k) (carriedFrom s s′ n k) 0
+  left s′ f n =
+      same (ap (λ (o : Option Copy). bit (isSome (line s k n) && not (isSome o))) (f n) ∙ not-twice (isSome (line s k n))) refl
+      (omega arith) f
 
-  pub entry-line : (kind j v : ℕ) → LineThrough p s (entry kind j v p s) k 0 (enteredOn (entry kind j v p s) j k)
-  entry-line kind j v = go (entry-way kind j v p s)
+  pub entered-step : (x : Copy) → x .stamp ≡ s .clock
+      → LineStep (λ m. next p m k) (s .clock) (suc (s .clock)) (line s k) (line (entered x s) k) 0 (bit (eqb (x .key) k))
+  entered-step x t = go (ℕ-discrete (x .key) k)
     where
       root : 0 < length (s .nodes)
       root = omega (arith, good .a-list-for-each-node, rules .two-to-eight-nodes)
 
-      x : Copy
-      x = copy j kind v (s .clock)
-
-      at : Dec (j ≡ k) → LineStep (λ m. next p m k) (s .clock) (suc (s .clock)) (line s k) (line (entered x s) k) 0 (bit (eqb j k))
-      at (yes q) =
-          enters refl (ap bit (eq-eqb j k q)) x refl (omega arith)
+      go : Dec (x .key ≡ k)
+          → LineStep (λ m. next p m k) (s .clock) (suc (s .clock)) (line s k) (line (entered x s) k) 0 (bit (eqb (x .key) k))
+      go (yes q) =
+          enters refl (ap bit (eq-eqb (x .key) k q)) x t (omega arith)
           (subst (λ (z : ℕ). Entered x (line s z) (line (entered x s) z)) q (entered-line x s root))
-      at (no q) = same refl (ap bit (ne-eqb j k q)) (omega arith) (entered-other-line x s root k q)
+      go (no q) = same refl (ap bit (ne-eqb (x .key) k q)) (omega arith) (entered-other-line x s root k q)
 
+  pub entry-line : (kind j v : ℕ) → LineThrough p s (entry kind j v p s) k 0 (enteredOn (entry kind j v p s) j k)
+  entry-line kind j v = go (entry-way kind j v p s)
+    where
       go : {e : Effect} → EntryWay kind j v p s e → LineThrough p s e k 0 (enteredOn e j k)
       go (at-last-clock h) = same refl refl (omega arith) (λ m. refl)
       go (root-full h f g) = same refl refl (omega arith) (λ m. refl)
-      go (copy-enters h f) = unfold entered in at (ℕ-discrete j k)
+      go (copy-enters h f) = unfold entered in entered-step (copy j kind v (s .clock)) refl
 
   -- What a carry does to the line's copies in its two nodes,
-  pub carried-key : (n i : ℕ)
-      → KeyMerged keyOf (edgeOf p n i) (nodeAt s n) (nodeAt s (edgeOf p n i .target)) (mergeAlong p n (edgeOf p n i) s .stay)
-      (mergeAlong p n (edgeOf p n i) s .target) k
-  unfolding mergeAlong
-  carried-key n i =
-      let e = edgeOf p n i in
-      key-merged keyOf (capacityOf p (e .target)) e
-      (merging keyOf (capacityOf p (e .target)) e (nodeAt s n) (nodeAt s (e .target))) (rising-nodes p s good n) k
+  pub carried-key : (n : ℕ) (e : Edge)
+      → KeyMerged keyOf e (nodeAt s n) (nodeAt s (e .target)) (mergeAlong p n e s .stay) (mergeAlong p n e s .target) k
+  carried-key n e = key-merged keyOf (capacityOf p (e .target)) e (merging-along p n e s) (rising-nodes p s good n) k
 
   -- and so to the line.
   pub merged-line : (n i : ℕ) → IsEdge p n i
       → LineStep (λ m. next p m k) (s .clock) (s .clock) (line s k) (line (afterCarry p n i s) k) (carriedFrom s (afterCarry p n i s) n k) 0
-  merged-line n i d = go (carried-key n i)
+  merged-line n i d = go (carried-key n e)
     where
       e : Edge
       e = edgeOf p n i
@@ -236,14 +250,17 @@ module _ (p : Plan) (rules : PlanRules p) (s : State) (good : StateRules p s) (k
       t : ℕ
       t = e .target
 
-      down : (n < t) × (t < size p)
-      down = rules .target-greater-and-exists n i d
-
       m : Merged Copy
       m = mergeAlong p n e s
 
       s′ : State
       s′ = afterCarry p n i s
+
+      down : (n < t) × (t < size p)
+      down = rules .target-greater-and-exists n i d
+
+      exists : t < length (s .nodes)
+      exists = omega (arith, down .1, good .a-list-for-each-node)
 
       at-n : line s′ k n ≡ find keyOf (m .stay) k
       at-n =
@@ -251,22 +268,16 @@ module _ (p : Plan) (rules : PlanRules p) (s : State) (good : StateRules p s) (k
           (carried-from n t m s (omega (arith, d .node, good .a-list-for-each-node)) (λ (q : n ≡ t). omega (arith, down .0)))
 
       at-t : line s′ k t ≡ find keyOf (m .target) k
-      at-t = line-of s′ k t (m .target) (carried-into n t m s (omega (arith, down .1, good .a-list-for-each-node)))
+      at-t = line-of s′ k t (m .target) (carried-into n t m s exists)
 
       at-other : (j : ℕ) → j ≢ n → j ≢ t → line s′ k j ≡ line s k j
       at-other j a b = line-of s′ k j (nodeAt s j) (carried-other n t m s j a b)
 
-      everywhere : line s′ k n ≡ line s k n → line s′ k t ≡ line s k t → (j : ℕ) → Dec (j ≡ n) → Dec (j ≡ t) → line s′ k j ≡ line s k j
-      everywhere f g j (yes q) c = rw q f
-      everywhere f g j (no q) (yes c) = rw c g
-      everywhere f g j (no q) (no c) = at-other j q c
-
       go : KeyMerged keyOf e (nodeAt s n) (nodeAt s t) (m .stay) (m .target) k
           → LineStep (λ m. next p m k) (s .clock) (s .clock) (line s k) (line s′ k) (carriedFrom s s′ n k) 0
       go (untouched f g) =
-          same
-          (ap (λ (o : Option Copy). bit (isSome (line s k n) && not (isSome o))) (at-n ∙ f) ∙ not-twice (isSome (line s k n)))
-          refl (omega arith) (λ j. everywhere (at-n ∙ f) (at-t ∙ g) j (ℕ-discrete j n) (ℕ-discrete j t))
+          left s′
+          (every-node-carried n t m s (down .0) exists (λ j xs. find keyOf xs k ≡ line s k j) f g (λ j. refl)) n
       go (carried x f h g c) =
           carries (rw (f, at-n, g)) refl n t x refl
           (record { had = f; via = edge-next p rules n i k d h; gone = at-n ∙ g; got = at-t ∙ c; other = at-other })
@@ -275,8 +286,8 @@ module _ (p : Plan) (rules : PlanRules p) (s : State) (good : StateRules p s) (k
   carry-line n i = go (carry-way n i p s)
     where
       go : {e : Effect} → CarryWay n i p s e → LineThrough p s e k (carriedFrom s (e .after) n k) 0
-      go (no-node h) = left (refused NODE s) (omega arith) (λ m. refl) n
-      go (no-edge h f) = left (refused EDGE s) (omega arith) (λ m. refl) n
+      go (no-node h) = left s (λ m. refl) n
+      go (no-edge h f) = left s (λ m. refl) n
       go (merges d) = unfold carriedOut carriedTo in merged-line n i d
 
   -- A search does nothing to any line.

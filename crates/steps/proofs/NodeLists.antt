@@ -14,7 +14,7 @@ use borrow.Author.Tests.{ltb-true, lt-ltb, le-ltb, eq-eqb, ne-eqb}
 use Rattle.lists.proofs.Truths.{not-both, or-right}
 use Rattle.lists.proofs.Options.{option?, not-none-and-some, one-some}
 use Rattle.lists.proofs.Orders.{Order, order?}
-use Rattle.lists.proofs.Orders.Order.{less, same, more}
+use Rattle.lists.proofs.Orders.Order.{less, equal, more}
 use Rattle.lists.proofs.RisingKeys.{Rising, rising-from, rising-least}
 use Rattle.lists.proofs.RisingKeys.Rising.{end, above}
 use Rattle.store.specs.Copies.{find, isSome}
@@ -100,7 +100,7 @@ module _ {A : Type 0} (key : A → ℕ) where
     where
       go : Order (key x) (key y) → find key (put key x ys) k ≡ some x → find key (put key x (y ∷ ys)) k ≡ some x
       go (less h) again = rw (put-before x y ys h) (find-same x (y ∷ ys) k e)
-      go (same h) again = rw (put-over x y ys h) (find-same x ys k e)
+      go (equal h) again = rw (put-over x y ys h) (find-same x ys k e)
       go (more h) again = rw (put-behind x y ys h) (find-other y (put key x ys) k (λ (q : key y ≡ k). omega arith) ∙ again)
 
   -- and every other key what it gave before.
@@ -111,7 +111,7 @@ module _ {A : Type 0} (key : A → ℕ) where
     where
       go : Order (key x) (key y) → find key (put key x ys) k ≡ find key ys k → find key (put key x (y ∷ ys)) k ≡ find key (y ∷ ys) k
       go (less h) again = rw (put-before x y ys h) (find-other x (y ∷ ys) k e)
-      go (same h) again =
+      go (equal h) again =
           rw (put-over x y ys h) (find-other x ys k e ∙ sym (find-other y ys k (λ (q : key y ≡ k). e (h ∙ q))))
       go (more h) again = rw (put-behind x y ys h) (find-on y (put key x ys) ys k again)
 
@@ -123,7 +123,7 @@ module _ {A : Type 0} (key : A → ℕ) where
     where
       go : Order (key x) (key y) → (key y < key x → Rising key (suc (key y)) (put key x ys)) → Rising key b (put key x (y ∷ ys))
       go (less q) again = rw (put-before x y ys q) (above h (above q r))
-      go (same q) again = rw (put-over x y ys q) (above h (rising-from key (omega arith) r))
+      go (equal q) again = rw (put-over x y ys q) (above h (rising-from key (omega arith) r))
       go (more q) again = rw (put-behind x y ys q) (above g (again q))
 
   -- A put adds at most one,
@@ -134,7 +134,7 @@ module _ {A : Type 0} (key : A → ℕ) where
     where
       go : Order (key x) (key y) → length (put key x ys) ≤ suc (length ys) → length (put key x (y ∷ ys)) ≤ suc (suc (length ys))
       go (less h) again = rw (put-before x y ys h) (omega arith)
-      go (same h) again = rw (put-over x y ys h) (omega arith)
+      go (equal h) again = rw (put-over x y ys h) (omega arith)
       go (more h) again = rw (put-behind x y ys h) (omega arith)
 
   -- one where the key was not there,
@@ -146,7 +146,7 @@ module _ {A : Type 0} (key : A → ℕ) where
       go : Order (key x) (key y) → (find key ys (key x) ≡ none → length (put key x ys) ≡ suc (length ys))
           → length (put key x (y ∷ ys)) ≡ suc (suc (length ys))
       go (less h) again = rw (put-before x y ys h)
-      go (same h) again = absurd (not-none-and-some e (find-same y ys (key x) (sym h)))
+      go (equal h) again = absurd (not-none-and-some e (find-same y ys (key x) (sym h)))
       go (more h) again =
           rw (put-behind x y ys h) (ap suc (again (sym (find-other y ys (key x) (λ (q : key y ≡ key x). omega arith)) ∙ e)))
 
@@ -160,7 +160,7 @@ module _ {A : Type 0} (key : A → ℕ) where
       go (less h) again =
           absurd
           (not-none-and-some (find-other z ys (key x) (λ (q : key z ≡ key x). omega arith) ∙ find-low r (key x) (omega arith)) e)
-      go (same h) again = rw (put-over x z ys h)
+      go (equal h) again = rw (put-over x z ys h)
       go (more h) again =
           rw (put-behind x z ys h) (ap suc (again (sym (find-other z ys (key x) (λ (q : key z ≡ key x). omega arith)) ∙ e)))
 
@@ -171,7 +171,7 @@ module _ {A : Type 0} (key : A → ℕ) where
     where
       go : Order (key x) (key y) → length ys ≤ length (put key x ys) → suc (length ys) ≤ length (put key x (y ∷ ys))
       go (less h) again = rw (put-before x y ys h) (omega arith)
-      go (same h) again = rw (put-over x y ys h) (omega arith)
+      go (equal h) again = rw (put-over x y ys h) (omega arith)
       go (more h) again = rw (put-behind x y ys h) (omega arith)
 
   -- There is room where the key is,
@@ -197,7 +197,7 @@ module _ {A : Type 0} (key : A → ℕ) where
           → (find key xs k ≡ none) × (capacity ≤ length xs)
       go (inr w) o = absurd (not-both (room-has capacity xs k (w .0) (w .1)) e)
       go (inl n) (less h) = absurd (not-both (room-free capacity xs k h) e)
-      go (inl n) (same h) = (n, omega arith)
+      go (inl n) (equal h) = (n, omega arith)
       go (inl n) (more h) = (n, omega arith)
 
   -- A put for which there is room stays within the capacity.

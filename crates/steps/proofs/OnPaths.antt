@@ -5,17 +5,17 @@ use native.Mathlib.Omega.{arith}
 use native.Mathlib.Decide.{decLt}
 use lib.ListN.{length, getD}
 use Rattle.lists.proofs.Orders.{Order, order?}
-use Rattle.lists.proofs.Orders.Order.{less, same, more}
+use Rattle.lists.proofs.Orders.Order.{less, equal, more}
 use Rattle.plan.specs.declared.Hop.the-variants.{To}
 use Rattle.plan.specs.Plan.{Plan, size, next, path, IsPath}
 use Rattle.plan.specs.PlanRules.{PlanRules}
-use Rattle.plan.proofs.NextLaws.{not-both-hops, one-target}
-use Rattle.plan.proofs.PathLaws.{path-some, path-first, path-next, path-is, root-in-plan, path-down, path-in-plan, path-end, one-place}
+use Rattle.plan.proofs.NextLaws.{not-both-hops, one-target, root-in-plan}
+use Rattle.plan.proofs.PathLaws.{path-some, path-first, path-next, path-is, path-down, path-in-plan, path-end, one-place}
 use Rattle.store.specs.StateRules.{OnPath}
 
 module _ (p : Plan) (rules : PlanRules p) (k : ℕ) where
   is-path : IsPath (λ m. next p m k) 0 (path p k)
-  is-path = path-is p rules k 0 (root-in-plan p rules k)
+  is-path = path-is p rules k 0 (root-in-plan p rules)
 
   -- The root stands first.
   pub root-on-path : OnPath p k 0 0
@@ -54,7 +54,7 @@ module _ (p : Plan) (rules : PlanRules p) (k : ℕ) where
 
       go : Order (suc a) b → Order b a → t ≤ m
       go (less g) d = omega (arith, path-down p rules k (suc a) b g (q .inside), after .here, q .here)
-      go (same g) d = omega (arith, after .here, at (suc a) g)
+      go (equal g) d = omega (arith, after .here, at (suc a) g)
       go (more g) (less f) = absurd (omega (arith, path-down p rules k b a f (o .inside), o .here, q .here))
-      go (more g) (same f) = absurd (omega (arith, o .here, at a (sym f)))
+      go (more g) (equal f) = absurd (omega (arith, o .here, at a (sym f)))
       go (more g) (more f) = absurd (omega arith)

@@ -1,12 +1,13 @@
 pub mod Laying
-pub mod Lifting
 pub mod RulingLists
 pub mod RulingLines
 pub mod RulingStamps
 pub mod RulingParts
 pub mod Ruling
+pub mod Lifting
 pub mod Seeking
 pub mod Halving
 pub mod Freshening
 pub mod Opening
 pub mod Zeros
+pub mod GoodNodes

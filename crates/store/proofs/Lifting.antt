@@ -1,11 +1,11 @@
 -- Calls on stores: what a step on states shows of its call, the store rules kept by it, and the fresh store. Assumes nothing.
-use mathlib.Core.Path.{_≡_, ap, _∙_}
+use mathlib.Core.Path.{_≡_, sym, ap, _∙_}
 use mathlib.Core.Bool.{true, false}
 use mathlib.Core.Logic.{_⊎_, inl, inr}
 use mathlib.Core.List.{[]}
-use Prim.Native.Nat.{ℕ, suc, _≤_}
+use Prim.Native.Nat.{ℕ, suc, _+_, _-_, _*_, _<_, _≤_}
 use native.Mathlib.Omega.{arith}
-use lib.ListN.{length, replicate, length-replicate}
+use lib.ListN.{length, length-replicate}
 use Rattle.lists.proofs.Truths.{bool?}
 use Rattle.lists.proofs.Storing.{getD-same}
 use Rattle.plan.specs.Sizes.{mostNodes}
@@ -20,10 +20,12 @@ use Rattle.store.specs.declared.Store.{Store}
 use Rattle.store.specs.Answers.{BADSTORE, bare}
 use Rattle.store.specs.State.{State, nodeAt, slotAt, slotCount, idle, fresh}
 use Rattle.store.specs.StateRules.{StateRules, HeldAt}
-use Rattle.store.specs.Layout.{places, stateOf, storeOf, freshStore}
+use Rattle.store.specs.Layout.{width, countOf, stateOf, storeOf, freshStore}
 use Rattle.store.specs.StoreRules.{StoreRules, goodStore}
+use Rattle.store.specs.Workers.{RisesIn, Ordered}
 use Rattle.store.specs.Calls.{Effect, onStore, ofStore}
-use Rattle.store.proofs.Laying.{blank-store, store-back, rules-back, rules-store}
+use Rattle.store.proofs.Laying.{every-count, every-copy, store-back, node-fits, rules-back, rules-store}
+use Rattle.store.proofs.Ruling.{good-rules, rules-good}
 
 -- The two ways of a call: a bad store, and a good one.
 module _ (f : Plan → State → Effect) (z : Store) where
@@ -92,61 +94,77 @@ module _ (p : Plan) where
         running-searches-on-their-paths = λ i h runs. absurd (runs (ap (λ (q : Slot). q .running) (fresh-slot i)));
       }
 
--- The fresh store: zeros over all places and counts, and idle slots.
-pub fresh-is : (plan : ℕ)
-    → record {
-      plan = plan;
-      clock = 1;
-      counts = replicate mostNodes 0;
-      keys = replicate places 0;
-      kinds = replicate places 0;
-      values = replicate places 0;
-      stamps = replicate places 0;
-      slots = replicate slotCount idle;
-    } ≡ freshStore plan
-unfolding freshStore fresh
-fresh-is plan = blank-store plan (fresh (planOf plan)) (fresh-node (planOf plan))
-
 pub fresh-back : (plan : ℕ) → 1 ≤ plan → plan ≤ plans → stateOf (freshStore plan) ≡ fresh (planOf plan)
 unfolding freshStore
 fresh-back plan low high = rules-back plan low high (fresh-rules (planOf plan))
 
--- With the store rules and their test being one.
-module _ (good-rules : (z : Store) → goodStore z ≡ true → StoreRules z) (rules-good : (z : Store) → StoreRules z → goodStore z ≡ true) where
-  pub fresh-good : (plan : ℕ) → 1 ≤ plan → plan ≤ plans → goodStore (freshStore plan) ≡ true
-  unfolding freshStore
-  fresh-good plan low high = rules-good (storeOf plan (fresh (planOf plan))) (rules-store plan low high (fresh-rules (planOf plan)))
+pub fresh-good : (plan : ℕ) → 1 ≤ plan → plan ≤ plans → goodStore (freshStore plan) ≡ true
+unfolding freshStore
+fresh-good plan low high = rules-good (storeOf plan (fresh (planOf plan))) (rules-store plan low high (fresh-rules (planOf plan)))
 
-  -- A good store's plan and state keep the rules, and so does what a step that keeps them leaves.
-  pub plan-good : (z : Store) → goodStore z ≡ true → PlanRules (planOf (z .plan))
-  plan-good z good = let r = good-rules z good in table-rules (z .plan) (r .plan-1-to-3 .0) (r .plan-1-to-3 .1)
+-- A good store's plan and state keep the rules, and so does what a step that keeps them leaves.
+pub plan-good : (z : Store) → goodStore z ≡ true → PlanRules (planOf (z .plan))
+plan-good z good = let r = good-rules z good in table-rules (z .plan) (r .plan-1-to-3 .0) (r .plan-1-to-3 .1)
 
-  pub state-good : (z : Store) → goodStore z ≡ true → StateRules (planOf (z .plan)) (stateOf z)
-  state-good z good = good-rules z good .state-rules
+pub state-good : (z : Store) → goodStore z ≡ true → StateRules (planOf (z .plan)) (stateOf z)
+state-good z good = good-rules z good .state-rules
 
-  pub good-back : (z : Store) → goodStore z ≡ true → storeOf (z .plan) (stateOf z) ≡ z
-  good-back z good = store-back z (good-rules z good)
+-- Its nodes are in order: a look goes by halves in each.
+pub good-ordered : (z : Store) → goodStore z ≡ true → (n : ℕ) → n < mostNodes → Ordered (z .counts) (z .keys) n
+good-ordered z good n h = record { fits = few; rises = rises }
+  where
+    rules : StoreRules z
+    rules = good-rules z good
 
-  module _ (f : Plan → State → Effect) (z : Store) where
-    -- A step that leaves the state leaves the store, of any z.
-    pub store-stays : f (planOf (z .plan)) (stateOf z) .after ≡ stateOf z → onStore f z .store ≡ z
-    store-stays stays = go (bool? (goodStore z))
-      where
-        go : (goodStore z ≡ true) ⊎ (goodStore z ≡ false) → onStore f z .store ≡ z
-        go (inl good) = ap (λ (o : Outcome). o .store) (on-good f z good) ∙ ap (storeOf (z .plan)) stays ∙ good-back z good
-        go (inr bad) = ap (λ (o : Outcome). o .store) (on-bad f z bad)
+    few : countOf z n ≤ width
+    few = omega (arith, every-count z rules n h, node-fits (plan-good z good) (rules .state-rules) n)
 
-    module _ (keeps : Keeps f) (good : goodStore z ≡ true) where
-      after-good : StateRules (planOf (z .plan)) (f (planOf (z .plan)) (stateOf z) .after)
-      after-good = keeps (planOf (z .plan)) (plan-good z good) (stateOf z) (state-good z good)
+    rises : RisesIn (z .keys) (width * n) (width * n + countOf z n)
+    rises i from end =
+        let j = i - width * n in
+        let here : width * n + j ≡ i = omega arith in
+        let next : width * n + suc j ≡ suc i = omega arith in
+        let held : suc j < length (nodeAt (stateOf z) n) = omega (arith, every-count z rules n h) in
+        let a = every-copy z rules n j h (omega (arith, few)) in
+        let b = every-copy z rules n (suc j) h (omega (arith, few)) in
+        rw (a, b, here, next) at (rules .state-rules .keys-strictly-rise n j held)
 
-      pub on-keeps : goodStore (onStore f z .store) ≡ true
-      on-keeps =
-          let r = good-rules z good .plan-1-to-3 in
-          let e = ap (λ (o : Outcome). goodStore (o .store)) (on-good f z good) in
-          e ∙ rules-good (storeOf (z .plan) (f (planOf (z .plan)) (stateOf z) .after)) (rules-store (z .plan) (r .0) (r .1) after-good)
+pub good-back : (z : Store) → goodStore z ≡ true → storeOf (z .plan) (stateOf z) ≡ z
+good-back z good = store-back z (good-rules z good)
 
-      pub state-agrees : stateOf (onStore f z .store) ≡ f (planOf (z .plan)) (stateOf z) .after
-      state-agrees =
-          let r = good-rules z good .plan-1-to-3 in
-          ap (λ (o : Outcome). stateOf (o .store)) (on-good f z good) ∙ rules-back (z .plan) (r .0) (r .1) after-good
+module _ (f : Plan → State → Effect) (z : Store) where
+  -- A step that leaves the state leaves the store, of any z.
+  pub store-stays : f (planOf (z .plan)) (stateOf z) .after ≡ stateOf z → onStore f z .store ≡ z
+  store-stays stays = go (bool? (goodStore z))
+    where
+      go : (goodStore z ≡ true) ⊎ (goodStore z ≡ false) → onStore f z .store ≡ z
+      go (inl good) = ap (λ (o : Outcome). o .store) (on-good f z good) ∙ ap (storeOf (z .plan)) stays ∙ good-back z good
+      go (inr bad) = ap (λ (o : Outcome). o .store) (on-bad f z bad)
+
+  module _ (keeps : Keeps f) (good : goodStore z ≡ true) where
+    after-good : StateRules (planOf (z .plan)) (f (planOf (z .plan)) (stateOf z) .after)
+    after-good = keeps (planOf (z .plan)) (plan-good z good) (stateOf z) (state-good z good)
+
+    pub on-keeps : goodStore (onStore f z .store) ≡ true
+    on-keeps =
+        let r = good-rules z good .plan-1-to-3 in
+        let e = ap (λ (o : Outcome). goodStore (o .store)) (on-good f z good) in
+        e ∙ rules-good (storeOf (z .plan) (f (planOf (z .plan)) (stateOf z) .after)) (rules-store (z .plan) (r .0) (r .1) after-good)
+
+    pub state-agrees : stateOf (onStore f z .store) ≡ f (planOf (z .plan)) (stateOf z) .after
+    state-agrees =
+        let r = good-rules z good .plan-1-to-3 in
+        ap (λ (o : Outcome). stateOf (o .store)) (on-good f z good) ∙ rules-back (z .plan) (r .0) (r .1) after-good
+
+-- A call's outcome by the way out of its step: the answer and a store of the state after it,
+module _ (f : Plan → State → Effect) (z : Store) (good : goodStore z ≡ true) where
+  pub on-way : (a : Answer) (t : State) (r : Store) → f (planOf (z .plan)) (stateOf z) ≡ record { answer = a; after = t }
+      → r ≡ storeOf (z .plan) t → record { answer = a; store = r } ≡ onStore f z
+  on-way a t r e q =
+      ap (λ (y : Store). record { answer = a; store = y }) q
+      ∙ sym (on-good f z good ∙ ap (λ (w : Effect). record { answer = w .answer; store = storeOf (z .plan) (w .after) }) e)
+
+  -- or a refusal, and the store as it was.
+  pub on-refusal : (number : ℕ) → f (planOf (z .plan)) (stateOf z) ≡ record { answer = bare number; after = stateOf z }
+      → record { answer = bare number; store = z } ≡ onStore f z
+  on-refusal number e = on-way (bare number) (stateOf z) z e (sym (good-back z good))

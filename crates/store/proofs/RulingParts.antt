@@ -18,7 +18,7 @@ use Rattle.store.specs.Copies.{WITHDRAWN, RESULT, noCopy, stampOf, membe
 use Rattle.store.specs.State.{State, copyAt, idle, inReach}
 use Rattle.store.specs.StateRules.{HeldAt, KindAndValue, OnPath}
 use Rattle.store.specs.Layout.{width, copyOf, countOf, stateOf}
-use Rattle.store.specs.StoreRules.{kindTest, copyTest, unusedTest, standsAt, slotTest}
+use Rattle.store.specs.StoreRules.{kindTest, copyTest, unusedTest, slotTest}
 use Rattle.store.proofs.Laying.{state-past, state-count, state-copy}
 use Rattle.store.proofs.RulingLists.{member-at, at-member, stands-at, at-stands, zeros-between, between-zeros}
 
@@ -44,14 +44,13 @@ module _ (z : Store) where
 -- Kinds and values.
 kind-rule : (x : Copy) → kindTest x ≡ true → KindAndValue x
 unfolding kindTest
-kind-rule x t =
-    ⊎-elim (λ (a : eqb (x .kind) RESULT ≡ true). inl (eqb-true (x .kind) RESULT a))
-    (λ (a : eqb (x .kind) WITHDRAWN && eqb (x .value) 0 ≡ true).
-    inr (
-      eqb-true (x .kind) WITHDRAWN (and-left (eqb (x .kind) WITHDRAWN) (eqb (x .value) 0) a),
-      eqb-true (x .value) 0 (and-right (eqb (x .kind) WITHDRAWN) (eqb (x .value) 0) a),
-    ))
-    (or-cases (eqb (x .kind) RESULT) (eqb (x .kind) WITHDRAWN && eqb (x .value) 0) t)
+kind-rule x t = go (ℕ-discrete (x .kind) RESULT)
+  where
+    go : Dec (x .kind ≡ RESULT) → KindAndValue x
+    go (yes e) = inl e
+    go (no e) =
+        let withdrawn = rw (ne-eqb (x .kind) RESULT e) at t in
+        inr (eqb-true (x .kind) WITHDRAWN (search and-left), eqb-true (x .value) 0 (search and-right))
 
 rule-kind : (x : Copy) → KindAndValue x → kindTest x ≡ true
 unfolding kindTest
@@ -109,7 +108,7 @@ rule-order end i a b r = go (decLt i end)
 pub slot-idle : (p : Plan) (q : Slot) → slotTest p q ≡ true → q .running ≡ 0 → q ≡ idle
 unfolding slotTest
 slot-idle p q t e =
-    let zeros : eqb (q .key) 0 && eqb (q .node) 0 && eqb (q .visits) 0 ≡ true = rw (eq-eqb (q .running) 0 e) at t in
+    let zeros = rw (eq-eqb (q .running) 0 e) at t in
     let key = eqb-true (q .key) 0 (search (and-left, and-right) depth 8) in
     let node = eqb-true (q .node) 0 (search (and-left, and-right) depth 8) in
     let visits = eqb-true (q .visits) 0 (search (and-left, and-right) depth 8) in
@@ -118,7 +117,7 @@ slot-idle p q t e =
 pub slot-runs : (p : Plan) (q : Slot) → slotTest p q ≡ true → (q .running ≡ 0 → ⊥) → (q .running ≡ 1) × OnPath p (q .key) (q .node) (q .visits)
 unfolding slotTest
 slot-runs p q t e =
-    let runs : eqb (q .running) 1 && standsAt (q .node) (path p (q .key)) (q .visits) ≡ true = rw (ne-eqb (q .running) 0 e) at t in
+    let runs = rw (ne-eqb (q .running) 0 e) at t in
     let w = stands-at (q .node) (path p (q .key)) (q .visits) (search (and-left, and-right) depth 8) in
     (eqb-true (q .running) 1 (search and-left), record { inside = w .0; here = w .1 })
 

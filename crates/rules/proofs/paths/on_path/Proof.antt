@@ -1,9 +1,9 @@
 use mathlib.Core.Path.{_≡_, sym, ap, _∙_}
-use Prim.Native.Nat.{_≤_, _-_}
+use Prim.Native.Nat.{_-_}
 use native.Mathlib.Omega.{arith}
 use borrow.Author.Needs.{needs}
 use Rattle.plan.specs.declared.Hop.{Hop}
-use Rattle.plan.specs.Plan.{size, walk, path}
+use Rattle.plan.specs.Plan.{walk, path}
 use Rattle.plan.specs.PlanTable.{planOf}
 use Rattle.store.specs.Copies.{member}
 use Rattle.rules.proofs.Walking.{path-walk, on-out, on-ends, on-here, on-later}
@@ -16,7 +16,7 @@ use Rattle.plan.proofs.nodes.Reads as nodes-reads
 
 abbrev Inv-loop : tie.InvT-loop
 Inv-loop plan key node left₀ hop₀ left hop =
-    (left ≤ size (planOf plan)) × (member node (path (planOf plan) key) ≡ member node (walk (planOf plan) key left hop))
+    member node (path (planOf plan) key) ≡ member node (walk (planOf plan) key left hop)
 
 abbrev μ-loop : tie.MeasureT-loop
 μ-loop plan key node left₀ hop₀ left hop = left
@@ -29,7 +29,7 @@ nodes-requires c κs = search needs
 loop-holds : tie.Need-loop-holds Inv-loop μ-loop
 loop-holds c =
     let s = c .before in
-    (omega (arith, c .nodes .ensures), ap (member (s .args .node)) (path-walk (planOf (s .args .plan)) (s .args .key) (c .nodes .result) (c .nodes .ensures)))
+    ap (member (s .args .node)) (path-walk (planOf (s .args .plan)) (s .args .key) (c .nodes .result) (c .nodes .ensures))
 
 -- src/paths.rt:16:21
 enum-known-hop : tie.Need-enum-known-hop Inv-loop μ-loop
@@ -44,14 +44,14 @@ returns : tie.Need-returns Inv-loop μ-loop
 returns c =
     let l = c .before .before .before in
     let s = l .before .before in
-    sym (l .loop .inv .1 ∙ on-ends (planOf (s .args .plan)) (s .args .key) (l .loop .left) (l .loop .hop) (s .args .node) (c .enum-told .given .1))
+    sym (l .loop .inv ∙ on-ends (planOf (s .args .plan)) (s .args .key) (l .loop .left) (l .loop .hop) (s .args .node) (c .enum-told .given .1))
 
 -- src/paths.rt:20:13
 returns-2 : tie.Need-returns-2 Inv-loop μ-loop
 returns-2 c =
     let l = c .before .before .before .before .before in
     let s = l .before .before in
-    sym (l .loop .inv .1 ∙ on-here (planOf (s .args .plan)) (s .args .key) (l .loop .left) (l .loop .hop) (s .args .node) (c .before .before .hop .given .0 .0) (omega arith) (c .before .before .hop .given .1) (c .if1 .taken))
+    sym (l .loop .inv ∙ on-here (planOf (s .args .plan)) (s .args .key) (l .loop .left) (l .loop .hop) (s .args .node) (c .before .before .hop .given .0 .0) (omega arith) (c .before .before .hop .given .1) (c .if1 .taken))
 
 -- src/paths.rt:22:9
 next-requires : tie.Need-next-requires Inv-loop μ-loop
@@ -71,17 +71,16 @@ loop-again c =
     let l = c .before .before .before .before .before .before in
     let s = l .before .before in
     let at = c .before .before .before .hop .given in
-    (omega arith,
-    l .loop .inv .1
+    l .loop .inv
     ∙ on-later (planOf (s .args .plan)) (s .args .key) (l .loop .left) (l .loop .hop) (s .args .node) (at .0 .0) (omega arith) (at .1) (c .before .if1 .left)
-    ∙ ap (λ (h : Hop). member (s .args .node) (walk (planOf (s .args .plan)) (s .args .key) (l .loop .left - 1) h)) (sym (c .next .ensures)))
+    ∙ ap (λ (h : Hop). member (s .args .node) (walk (planOf (s .args .plan)) (s .args .key) (l .loop .left - 1) h)) (sym (c .next .ensures))
 
 -- src/paths.rt:10:1
 returns-3 : tie.Need-returns-3 Inv-loop μ-loop
 returns-3 c =
     let l = c .before in
     let s = l .before .before in
-    sym (l .loop .inv .1 ∙ on-out (planOf (s .args .plan)) (s .args .key) (l .loop .left) (l .loop .hop) (s .args .node) (omega arith))
+    sym (l .loop .inv ∙ on-out (planOf (s .args .plan)) (s .args .key) (l .loop .left) (l .loop .hop) (s .args .node) (omega arith))
 
 pub on-path-spec : {M : Type 1} → statement M
 on-path-spec =

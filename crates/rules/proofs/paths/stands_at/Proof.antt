@@ -1,10 +1,10 @@
 use mathlib.Core.Path.{_≡_, sym, ap, _∙_}
 use mathlib.Core.List.{List}
-use Prim.Native.Nat.{ℕ, _≤_, _-_}
+use Prim.Native.Nat.{ℕ, _-_}
 use native.Mathlib.Omega.{arith}
 use borrow.Author.Needs.{needs}
 use Rattle.plan.specs.declared.Hop.{Hop}
-use Rattle.plan.specs.Plan.{size, walk, path}
+use Rattle.plan.specs.Plan.{walk, path}
 use Rattle.plan.specs.PlanTable.{planOf}
 use Rattle.store.specs.StoreRules.{standsAt}
 use Rattle.rules.proofs.Walking.{path-walk, stands-out, stands-ends, stands-here, stands-later}
@@ -17,7 +17,7 @@ use Rattle.plan.proofs.nodes.Reads as nodes-reads
 
 abbrev Inv-loop : tie.InvT-loop
 Inv-loop plan key node above left₀ hop₀ over₀ left hop over =
-    (left ≤ size (planOf plan)) × (standsAt node (path (planOf plan) key) above ≡ standsAt node (walk (planOf plan) key left hop) over)
+    standsAt node (path (planOf plan) key) above ≡ standsAt node (walk (planOf plan) key left hop) over
 
 abbrev μ-loop : tie.MeasureT-loop
 μ-loop plan key node above left₀ hop₀ over₀ left hop over = left
@@ -30,7 +30,7 @@ nodes-requires c κs = search needs
 loop-holds : tie.Need-loop-holds Inv-loop μ-loop
 loop-holds c =
     let s = c .before in
-    (omega (arith, c .nodes .ensures), ap (λ (ns : List ℕ). standsAt (s .args .node) ns (s .args .above)) (path-walk (planOf (s .args .plan)) (s .args .key) (c .nodes .result) (c .nodes .ensures)))
+    ap (λ (ns : List ℕ). standsAt (s .args .node) ns (s .args .above)) (path-walk (planOf (s .args .plan)) (s .args .key) (c .nodes .result) (c .nodes .ensures))
 
 -- src/paths.rt:36:21
 enum-known-hop : tie.Need-enum-known-hop Inv-loop μ-loop
@@ -45,14 +45,14 @@ returns : tie.Need-returns Inv-loop μ-loop
 returns c =
     let l = c .before .before .before in
     let s = l .before .before in
-    sym (l .loop .inv .1 ∙ stands-ends (planOf (s .args .plan)) (s .args .key) (l .loop .left) (l .loop .hop) (s .args .node) (l .loop .over) (c .enum-told .given .1))
+    sym (l .loop .inv ∙ stands-ends (planOf (s .args .plan)) (s .args .key) (l .loop .left) (l .loop .hop) (s .args .node) (l .loop .over) (c .enum-told .given .1))
 
 -- src/paths.rt:40:13
 returns-2 : tie.Need-returns-2 Inv-loop μ-loop
 returns-2 c =
     let l = c .before .before .before .before .before in
     let s = l .before .before in
-    sym (l .loop .inv .1 ∙ stands-here (planOf (s .args .plan)) (s .args .key) (l .loop .left) (l .loop .hop) (s .args .node) (l .loop .over) (c .before .before .hop .given .0 .0) (omega arith) (c .before .before .hop .given .1) (c .if1 .taken))
+    sym (l .loop .inv ∙ stands-here (planOf (s .args .plan)) (s .args .key) (l .loop .left) (l .loop .hop) (s .args .node) (l .loop .over) (c .before .before .hop .given .0 .0) (omega arith) (c .before .before .hop .given .1) (c .if1 .taken))
 
 -- src/paths.rt:42:9
 next-requires : tie.Need-next-requires Inv-loop μ-loop
@@ -76,17 +76,16 @@ loop-again c =
     let l = c .before .before .before .before .before .before in
     let s = l .before .before in
     let at = c .before .before .before .hop .given in
-    (omega arith,
-    l .loop .inv .1
+    l .loop .inv
     ∙ stands-later (planOf (s .args .plan)) (s .args .key) (l .loop .left) (l .loop .hop) (s .args .node) (l .loop .over) (at .0 .0) (omega arith) (at .1) (c .before .if1 .left)
-    ∙ ap (λ (h : Hop). standsAt (s .args .node) (walk (planOf (s .args .plan)) (s .args .key) (l .loop .left - 1) h) (l .loop .over - 1)) (sym (c .next .ensures)))
+    ∙ ap (λ (h : Hop). standsAt (s .args .node) (walk (planOf (s .args .plan)) (s .args .key) (l .loop .left - 1) h) (l .loop .over - 1)) (sym (c .next .ensures))
 
 -- src/paths.rt:29:1
 returns-3 : tie.Need-returns-3 Inv-loop μ-loop
 returns-3 c =
     let l = c .before in
     let s = l .before .before in
-    sym (l .loop .inv .1 ∙ stands-out (planOf (s .args .plan)) (s .args .key) (l .loop .left) (l .loop .hop) (s .args .node) (l .loop .over) (omega arith))
+    sym (l .loop .inv ∙ stands-out (planOf (s .args .plan)) (s .args .key) (l .loop .left) (l .loop .hop) (s .args .node) (l .loop .over) (omega arith))
 
 pub stands-at-spec : {M : Type 1} → statement M
 stands-at-spec =

@@ -118,6 +118,20 @@ unfoldable pub ownSteps : ℕ → List Event → ℕ
 ownSteps i [] = 0
 ownSteps i (e ∷ es) = bit (isOwnStep i e) + ownSteps i es
 
+-- No event of a sequence cancels the search in a slot.
+unfoldable pub cancelsSlot : ℕ → Event → Bool
+cancelsSlot i (cancels j) = eqb j i
+cancelsSlot i (steps j) = false
+cancelsSlot i (enters k v) = false
+cancelsSlot i (withdraws k) = false
+cancelsSlot i (carries n j) = false
+cancelsSlot i (starts k) = false
+cancelsSlot i asks = false
+
+unfoldable pub notCancelled : ℕ → List Event → Bool
+notCancelled i [] = true
+notCancelled i (e ∷ es) = not (cancelsSlot i e) && notCancelled i es
+
 -- The sequence that reaches demand 3's bound: enter the line, carry it down its whole path, and again, so many times.
 unfoldable pub edgeFor : List Edge → ℕ → ℕ
 edgeFor [] k = 0

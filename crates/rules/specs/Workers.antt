@@ -1,0 +1,45 @@
+-- What the workers of the check promise, and what they ask of the columns that they are lent.
+use mathlib.Core.Path.{_≡_}
+use mathlib.Core.Bool.{Bool}
+use mathlib.Core.List.{List, []}
+use Prim.Native.Nat.{ℕ, _+_, _*_, _<_, _≤_}
+use lib.ListN.{length, getD}
+use Rattle.plan.specs.Sizes.{mostNodes}
+use Rattle.plan.specs.PlanTable.{planOf}
+use Rattle.store.specs.declared.Copy.{Copy}
+use Rattle.store.specs.declared.Store.{Store}
+use Rattle.store.specs.Layout.{width, places, stateOf}
+use Rattle.store.specs.StoreRules.{copyTest, placeTest, nodeTest}
+use Rattle.store.specs.Workers.{RisesIn}
+
+-- A store of these columns. No rule of a node reads its searches, so there are none.
+abbrev pub holding : ℕ → ℕ → List ℕ → List ℕ → List ℕ → List ℕ → List ℕ → Store
+holding plan clock counts keys kinds values stamps =
+    record { plan = plan; clock = clock; counts = counts; keys = keys; kinds = kinds; values = values; stamps = stamps; slots = [] }
+
+-- The tests of a copy in node n of a store, of its place i, and of node n itself.
+abbrev pub copyGood : Store → ℕ → Copy → Bool
+copyGood z n x = copyTest (planOf (z .plan)) (stateOf z) n x
+
+abbrev pub placeGood : Store → ℕ → ℕ → Bool
+placeGood z n i = placeTest (planOf (z .plan)) (stateOf z) z n i
+
+abbrev pub nodeGood : Store → ℕ → Bool
+nodeGood z n = nodeTest (planOf (z .plan)) (stateOf z) z n
+
+-- The columns are as long as a store's.
+pub record Sized (counts keys kinds values stamps : List ℕ) : Type 0 where
+  pub counts-8 : length counts ≡ mostNodes
+  pub keys-512 : length keys ≡ places
+  pub kinds-512 : length kinds ≡ places
+  pub values-512 : length values ≡ places
+  pub stamps-512 : length stamps ≡ places
+
+-- A node in which a look can go by halves: it has room for its copies, and their keys rise.
+pub record Ordered (counts keys : List ℕ) (n : ℕ) : Type 0 where
+  pub fits : getD counts n 0 ≤ width
+  pub rises : RisesIn keys (width * n) (width * n + getD counts n 0)
+
+-- All nodes from n on are such.
+abbrev pub OrderedFrom : List ℕ → List ℕ → ℕ → Type 0
+OrderedFrom counts keys n = (m : ℕ) → n ≤ m → m < mostNodes → Ordered counts keys m

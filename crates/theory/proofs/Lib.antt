@@ -1,0 +1,5 @@
+pub mod EventSteps
+pub mod InReach
+pub mod Invariants
+pub mod Updates
+pub mod Searching

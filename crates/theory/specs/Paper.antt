@@ -1,0 +1,109 @@
+-- The paper's words (source document 004, sections 3 and 6) for a store's state: contents, edgesets, the upsert history and the
+-- logical contents.
+use mathlib.Core.Path.{_≡_}
+use mathlib.Core.Bool.{true, cond}
+use mathlib.Core.Logic.{_⊎_}
+use mathlib.Core.List.{List, _∷_, _++_, List·Memᴰ, flatten}
+use mathlib.Core.Option.{Option, none, some}
+use Prim.Native.Nat.{ℕ, suc, _<_, _≤_}
+use lib.Dec.{eqb}
+use lib.ListN.{length}
+use Rattle.plan.specs.declared.Hop.the-variants.{To}
+use Rattle.plan.specs.Plan.{Plan, edgeOf, holds, path}
+use Rattle.plan.specs.PlanRules.{IsEdge}
+use Rattle.store.specs.declared.Copy.{Copy}
+use Rattle.store.specs.Copies.{stampOf}
+use Rattle.store.specs.State.{State, line, inReach, current}
+use Rattle.steps.specs.Searches.{ended}
+use Rattle.theory.specs.Events.{Event, after, answerOf, run, entered, ownSteps}
+use Rattle.theory.specs.Events.Event.{starts, steps}
+
+-- Contents: C_n(k), the copy of the key in the node, or nothing.
+abbrev pub Contents : State → ℕ → ℕ → Option Copy
+Contents s n k = line s k n
+
+-- Edgeset: the key is in es(n, m).
+pub record Edgeset (p : Plan) (n m k : ℕ) : Type 0 where
+  pub edge : ℕ
+  pub is-edge : IsEdge p n edge
+  pub target : edgeOf p n edge .target ≡ m
+  pub key : holds (edgeOf p n edge) k ≡ true
+
+-- Contents-in-reach: C_ir(n)(k).
+abbrev pub ContentsInReach : Plan → State → ℕ → ℕ → Option Copy
+ContentsInReach p s n k = inReach p s k (To n)
+
+-- (5): "C_n(k) if k ∈ dom(C_n); C_ir(n′)(k) else if ∃n′. k ∈ es(n, n′); ⊥ otherwise".
+pub record InReachEquation (p : Plan) (s : State) (n k : ℕ) : Type 0 where
+  pub here : (x : Copy) → Contents s n k ≡ some x → ContentsInReach p s n k ≡ some x
+  pub below : Contents s n k ≡ none → (m : ℕ) → Edgeset p n m k → ContentsInReach p s n k ≡ ContentsInReach p s m k
+  pub nowhere : Contents s n k ≡ none → ((m : ℕ) → Edgeset p n m k → ⊥) → ContentsInReach p s n k ≡ none
+
+-- The upsert history: the copies entered or loaded so far, and for every key the copy "never" of stamp 0.
+abbrev pub History : Type 0
+History = List Copy
+
+-- The copies that a state holds: a loaded store's history, each loaded copy as an entry. A fresh store's is empty.
+unfoldable pub held : State → History
+held s = flatten (s .nodes)
+
+-- (k, (v, t)) is in H: a copy of the key entered or loaded, or never, at stamp 0.
+abbrev pub InHistory : History → ℕ → Option Copy → Type 0
+InHistory h k none = Unit {0}
+InHistory h k (some x) = (x .key ≡ k) × List·Memᴰ x h
+
+-- HInit: "never" of every key is in the history.
+abbrev pub HInit : History → Type 0
+HInit h = (k : ℕ) → InHistory h k none
+
+-- HUnique: a key and a stamp have one copy, and no copy has the stamp of "never".
+pub record HUnique (h : History) : Type 0 where
+  pub one : (x y : Copy) → List·Memᴰ x h → List·Memᴰ y h → x .stamp ≡ y .stamp → x ≡ y
+  pub above-never : (x : Copy) → List·Memᴰ x h → 1 ≤ x .stamp
+
+-- HClock: every stamp in the history is below the clock.
+abbrev pub HClock : ℕ → History → Type 0
+HClock t h = (x : Copy) → List·Memᴰ x h → x .stamp < t
+
+-- The logical contents: of the copies of the key in the history the one with the greatest stamp, or never.
+pub record Logical (h : History) (k : ℕ) (o : Option Copy) : Type 0 where
+  pub in-history : InHistory h k o
+  pub greatest : (x : Copy) → x .key ≡ k → List·Memᴰ x h → x .stamp ≤ stampOf o
+
+-- (1): M[k ↦ v], the logical contents after an upsert.
+abbrev pub upserted : (ℕ → Option Copy) → Copy → ℕ → Option Copy
+upserted M x k = cond (eqb (x .key) k) (some x) (M k)
+
+-- The paper's structure: what holds of a state and its history at all times.
+pub record Multicopy (p : Plan) (s : State) (h : History) : Type 0 where
+  -- "the edgesets of all outgoing edges of a node n are pairwise disjoint"
+  pub edgesets-disjoint : (n m l k : ℕ) → Edgeset p n m k → Edgeset p n l k → m ≡ l
+  pub h-init : HInit h
+  pub h-unique : HUnique h
+  -- Invariant 4, HClock: "All timestamps in H are smaller than the current time of the global clock"
+  pub h-clock : HClock (s .clock) h
+  -- Invariant 1: "The logical contents .. is the contents-in-reach of its root node"
+  pub invariant-1 : (k : ℕ) → Logical h k (ContentsInReach p s 0 k)
+  -- Invariant 3: "for all nodes n, C_n ⊆ H"
+  pub invariant-3 : (n k : ℕ) → InHistory h k (Contents s n k)
+
+-- Search recency, of a search for key k in slot i: it was started after the events `before` from the state s, went on through the events
+-- `between`, and then ended by a step of its own.
+pub record SearchRecency (p : Plan) (s : State) (before between : List Event) (k i : ℕ) : Type 0 where
+  -- The answer is of what was found, and its visits are the search's own steps;
+  pub found : Option Copy
+  pub says : answerOf p (steps i) (run p between (after p (starts k) (run p before s))) ≡ ended found (suc (ownSteps i between))
+  -- at most as many as the key's path has nodes.
+  pub in-time : suc (ownSteps i between) ≤ length (path p k)
+  -- What was found was really entered or held, or is never: (k, (v, t)) ∈ H;
+  pub real : InHistory (held s ++ entered p (before ++ starts k ∷ between) s) k found
+  -- and nothing older than the line's latest at the search's start: t ≥ t₀.
+  pub no-older : stampOf (current p (run p before s) k) ≤ stampOf found
+  -- It "either returns the logical value associated with k at the point when the search started, or any other copy of k that was upserted
+  -- between the search's start time and the search's end time".
+  pub at-start-or-between :
+      (found ≡ current p (run p before s) k)
+      ⊎ ((x : Copy) × (found ≡ some x) × List·Memᴰ x (entered p between (after p (starts k) (run p before s))))
+  -- (2): "search returns the logical value M(k) = v of its query key k", as it was at some point while the search ran.
+  pub at-some-point :
+      (first rest : List Event) × (between ≡ first ++ rest) × (found ≡ current p (run p first (after p (starts k) (run p before s))) k)
