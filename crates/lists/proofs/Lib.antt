@@ -6,3 +6,4 @@ pub mod Options
 pub mod RisingKeys
 pub mod Orders
 pub mod Inserting
+pub mod Members

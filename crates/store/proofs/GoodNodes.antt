@@ -1,7 +1,7 @@
 -- The nodes of a good store as the workers on its columns take them: by places, with rising keys. Assumes nothing.
 use mathlib.Core.Path.{_≡_, sym, ap}
 use mathlib.Core.Bool.{true}
-use Prim.Native.Nat.{ℕ, suc, _+_, _-_, _*_, _<_, _≤_}
+use Prim.Native.Nat.{ℕ, _+_, _-_, _*_, _<_, _≤_}
 use native.Mathlib.Omega.{arith}
 use lib.ListN.{length}
 use Rattle.lists.specs.Runs.{run}
@@ -15,9 +15,7 @@ use Rattle.store.specs.State.{nodeAt}
 use Rattle.store.specs.Layout.{width, nodeIn, nodeOf, countOf, stateOf, column, storeOf}
 use Rattle.store.specs.StoreRules.{goodStore}
 use Rattle.store.specs.Workers.{below, placeIn, RisesIn}
-use Rattle.store.proofs.Laying.{every-count, every-copy, node-fits}
-use Rattle.store.proofs.Ruling.{good-rules}
-use Rattle.store.proofs.Lifting.{plan-good, state-good, good-back}
+use Rattle.store.proofs.Lifting.{plan-good, good-ordered, good-back}
 use Rattle.store.proofs.Halving.{place-of-copy}
 
 -- The place of a key among a node's keys is its place among the node's copies, of any store.
@@ -35,18 +33,11 @@ module _ (z : Store) (good : goodStore z ≡ true) where
 
   -- A node's copies have places,
   pub count-fits : (n : ℕ) → n < mostNodes → countOf z n ≤ width
-  count-fits n h = omega (arith, node-fits (plan-good z good) (state-good z good) n, every-count z (good-rules z good) n h)
+  count-fits n h = good-ordered z good n h .fits
 
   -- and their keys rise.
   pub node-rises : (n from end : ℕ) → n < mostNodes → from ≡ width * n → end ≡ width * n + countOf z n → RisesIn (z .keys) from end
-  node-rises n from end h f e i p q =
-      let w = count-fits n h in
-      let l = every-count z (good-rules z good) n h in
-      let j = i - width * n in
-      let a : width * n + j ≡ i = omega arith in
-      let b : width * n + suc j ≡ suc i = omega arith in
-      rw (every-copy z (good-rules z good) n j h (omega arith), every-copy z (good-rules z good) n (suc j) h (omega arith), a, b) at
-      (state-good z good .keys-strictly-rise n j (omega arith))
+  node-rises n from end h f e = rw (f, e) (good-ordered z good n h .rises)
 
   -- Its counts and columns are those of its state.
   pub counts-are : z .counts ≡ run 0 mostNodes (λ n. length (nodeAt (stateOf z) n))

@@ -23,7 +23,7 @@ use Rattle.steps.specs.Searches.{startStep, stepStep, cancelStep, lookAnswer}
 use Rattle.image.specs.Loading.{loadOutcome}
 use Rattle.schedule.specs.declared.Step.{Step}
 use Rattle.schedule.specs.Running.{noStep, runOutcome}
-use Rattle.story.specs.Events.{ofLine}
+use Rattle.theory.specs.Events.{ofLine}
 
 -- The public calls with their arguments. (A page's buffer, a save's buffer and a kept page have no part in what follows.)
 pub data Call : Type 0 where

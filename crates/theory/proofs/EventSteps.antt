@@ -1,0 +1,168 @@
+-- What an event does: it keeps all state rules; and for a line it is nothing, one entry, or one carry along an edge. Assumes nothing.
+use mathlib.Core.Path.{_≡_, refl, sym, ap, _∙_, subst}
+use mathlib.Core.Bool.{Bool, true, false, cond, _&&_}
+use mathlib.Core.Logic.{_⊎_, inl, inr}
+use mathlib.Core.List.{List, [], _∷_, _++_}
+use mathlib.Core.Option.{Option, none, some}
+use Prim.Native.Nat.{ℕ, _<_, _≤_}
+use native.Mathlib.Omega.{arith}
+use lib.Dec.{eqb}
+use lib.ListN.{length}
+use borrow.Author.Tests.{eqb-true}
+use Rattle.lists.proofs.Options.{not-none-and-some, one-some}
+use Rattle.plan.specs.declared.Hop.the-variants.{To}
+use Rattle.plan.specs.Plan.{Plan, next}
+use Rattle.plan.specs.PlanRules.{PlanRules}
+use Rattle.store.specs.declared.Copy.{Copy}
+use Rattle.store.specs.Answers.{DONE}
+use Rattle.store.specs.Copies.{WITHDRAWN, RESULT, copy}
+use Rattle.store.specs.State.{State, line}
+use Rattle.store.specs.StateRules.{StateRules}
+use Rattle.store.specs.Calls.{Effect}
+use Rattle.steps.specs.Entries.{entered as enteredInto, entry}
+use Rattle.steps.specs.Carries.{bit}
+use Rattle.steps.proofs.WaysOut.{EntryWay, entry-way}
+use Rattle.steps.proofs.WaysOut.EntryWay.{at-last-clock, root-full, enters as copy-enters}
+use Rattle.steps.proofs.LineSteps.{LineStep, LineThrough, entered-line, entry-line, carry-line, start-line, step-line, cancel-line}
+use Rattle.steps.proofs.LineSteps.LineStep.{same}
+use Rattle.steps.proofs.LinesKept.{Came, came, clock-grows}
+use Rattle.steps.proofs.LinesKept.Came.{stood, moved, entered as came-in}
+use Rattle.steps.proofs.Keeping.{enter-keeps, withdraw-keeps, carry-keeps, start-keeps, step-keeps, cancel-keeps}
+use Rattle.steps.proofs.Refusals.{Unaltered, entry-unaltered, carry-unaltered, start-unaltered, step-unaltered, cancel-unaltered}
+use Rattle.theory.specs.Events.{Event, effect, after, run, entryOf, ofLine, carriesLine}
+use Rattle.theory.specs.Events.Event.{enters, withdraws, carries, starts, steps, cancels, asks}
+
+bit-one : (b : Bool) → bit b ≡ 1 → b ≡ true
+bit-one true e = refl
+bit-one false e = absurd (omega arith)
+
+-- An entry of the line, if one is made.
+if-made : (b : Bool) (x : Copy) (k : ℕ) → ofLine k (cond b (some x) none) ≡ (b && eqb (x .key) k)
+if-made true x k = refl
+if-made false x k = refl
+
+-- An entry of a line is a copy with the line's key.
+pub of-line : (k : ℕ) (o : Option Copy) → ofLine k o ≡ true → (x : Copy) × (o ≡ some x) × (x .key ≡ k)
+of-line k none t = absurd (let z : _≡_ {A = ℕ} 0 1 = ap bit t in omega arith)
+of-line k (some x) t = (x, refl, eqb-true (x .key) k t)
+
+-- The two ways of an entry, by what it enters: the copy has the clock as its stamp, and is put into the root.
+record EntersCopy (s s′ : State) (x : Copy) : Type 0 where
+  stamp : x .stamp ≡ s .clock
+  puts : s′ ≡ enteredInto x s
+
+entry-enters : (kind k v : ℕ) (p : Plan) (s : State) (x : Copy)
+    → cond (eqb (entry kind k v p s .answer .number) DONE) (some (copy k kind v (s .clock))) none ≡ some x
+    → EntersCopy s (entry kind k v p s .after) x
+entry-enters kind k v p s x = go (entry-way kind k v p s)
+  where
+    go : {o : Effect} → EntryWay kind k v p s o → cond (eqb (o .answer .number) DONE) (some (copy k kind v (s .clock))) none ≡ some x
+        → EntersCopy s (o .after) x
+    go (at-last-clock h) e = absurd (not-none-and-some refl e)
+    go (root-full h f g) e = absurd (not-none-and-some refl e)
+    go (copy-enters h f) e =
+        let is : copy k kind v (s .clock) ≡ x = one-some refl e in
+        record { stamp = ap (λ (y : Copy). y .stamp) (sym is); puts = ap (λ (y : Copy). enteredInto y s) is }
+
+module _ (p : Plan) where
+  -- An accepted entry puts its copy, stamped with the clock, into the root.
+  enters-copy : (e : Event) (s : State) (x : Copy) → entryOf p e s ≡ some x → EntersCopy s (after p e s) x
+  unfolding effect entryOf
+  enters-copy (enters k v) s x e = entry-enters RESULT k v p s x e
+  enters-copy (withdraws k) s x e = entry-enters WITHDRAWN k 0 p s x e
+  enters-copy (carries n i) s x e = absurd (not-none-and-some refl e)
+  enters-copy (starts k) s x e = absurd (not-none-and-some refl e)
+  enters-copy (steps i) s x e = absurd (not-none-and-some refl e)
+  enters-copy (cancels i) s x e = absurd (not-none-and-some refl e)
+  enters-copy asks s x e = absurd (not-none-and-some refl e)
+
+  pub entry-stamp : (e : Event) (s : State) (x : Copy) → entryOf p e s ≡ some x → x .stamp ≡ s .clock
+  entry-stamp e s x q = enters-copy e s x q .stamp
+
+  pub entry-clock : (e : Event) (s : State) (x : Copy) → entryOf p e s ≡ some x → s .clock < after p e s .clock
+  entry-clock e s x q = rw (enters-copy e s x q .puts) (unfold enteredInto in omega arith)
+
+  -- One sequence after another.
+  pub run-append : (es fs : List Event) (s : State) → run p (es ++ fs) s ≡ run p fs (run p es s)
+  unfolding run
+  run-append [] fs s = refl
+  run-append (e ∷ es) fs s = run-append es fs (after p e s)
+
+module _ (p : Plan) (rules : PlanRules p) where
+  -- Every event keeps all state rules,
+  pub event-keeps : (e : Event) (s : State) → StateRules p s → StateRules p (after p e s)
+  unfolding effect
+  event-keeps (enters k v) s good = enter-keeps k v p rules s good
+  event-keeps (withdraws k) s good = withdraw-keeps k p rules s good
+  event-keeps (carries n i) s good = carry-keeps n i p rules s good
+  event-keeps (starts k) s good = start-keeps k p rules s good
+  event-keeps (steps i) s good = step-keeps i p rules s good
+  event-keeps (cancels i) s good = cancel-keeps i p rules s good
+  event-keeps asks s good = good
+
+  -- and so does every sequence.
+  pub run-keeps : (es : List Event) (s : State) → StateRules p s → StateRules p (run p es s)
+  unfolding run
+  run-keeps [] s good = good
+  run-keeps (e ∷ es) s good = run-keeps es (after p e s) (event-keeps e s good)
+
+  module _ (s : State) (good : StateRules p s) where
+    -- A refusal (2 and up) leaves the state unaltered.
+    pub event-unaltered : (e : Event) → Unaltered s (effect p e s)
+    unfolding effect
+    event-unaltered (enters k v) = entry-unaltered p rules s good RESULT k v
+    event-unaltered (withdraws k) = entry-unaltered p rules s good WITHDRAWN k 0
+    event-unaltered (carries n i) = carry-unaltered p rules s good n i
+    event-unaltered (starts k) = start-unaltered p rules s good k
+    event-unaltered (steps i) = step-unaltered p rules s good i
+    event-unaltered (cancels i) = cancel-unaltered p rules s good i
+    event-unaltered asks = λ e. refl
+
+    entry-of-line : (kind j v k : ℕ)
+        → LineThrough p s (entry kind j v p s) k 0
+        (bit (ofLine k (cond (eqb (entry kind j v p s .answer .number) DONE) (some (copy j kind v (s .clock))) none)))
+    entry-of-line kind j v k =
+        rw (if-made (eqb (entry kind j v p s .answer .number) DONE) (copy j kind v (s .clock)) k) (entry-line p rules s good k kind j v)
+
+    -- For each line an event is nothing, one entry of it, or one carry of it.
+    pub event-line : (e : Event) (k : ℕ) → LineThrough p s (effect p e s) k (bit (carriesLine p k e s)) (bit (ofLine k (entryOf p e s)))
+    unfolding effect entryOf carriesLine
+    event-line (enters j v) k = entry-of-line RESULT j v k
+    event-line (withdraws j) k = entry-of-line WITHDRAWN j 0 k
+    event-line (carries n i) k = carry-line p rules s good k n i
+    event-line (starts j) k = start-line p rules s good k j
+    event-line (steps i) k = step-line p rules s good k i
+    event-line (cancels i) k = cancel-line p rules s good k i
+    event-line asks k = same refl refl (omega arith) (λ m. refl)
+
+    pub event-clock : (e : Event) → s .clock ≤ after p e s .clock
+    event-clock e =
+        clock-grows p rules s (after p e s) (λ k. bit (carriesLine p k e s)) (λ k. bit (ofLine k (entryOf p e s))) (event-line e)
+
+    -- An accepted entry stands in the root.
+    pub entry-in-root : (e : Event) (x : Copy) → entryOf p e s ≡ some x → line (after p e s) (x .key) 0 ≡ some x
+    entry-in-root e x q =
+        rw (enters-copy p e s x q .puts)
+        (entered-line x s (omega (arith, good .a-list-for-each-node, rules .two-to-eight-nodes)) .got)
+
+    -- A copy that is held after an event was held before it, or is the copy that it entered.
+    pub held-or-entered : (e : Event) (k m : ℕ) (y : Copy) → line (after p e s) k m ≡ some y
+        → ((n : ℕ) × (line s k n ≡ some y)) ⊎ (entryOf p e s ≡ some y)
+    held-or-entered e k m y q = go (came p rules s s′ moves entries (event-line e) k m y q)
+      where
+        s′ : State
+        s′ = after p e s
+
+        moves : ℕ → ℕ
+        moves j = bit (carriesLine p j e s)
+
+        entries : ℕ → ℕ
+        entries j = bit (ofLine j (entryOf p e s))
+
+        go : Came p rules s s′ moves entries (event-line e) k m y → ((n : ℕ) × (line s k n ≡ some y)) ⊎ (entryOf p e s ≡ some y)
+        go (stood f) = inl (m, f)
+        go (moved n f h) = inl (n, f)
+        go (came-in f h t c) =
+            let w = of-line k (entryOf p e s) (bit-one (ofLine k (entryOf p e s)) f) in
+            let root : line s′ k 0 ≡ some (w .0) = subst (λ (j : ℕ). line s′ j 0 ≡ some (w .0)) (w .2) (entry-in-root e (w .0) (w .1)) in
+            inr (w .1 ∙ ap some (one-some root (subst (λ (j : ℕ). line s′ k j ≡ some y) h q)))

@@ -1,0 +1,353 @@
+-- The paper's structure, kept by every event and so by every sequence: its invariants 1 to 4, from any state that meets the state rules,
+-- with the copies that it holds as the history. Assumes nothing.
+use mathlib.Core.Path.{_≡_, refl, sym, ap, _∙_, subst}
+use mathlib.Core.Bool.{true}
+use mathlib.Core.Logic.{_≢_, _⊎_, inl, inr}
+use mathlib.Core.List.{
+  List,
+  [],
+  _∷_,
+  _++_,
+  flatten,
+  append-nil,
+  append-assoc,
+  List·Memᴰ,
+  List·Memᴰ·head,
+  List·Memᴰ·not-nil,
+  List·Memᴰ·eq-of-singleton,
+  List·Memᴰ·append-cases,
+  Memᴰ·append-left,
+  Memᴰ·append-right,
+}
+use mathlib.Core.Option.{Option, none, some}
+use Prim.Native.Nat.{ℕ, zero, suc, _<_, _≤_}
+use native.Mathlib.Omega.{arith}
+use native.Mathlib.Decide.{ℕ-discrete}
+use lib.ListN.{length, replicate}
+use Rattle.lists.proofs.Options.{option?, not-none-and-some, one-some}
+use Rattle.lists.proofs.Orders.{Order, order?}
+use Rattle.lists.proofs.Orders.Order.{less, equal, more}
+use Rattle.lists.proofs.Members.{member-place, place-member, member-flatten, flatten-member}
+use Rattle.plan.specs.declared.Hop.the-variants.{To}
+use Rattle.plan.specs.Plan.{Plan, size, next, Reach}
+use Rattle.plan.specs.Plan.Reach.{here, there}
+use Rattle.plan.specs.PlanRules.{PlanRules}
+use Rattle.plan.proofs.NextLaws.{next-down}
+use Rattle.plan.proofs.PathLaws.{reach-on, root-in-plan, path-on}
+use Rattle.store.specs.declared.Copy.{Copy}
+use Rattle.store.specs.Copies.{noCopy, keyOf, stampOf}
+use Rattle.store.specs.State.{State, nodeAt, copyAt, line, inReach, current, fresh}
+use Rattle.store.specs.StateRules.{HeldAt, StateRules}
+use Rattle.store.specs.Calls.{Effect}
+use Rattle.store.proofs.Lifting.{fresh-rules}
+use Rattle.steps.specs.Carries.{bit}
+use Rattle.steps.proofs.RulesOnLines.{line-rules, line-key, line-held, held-line}
+use Rattle.steps.proofs.LineSteps.{LineThrough}
+use Rattle.steps.proofs.LineSteps.LineStep.{same, enters, carries}
+use Rattle.theory.specs.Events.{Event, effect, after, run, entryOf, optionList, entered, held, ofLine, carriesLine}
+use Rattle.theory.specs.Paper.{
+  ContentsInReach,
+  History,
+  InHistory,
+  HUnique,
+  HClock,
+  Logical,
+  Multicopy,
+}
+use Rattle.theory.proofs.EventSteps.{
+  event-keeps,
+  event-line,
+  event-clock,
+  entry-stamp,
+  entry-clock,
+  entry-in-root,
+  held-or-entered,
+}
+use Rattle.theory.proofs.InReach.{edgesets-apart, in-reach-held, in-reach-newest}
+
+-- What is found is in the history exactly when it has the key and is a member.
+pub in-history : (h : History) (k : ℕ) (o : Option Copy) → ((x : Copy) → o ≡ some x → (x .key ≡ k) × List·Memᴰ x h) → InHistory h k o
+in-history h k none f = tt
+in-history h k (some x) f = f x refl
+
+pub history-in : (h : History) (k : ℕ) (o : Option Copy) (x : Copy) → InHistory h k o → o ≡ some x → (x .key ≡ k) × List·Memᴰ x h
+history-in h k none x i e = absurd (not-none-and-some refl e)
+history-in h k (some y) x i e =
+    subst (λ (z : Copy). (z .key ≡ k) × List·Memᴰ z h) (one-some refl e) i
+
+-- There is one logical contents of a history.
+pub logical-one : (h : History) (k : ℕ) (o q : Option Copy) → HUnique h → Logical h k o → Logical h k q → o ≡ q
+logical-one h k none none u a b = refl
+logical-one h k none (some y) u a b =
+    absurd (omega (arith, a .greatest y (b .in-history .0) (b .in-history .1), u .above-never y (b .in-history .1)))
+logical-one h k (some x) none u a b =
+    absurd (omega (arith, b .greatest x (a .in-history .0) (a .in-history .1), u .above-never x (a .in-history .1)))
+logical-one h k (some x) (some y) u a b =
+    let c = a .greatest y (b .in-history .0) (b .in-history .1) in
+    let d = b .greatest x (a .in-history .0) (a .in-history .1) in
+    ap some (u .one x y (a .in-history .1) (b .in-history .1) (omega arith))
+
+-- The entry of an event is a member of what it entered, and the only one.
+pub option-member : (o : Option Copy) (x : Copy) → o ≡ some x → List·Memᴰ x (optionList o)
+option-member none x e = absurd (not-none-and-some refl e)
+option-member (some y) x e = List·Memᴰ·head (one-some e refl)
+
+pub member-option : (o : Option Copy) (x : Copy) → List·Memᴰ x (optionList o) → o ≡ some x
+member-option none x m = absurd (List·Memᴰ·not-nil m)
+member-option (some y) x m = ap some (sym (List·Memᴰ·eq-of-singleton m))
+
+-- The copies of a fresh state: none.
+flatten-empty : (n : ℕ) → flatten {A = Copy} (replicate n []) ≡ []
+unfolding flatten
+flatten-empty zero = refl
+flatten-empty (suc n) = flatten-empty n
+
+pub held-fresh : (p : Plan) → held (fresh p) ≡ []
+unfolding held fresh
+held-fresh p = flatten-empty (size p)
+
+module _ (p : Plan) (rules : PlanRules p) where
+  -- The history after one sequence and another, and so it only grows.
+  pub entered-append : (es fs : List Event) (s : State) → entered p (es ++ fs) s ≡ entered p es s ++ entered p fs (run p es s)
+  unfolding entered run
+  entered-append [] fs s = refl
+  entered-append (e ∷ es) fs s =
+      ap (λ (xs : List Copy). optionList (entryOf p e s) ++ xs) (entered-append es fs (after p e s))
+      ∙ sym (append-assoc (optionList (entryOf p e s)) (entered p es (after p e s)) (entered p fs (run p es (after p e s))))
+
+  pub history-grows : (es fs : List Event) (s : State) (x : Copy) → List·Memᴰ x (held s ++ entered p es s) → List·Memᴰ x (held s ++ entered p (es ++ fs) s)
+  history-grows es fs s x m =
+      rw (entered-append es fs s, ← (append-assoc (held s) (entered p es s) (entered p fs (run p es s))))
+      (Memᴰ·append-left (entered p fs (run p es s)) m)
+
+  module _ (s : State) (good : StateRules p s) where
+    -- The copies that a state holds are those of its lines,
+    pub line-in-held : (k n : ℕ) (x : Copy) → line s k n ≡ some x → List·Memᴰ x (held s)
+    unfolding held
+    line-in-held k n x e =
+        let w = line-held p s k n x e in
+        member-flatten (s .nodes) n (subst (λ (y : Copy). List·Memᴰ y (nodeAt s n)) (w .2) (place-member (nodeAt s n) noCopy (w .0) (w .1)))
+
+    pub held-in-line : (x : Copy) → List·Memᴰ x (held s) → (n : ℕ) × (line s (x .key) n ≡ some x)
+    unfolding held
+    held-in-line x m =
+        let w = flatten-member (s .nodes) m in
+        let v = member-place (w .1) noCopy in
+        (w .0, subst (λ (y : Copy). line s (y .key) (w .0) ≡ some y) (v .2) (held-line p s good (w .0) (v .0) (v .1)))
+
+    -- each on its path,
+    pub line-led-to : (k n : ℕ) (x : Copy) → line s k n ≡ some x → Reach (λ j. next p j k) 0 n
+    line-led-to k n x e =
+        let w = line-rules p s good .paths k n x e in
+        subst (λ (m : ℕ). Reach (λ j. next p j k) 0 m) (w .1 .here) (path-on p rules k (w .0) (w .1 .inside))
+
+    -- and of one stamp there is one.
+    one-stamp : (j k m n : ℕ) (x y : Copy) → line s j m ≡ some x → line s k n ≡ some y → x .stamp ≡ y .stamp → x ≡ y
+    one-stamp j k m n x y e f t = go (order? m n)
+      where
+        its : j ≡ k
+        its = line-rules p s good .apart j k m n x y e f t
+
+        on-k : line s k m ≡ some x
+        on-k = subst (λ (i : ℕ). line s i m ≡ some x) its e
+
+        go : Order m n → x ≡ y
+        go (less h) = absurd (omega (arith, line-rules p s good .fall k m n x y on-k f h))
+        go (equal h) = one-some on-k (subst (λ (i : ℕ). line s k i ≡ some y) (sym h) f)
+        go (more h) = absurd (omega (arith, line-rules p s good .fall k n m y x f on-k h))
+
+    -- What a state holds is a history of it.
+    pub multicopy-held : Multicopy p s (held s)
+    multicopy-held =
+        record {
+          edgesets-disjoint = edgesets-apart p rules;
+          h-init = λ k. tt;
+          h-unique =
+              record {
+                one = λ x y a b. let v = held-in-line x a in let w = held-in-line y b in one-stamp (x .key) (y .key) (v .0) (w .0) x y (v .1) (w .1);
+                above-never = λ x a. let v = held-in-line x a in line-rules p s good .stamps (x .key) (v .0) x (v .1) .0;
+              };
+          h-clock = λ x a. let v = held-in-line x a in line-rules p s good .stamps (x .key) (v .0) x (v .1) .1;
+          invariant-1 =
+              λ k.
+              record {
+                in-history =
+                    in-history (held s) k (current p s k)
+                    (λ x e. let w = in-reach-held p rules s k 0 x (root-in-plan p rules k) e in its k (w .0) x (w .2));
+                greatest =
+                    λ x e a.
+                    let v = held-in-line x a in
+                    let on-k : line s k (v .0) ≡ some x = subst (λ (j : ℕ). line s j (v .0) ≡ some x) e (v .1) in
+                    in-reach-newest p rules s k good (line-led-to k (v .0) x on-k) (root-in-plan p rules k) x on-k;
+              };
+          invariant-3 = λ n k. in-history (held s) k (line s k n) (its k n);
+        }
+      where
+        its : (k n : ℕ) (x : Copy) → line s k n ≡ some x → (x .key ≡ k) × List·Memᴰ x (held s)
+        its k n x e = (line-key p s k n x e, line-in-held k n x e)
+
+    module _ (e : Event) where
+      abbrev s′ : State
+      s′ = after p e s
+
+      good′ : StateRules p s′
+      good′ = event-keeps p rules e s good
+
+      -- A copy lasts, or a newer one of its line stands in a node that its own leads to.
+      record Lasts (k m : ℕ) (y : Copy) : Type 0 where
+        at : ℕ
+        led : Reach (λ j. next p j k) m at
+        newer : Copy
+        stands : line s′ k at ≡ some newer
+        no-older : y .stamp ≤ newer .stamp
+
+      stays : (k m : ℕ) (y : Copy) → line s′ k m ≡ some y → Lasts k m y
+      stays k m y f = record { at = m; led = here; newer = y; stands = f; no-older = omega arith }
+
+      lasts : (k m : ℕ) (y : Copy) → line s k m ≡ some y → Lasts k m y
+      lasts k m y f = go (event-line p rules s good e k)
+        where
+          go : LineThrough p s (effect p e s) k (bit (carriesLine p k e s)) (bit (ofLine k (entryOf p e s))) → Lasts k m y
+          go (same a b h g) = stays k m y (g m ∙ f)
+          go (enters a b x t h g) = at (ℕ-discrete m 0)
+            where
+              at : Dec (m ≡ 0) → Lasts k m y
+              at (yes q) =
+                  record {
+                    at = m;
+                    led = here;
+                    newer = x;
+                    stands = subst (λ (j : ℕ). line s′ k j ≡ some x) (sym q) (g .got);
+                    no-older = omega (arith, line-rules p s good .stamps k m y f);
+                  }
+              at (no q) = stays k m y (g .other m q ∙ f)
+          go (carries a b n t x h g) = at (ℕ-discrete m n) (ℕ-discrete m t)
+            where
+              at : Dec (m ≡ n) → Dec (m ≡ t) → Lasts k m y
+              at (yes q) d =
+                  let is : x ≡ y = one-some (g .had) (subst (λ (j : ℕ). line s k j ≡ some y) q f) in
+                  record {
+                    at = t;
+                    led = there (subst (λ (j : ℕ). next p j k ≡ To t) (sym q) (g .via)) here;
+                    newer = y;
+                    stands = g .got ∙ ap some is;
+                    no-older = omega arith;
+                  }
+              at (no q) (yes d) =
+                  record {
+                    at = m;
+                    led = here;
+                    newer = x;
+                    stands = subst (λ (j : ℕ). line s′ k j ≡ some x) (sym d) (g .got);
+                    no-older =
+                        omega (
+                          arith,
+                          line-rules p s good .fall k n m x y (g .had) f (omega (arith, next-down p rules n k t (g .via))),
+                        );
+                  }
+              at (no q) (no d) = stays k m y (g .other m q d ∙ f)
+
+      -- Invariant 2: "The contents-in-reach of every node only increases."
+      pub reach-increases : (n k : ℕ) → n < size p → stampOf (ContentsInReach p s n k) ≤ stampOf (ContentsInReach p s′ n k)
+      reach-increases n k h = go (option? (inReach p s k (To n)))
+        where
+          go : (inReach p s k (To n) ≡ none) ⊎ ((y : Copy) × (inReach p s k (To n) ≡ some y))
+              → stampOf (inReach p s k (To n)) ≤ stampOf (inReach p s′ k (To n))
+          go (inl q) = omega (arith, ap stampOf q)
+          go (inr w) =
+              let v = in-reach-held p rules s k n (w .0) h (w .1) in
+              let l = lasts k (v .0) (w .0) (v .2) in
+              let r = in-reach-newest p rules s′ k good′ (reach-on (λ j. next p j k) (v .1) (l .led)) h (l .newer) (l .stands) in
+              omega (arith, ap stampOf (w .1), l .no-older)
+
+      -- The structure is kept, and an accepted entry is added to the history.
+      module _ (h : History) (c : Multicopy p s h) where
+        abbrev h′ : History
+        h′ = h ++ optionList (entryOf p e s)
+
+        old-or-new : (x : Copy) → List·Memᴰ x h′ → List·Memᴰ x h ⊎ (entryOf p e s ≡ some x)
+        old-or-new x m = go (List·Memᴰ·append-cases h m)
+          where
+            go : List·Memᴰ x h ⊎ List·Memᴰ x (optionList (entryOf p e s)) → List·Memᴰ x h ⊎ (entryOf p e s ≡ some x)
+            go (inl a) = inl a
+            go (inr a) = inr (member-option (entryOf p e s) x a)
+
+        still-one : (x y : Copy) → x .stamp ≡ y .stamp → List·Memᴰ x h ⊎ (entryOf p e s ≡ some x) → List·Memᴰ y h ⊎ (entryOf p e s ≡ some y) → x ≡ y
+        still-one x y t (inl a) (inl b) = c .h-unique .one x y a b t
+        still-one x y t (inl a) (inr b) = absurd (omega (arith, c .h-clock x a, entry-stamp p e s y b))
+        still-one x y t (inr a) (inl b) = absurd (omega (arith, c .h-clock y b, entry-stamp p e s x a))
+        still-one x y t (inr a) (inr b) = one-some a b
+
+        above-never : (x : Copy) → List·Memᴰ x h ⊎ (entryOf p e s ≡ some x) → 1 ≤ x .stamp
+        above-never x (inl a) = c .h-unique .above-never x a
+        above-never x (inr a) = omega (arith, entry-stamp p e s x a, good .clock-1-to-last)
+
+        before-clock : (x : Copy) → List·Memᴰ x h ⊎ (entryOf p e s ≡ some x) → x .stamp < s′ .clock
+        before-clock x (inl a) = omega (arith, c .h-clock x a, event-clock p rules s good e)
+        before-clock x (inr a) = omega (arith, entry-stamp p e s x a, entry-clock p e s x a)
+
+        held-is-past : (k n : ℕ) (x : Copy) → line s′ k n ≡ some x → (x .key ≡ k) × List·Memᴰ x h′
+        held-is-past k n x q = (line-key p s′ k n x q, go (held-or-entered p rules s good e k n x q))
+          where
+            go : ((m : ℕ) × (line s k m ≡ some x)) ⊎ (entryOf p e s ≡ some x) → List·Memᴰ x h′
+            go (inl w) =
+                Memᴰ·append-left (optionList (entryOf p e s)) (history-in h k (line s k (w .0)) x (c .invariant-3 (w .0) k) (w .1) .1)
+            go (inr w) = Memᴰ·append-right h (option-member (entryOf p e s) x w)
+
+        still-greatest : (k : ℕ) (x : Copy) → x .key ≡ k → List·Memᴰ x h ⊎ (entryOf p e s ≡ some x) → x .stamp ≤ stampOf (current p s′ k)
+        still-greatest k x q (inl a) =
+            omega (arith, c .invariant-1 k .greatest x q a, reach-increases 0 k (root-in-plan p rules k))
+        still-greatest k x q (inr a) =
+            in-reach-newest p rules s′ k good′ here (root-in-plan p rules k) x
+            (subst (λ (j : ℕ). line s′ j 0 ≡ some x) q (entry-in-root p rules s good e x a))
+
+        pub multicopy-event : Multicopy p s′ h′
+        multicopy-event =
+            record {
+              edgesets-disjoint = c .edgesets-disjoint;
+              h-init = λ k. tt;
+              h-unique =
+                  record {
+                    one = λ x y a b t. still-one x y t (old-or-new x a) (old-or-new y b);
+                    above-never = λ x a. above-never x (old-or-new x a);
+                  };
+              h-clock = λ x a. before-clock x (old-or-new x a);
+              invariant-1 =
+                  λ k.
+                  record {
+                    in-history =
+                        in-history h′ k (current p s′ k)
+                        (λ x q. let w = in-reach-held p rules s′ k 0 x (root-in-plan p rules k) q in held-is-past k (w .0) x (w .2));
+                    greatest = λ x q a. still-greatest k x q (old-or-new x a);
+                  };
+              invariant-3 = λ n k. in-history h′ k (line s′ k n) (held-is-past k n);
+            }
+
+  -- Over every sequence.
+  pub multicopy-run : (es : List Event) (s : State) → StateRules p s → (h : History) → Multicopy p s h → Multicopy p (run p es s) (h ++ entered p es s)
+  unfolding run entered
+  multicopy-run [] s good h c = rw append-nil c
+  multicopy-run (e ∷ es) s good h c =
+      rw (← (append-assoc h (optionList (entryOf p e s)) (entered p es (after p e s))))
+      (multicopy-run es (after p e s) (event-keeps p rules e s good) (h ++ optionList (entryOf p e s)) (multicopy-event s good e h c))
+
+  -- From any state that meets the rules, with each copy that it holds as an entry: the paper's structure holds at all times.
+  pub multicopy : (es : List Event) (s : State) → StateRules p s → Multicopy p (run p es s) (held s ++ entered p es s)
+  multicopy es s good = multicopy-run es s good (held s) (multicopy-held s good)
+
+  -- From a fresh state the history is what was entered.
+  pub multicopy-fresh : (es : List Event) → Multicopy p (run p es (fresh p)) (entered p es (fresh p))
+  multicopy-fresh es =
+      subst (λ (h : History). Multicopy p (run p es (fresh p)) (h ++ entered p es (fresh p))) (held-fresh p)
+      (multicopy es (fresh p) (fresh-rules p))
+
+  pub reach-increases-run : (es : List Event) (s : State) → StateRules p s → (n k : ℕ) → n < size p
+      → stampOf (ContentsInReach p s n k) ≤ stampOf (ContentsInReach p (run p es s) n k)
+  unfolding run
+  reach-increases-run [] s good n k h = omega arith
+  reach-increases-run (e ∷ es) s good n k h =
+      omega (
+        arith,
+        reach-increases s good e n k h,
+        reach-increases-run es (after p e s) (event-keeps p rules e s good) n k h,
+      )
