@@ -150,6 +150,13 @@ module _ (z : Store) (good : goodStore z ≡ true) (n i : ℕ) (d : IsEdge (plan
       got-is =
           sym (length-take-le (m .got) target (omega (arith, decided .gets .long, decided .gets .counted))) ∙ ap length (decided .gets .listed)
 
+      -- The counts are the lengths of the lists.
+      pub kept-listed : m .kept ≡ length (take (m .kept) stay)
+      kept-listed = kept-is ∙ ap length (sym (decided .stays .listed))
+
+      pub got-listed : m .got ≡ length (take (m .got) target)
+      got-listed = got-is ∙ ap length (sym (decided .gets .listed))
+
       -- The node's count falls, the target's rises, by no more.
       pub counts-go : (m .kept ≤ countOf z n) × (countOf z t ≤ m .got) × (m .got - countOf z t ≤ countOf z n - m .kept)
       counts-go =
@@ -203,10 +210,9 @@ module _ (z : Store) (good : goodStore z ≡ true) (n i : ℕ) (d : IsEdge (plan
           let l = length-nodes z in
           let there = target-there in
           let here = node-there in
-          let k : length (take (m .kept) stay) ≡ m .kept = ap length (decided .stays .listed) ∙ sym kept-is in
           r-is
           ∙ rw (
-            k,
+            ← kept-listed,
             decided .stays .listed,
             decided .gets .listed,
             gathered part (copyOf z) c of (places-merged .stay),

@@ -1,4 +1,23 @@
+use mathlib.Core.Path.{_≡_, refl}
+use Prim.Native.Nat.{_+_, _*_, _<_}
+use lib.ListN.{length, take}
 use borrow.Author.Needs.{needs}
+use Rattle.plan.specs.Sizes.{mostNodes}
+use Rattle.store.specs.declared.Store.{Store}
+use Rattle.store.specs.Layout.{width, places, countOf}
+use Rattle.carries.specs.Decisions.{Ready}
+use Rattle.carries.specs.Writings.{Movable}
+use Rattle.carries.proofs.Carrying.{
+  target-few,
+  node-few,
+  ready,
+  kept-listed,
+  got-listed,
+  counts-go,
+  column-movable,
+  stays-within,
+  carry-is,
+}
 use Rattle.carries.proofs.good_carry.Statement.{statement}
 use Rattle.carries.proofs.good_carry.Tie as tie
 use Rattle.carries.proofs.good_carry.Reads as reads
@@ -10,133 +29,174 @@ use Rattle.carries.proofs.writing.carry_column.Reads as carry-column-re
 use Rattle.plan.proofs.capacity.Reads as capacity-reads
 use Rattle.plan.proofs.edge_at.Reads as edge-at-reads
 
--- src/lib.rt:39:9
+abbrev S : tie.Start → Store
+S c = c .args .t1
+
+keys-512 : (c : tie.Start) → length (S c .keys) ≡ places
+keys-512 c = search needs
+
+kinds-512 : (c : tie.Start) → length (S c .kinds) ≡ places
+kinds-512 c = search needs
+
+values-512 : (c : tie.Start) → length (S c .values) ≡ places
+values-512 c = search needs
+
+stamps-512 : (c : tie.Start) → length (S c .stamps) ≡ places
+stamps-512 c = search needs
+
+-- The edge: its node and its target are nodes of a store.
+source : (c : tie.After-edge-at) → c .before .args .node < mostNodes
+source c =
+    let s = c .before in
+    node-few (S s) (s .pre .0) (s .args .node) (s .args .edge) (s .pre .1) (c .edge-at .result) (c .edge-at .ensures)
+
+goal : (c : tie.After-edge-at) → c .edge-at .result .target < mostNodes
+goal c =
+    let s = c .before in
+    target-few (S s) (s .pre .0) (s .args .node) (s .args .edge) (s .pre .1) (c .edge-at .result) (c .edge-at .ensures)
+
 edge-at-requires : tie.Need-edge-at-requires
 edge-at-requires c κs = search needs
 
--- src/lib.rt:41:13
 cast-t : tie.Need-cast-t
 cast-t c = search needs
 
--- src/lib.rt:42:15
 mul-had : tie.Need-mul-had
 mul-had c = search needs
 
--- src/lib.rt:42:15
 element-copy-out-had : tie.Need-element-copy-out-had
-element-copy-out-had c = ?
+element-copy-out-had c = source (c .before)
 
--- src/lib.rt:42:15
 cast-had : tie.Need-cast-had
 cast-had c = search needs
 
--- src/lib.rt:43:16
 mul-held : tie.Need-mul-held
 mul-held c = search needs
 
--- src/lib.rt:43:16
 element-copy-out-held : tie.Need-element-copy-out-held
-element-copy-out-held c = ?
+element-copy-out-held c = goal (c .before .before)
 
--- src/lib.rt:43:16
 cast-held : tie.Need-cast-held
 cast-held c = search needs
 
--- src/lib.rt:44:16
 mul-from : tie.Need-mul-from
 mul-from c = search needs
 
--- src/lib.rt:45:17
 mul-start : tie.Need-mul-start
 mul-start c = search needs
 
--- src/lib.rt:48:20
 capacity-requires : tie.Need-capacity-requires
 capacity-requires c κs = search needs
 
--- src/lib.rt:48:20
 cast-capacity : tie.Need-cast-capacity
 cast-capacity c = search needs
 
--- src/lib.rt:49:73
+-- The two nodes can be merged.
+merges : (c : tie.After-capacity) → let s = c .before .before .before .before .before in
+    let e = c .before .before .before .before .edge-at .result in
+    Ready (S s .keys) (c .capacity .result) (width * s .args .node) (width * s .args .node + countOf (S s) (s .args .node)) (width * e .target)
+    (width * e .target + countOf (S s) (e .target))
+merges c =
+    let e = c .before .before .before .before in
+    let s = e .before in
+    ready (S s) (s .pre .0) (s .args .node) (s .args .edge) (s .pre .1) (e .edge-at .result) (e .edge-at .ensures) (c .capacity .result) (c .capacity .ensures)
+
 add-decide : tie.Need-add-decide
-add-decide c = ?
+add-decide c = let r = merges (c .before .before .before .before) in search (needs, r .node-within .1)
 
--- src/lib.rt:49:92
 add-decide-2 : tie.Need-add-decide-2
-add-decide-2 c = ?
+add-decide-2 c = let r = merges (c .before .before .before .before) in search (needs, r .target-within .1)
 
--- src/lib.rt:49:9
 decide-requires : tie.Need-decide-requires
-decide-requires c κs = ?
+decide-requires c κs = (merges (c .before .before .before .before), refl, refl)
 
--- src/lib.rt:52:17
+-- The columns can be written in place by the lists that are decided.
+moves : (c : tie.After-decide) → let s = c .before .before .before .before .before .before .before .before .before .before in
+    Movable (take (c .decide .result .kept) (c .decide .last .1 .0)) (take (c .decide .result .got) (c .decide .last .1 .1 .0)) (width * s .args .node)
+    (countOf (S s) (s .args .node)) (width * c .before .before .before .before .before .before .before .before .before .edge-at .result .target)
+moves c =
+    let e = c .before .before .before .before .before .before .before .before .before in
+    let s = e .before in
+    let k = c .before .before .before .before .before .capacity in
+    column-movable (S s) (s .pre .0) (s .args .node) (s .args .edge) (s .pre .1) (e .edge-at .result) (e .edge-at .ensures) (k .result) (k .ensures) (c .decide .ensures)
+
 array-share-prefix-stay : tie.Need-array-share-prefix-stay
 array-share-prefix-stay c = search needs
 
--- src/lib.rt:52:9
 slice-aggregate-stays : tie.Need-slice-aggregate-stays
-slice-aggregate-stays c = ?
+slice-aggregate-stays d =
+    let c = d .before in
+    let e = c .before .before .before .before .before .before .before .before .before in
+    let s = e .before in
+    let k = c .before .before .before .before .before .capacity in
+    kept-listed (S s) (s .pre .0) (s .args .node) (s .args .edge) (s .pre .1) (e .edge-at .result) (e .edge-at .ensures) (k .result) (k .ensures) (c .decide .ensures)
 
--- src/lib.rt:53:16
 array-share-prefix-target : tie.Need-array-share-prefix-target
 array-share-prefix-target c = search needs
 
--- src/lib.rt:53:9
 slice-aggregate-gets : tie.Need-slice-aggregate-gets
-slice-aggregate-gets c = ?
+slice-aggregate-gets d =
+    let c = d .before .before in
+    let e = c .before .before .before .before .before .before .before .before .before in
+    let s = e .before in
+    let k = c .before .before .before .before .before .capacity in
+    got-listed (S s) (s .pre .0) (s .args .node) (s .args .edge) (s .pre .1) (e .edge-at .result) (e .edge-at .ensures) (k .result) (k .ensures) (c .decide .ensures)
 
--- src/lib.rt:54:9
 count-held-requires : tie.Need-count-held-requires
-count-held-requires c κs = ?
+count-held-requires d κs =
+    let c = d .before .before .before .before in
+    let e = c .before .before .before .before .before .before .before .before .before in
+    let s = e .before in
+    let k = c .before .before .before .before .before .capacity in
+    stays-within (S s) (s .pre .0) (s .args .node) (s .args .edge) (s .pre .1) (e .edge-at .result) (e .edge-at .ensures) (k .result) (k .ensures) (c .decide .ensures)
 
--- src/lib.rt:55:5
 carry-column-requires : tie.Need-carry-column-requires
-carry-column-requires c κs = ?
+carry-column-requires c κs = let d = c .before .before .before .before .before .before in (moves d, keys-512 (d .before .before .before .before .before .before .before .before .before .before))
 
--- src/lib.rt:56:5
 carry-column-requires-2 : tie.Need-carry-column-requires-2
-carry-column-requires-2 c κs = ?
+carry-column-requires-2 c κs = let d = c .before .before .before .before .before .before .before .before in (moves d, kinds-512 (d .before .before .before .before .before .before .before .before .before .before))
 
--- src/lib.rt:57:5
 carry-column-requires-3 : tie.Need-carry-column-requires-3
-carry-column-requires-3 c κs = ?
+carry-column-requires-3 c κs = let d = c .before .before .before .before .before .before .before .before .before .before in (moves d, values-512 (d .before .before .before .before .before .before .before .before .before .before))
 
--- src/lib.rt:58:5
 carry-column-requires-4 : tie.Need-carry-column-requires-4
-carry-column-requires-4 c κs = ?
+carry-column-requires-4 c κs = let d = c .before .before .before .before .before .before .before .before .before .before .before .before in (moves d, stamps-512 (d .before .before .before .before .before .before .before .before .before .before))
 
--- src/lib.rt:59:23
 cast-store : tie.Need-cast-store
 cast-store c = search needs
 
--- src/lib.rt:59:5
 mul-store : tie.Need-mul-store
-mul-store c = ?
+mul-store c = let f = source (c .before .before .before .before .before .before .before .before .before .before .before .before .before .before .before .before .before .before .before .before .before .before) in search needs
 
--- src/lib.rt:59:5
 element-write-store : tie.Need-element-write-store
-element-write-store c = ?
+element-write-store c = source (c .before .before .before .before .before .before .before .before .before .before .before .before .before .before .before .before .before .before .before .before .before .before)
 
--- src/lib.rt:60:23
 cast-store-2 : tie.Need-cast-store-2
 cast-store-2 c = search needs
 
--- src/lib.rt:60:5
 mul-store-2 : tie.Need-mul-store-2
-mul-store-2 c = ?
+mul-store-2 c = let f = goal (c .before .before .before .before .before .before .before .before .before .before .before .before .before .before .before .before .before .before .before .before .before .before) in search needs
 
--- src/lib.rt:60:5
 element-write-store-2 : tie.Need-element-write-store-2
-element-write-store-2 c = ?
+element-write-store-2 c = goal (c .before .before .before .before .before .before .before .before .before .before .before .before .before .before .before .before .before .before .before .before .before .before)
 
--- src/lib.rt:62:17
 tally-requires : tie.Need-tally-requires
-tally-requires c κs = ?
+tally-requires d κs =
+    let c = d .before .before .before .before .before .before .before .before .before .before .before .before .before in
+    let e = c .before .before .before .before .before .before .before .before .before in
+    let s = e .before in
+    let k = c .before .before .before .before .before .capacity in
+    counts-go (S s) (s .pre .0) (s .args .node) (s .args .edge) (s .pre .1) (e .edge-at .result) (e .edge-at .ensures) (k .result) (k .ensures) (c .decide .ensures)
 
--- src/lib.rt:35:1
 returns : tie.Need-returns
-returns c = ?
+returns d =
+    let c = d .before .before .before .before .before .before .before .before .before .before .before .before .before .before in
+    let e = c .before .before .before .before .before .before .before .before .before in
+    let s = e .before in
+    let k = c .before .before .before .before .before .capacity in
+    carry-is (S s) (s .pre .0) (s .args .node) (s .args .edge) (s .pre .1) (e .edge-at .result) (e .edge-at .ensures) (k .result) (k .ensures) (c .decide .ensures)
+    (d .tally .result) (d .before .before .before .before .before .before .before .before .before .count-held .result) _ _ _ _ (d .tally .ensures) (d .before .before .before .before .before .before .before .before .before .count-held .ensures) (d .before .before .before .before .before .before .before .carry-column .ensures)
+    (d .before .before .before .before .before .carry-column2 .ensures) (d .before .before .before .carry-column3 .ensures) (d .before .carry-column4 .ensures)
 
 pub good-carry-spec : {M : Type 1} → statement M
 good-carry-spec =
