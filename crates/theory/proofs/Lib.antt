@@ -1,3 +1,8 @@
 pub mod EventSteps
 pub mod InReach
 pub mod Invariants
+pub mod Updates
+pub mod Searching
+pub mod Recency
+pub mod Looks
+pub mod Bound
