@@ -44,11 +44,10 @@ use Rattle.steps.specs.Carries.{bit}
 use Rattle.steps.proofs.RulesOnLines.{line-rules, line-key, line-held, held-line}
 use Rattle.steps.proofs.LineSteps.{LineThrough}
 use Rattle.steps.proofs.LineSteps.LineStep.{same, enters, carries}
-use Rattle.theory.specs.Events.{Event, effect, after, run, entryOf, optionList, entered, ofLine, carriesLine}
+use Rattle.theory.specs.Events.{Event, effect, after, run, entryOf, optionList, entered, held, ofLine, carriesLine}
 use Rattle.theory.specs.Paper.{
   ContentsInReach,
   History,
-  held,
   InHistory,
   HUnique,
   HClock,
@@ -67,11 +66,11 @@ use Rattle.theory.proofs.EventSteps.{
 use Rattle.theory.proofs.InReach.{edgesets-apart, in-reach-held, in-reach-newest}
 
 -- What is found is in the history exactly when it has the key and is a member.
-in-history : (h : History) (k : ℕ) (o : Option Copy) → ((x : Copy) → o ≡ some x → (x .key ≡ k) × List·Memᴰ x h) → InHistory h k o
+pub in-history : (h : History) (k : ℕ) (o : Option Copy) → ((x : Copy) → o ≡ some x → (x .key ≡ k) × List·Memᴰ x h) → InHistory h k o
 in-history h k none f = tt
 in-history h k (some x) f = f x refl
 
-history-in : (h : History) (k : ℕ) (o : Option Copy) (x : Copy) → InHistory h k o → o ≡ some x → (x .key ≡ k) × List·Memᴰ x h
+pub history-in : (h : History) (k : ℕ) (o : Option Copy) (x : Copy) → InHistory h k o → o ≡ some x → (x .key ≡ k) × List·Memᴰ x h
 history-in h k none x i e = absurd (not-none-and-some refl e)
 history-in h k (some y) x i e =
     subst (λ (z : Copy). (z .key ≡ k) × List·Memᴰ z h) (one-some refl e) i

@@ -16,9 +16,9 @@ use Rattle.store.specs.declared.Copy.{Copy}
 use Rattle.store.specs.Copies.{stampOf}
 use Rattle.store.specs.State.{State, current}
 use Rattle.store.specs.StateRules.{StateRules}
-use Rattle.theory.specs.Events.{Event, effect, after, answerOf, run, entryOf, optionList, entered}
+use Rattle.theory.specs.Events.{Event, effect, after, answerOf, run, entryOf, optionList, entered, held}
 use Rattle.theory.specs.Events.Event.{carries}
-use Rattle.theory.specs.Paper.{History, InHistory, held, Logical, Multicopy, upserted}
+use Rattle.theory.specs.Paper.{History, InHistory, Logical, Multicopy, upserted}
 use Rattle.theory.proofs.EventSteps.{event-unaltered, entry-stamp}
 use Rattle.theory.proofs.Invariants.{logical-one, option-member, member-option, multicopy-held, multicopy-event}
 
