@@ -184,19 +184,11 @@ fn good_look(store: Store, key: u32) -> Answer
     held(copy, visits)
 }
 
-// Every store rule holds, tested on the columns where they lie.
-fn is_good(store: Store) -> bool
-    ensures { λ r. ⌜ r ≡ goodStore store ⌝ }
-{
-    let slots = store.slots;
-    rules::good(store.plan, store.clock, &store.counts, &store.keys, &store.kinds, &store.values, &store.stamps, slots)
-}
-
 // Start a search for a key: its slot. BADSTORE, or SLOTS where all run.
 pub fn start(store: Store, key: u32) -> Outcome
     ensures { λ r. ⌜ Starts store key r ⌝ }
 {
-    if !is_good(store) {
+    if !rules::good_store(store) {
         return Outcome::refused(Answer::BADSTORE, store);
     }
     good_start(store, key)
@@ -206,7 +198,7 @@ pub fn start(store: Store, key: u32) -> Outcome
 pub fn step(store: Store, slot: u32) -> Outcome
     ensures { λ r. ⌜ Steps store slot r ⌝ }
 {
-    if !is_good(store) {
+    if !rules::good_store(store) {
         return Outcome::refused(Answer::BADSTORE, store);
     }
     good_step(store, slot)
@@ -216,7 +208,7 @@ pub fn step(store: Store, slot: u32) -> Outcome
 pub fn cancel(store: Store, slot: u32) -> Outcome
     ensures { λ r. ⌜ Cancels store slot r ⌝ }
 {
-    if !is_good(store) {
+    if !rules::good_store(store) {
         return Outcome::refused(Answer::BADSTORE, store);
     }
     good_cancel(store, slot)
@@ -226,7 +218,7 @@ pub fn cancel(store: Store, slot: u32) -> Outcome
 pub fn look(store: Store, key: u32) -> Answer
     ensures { λ r. ⌜ Looks store key r ⌝ }
 {
-    if !is_good(store) {
+    if !rules::good_store(store) {
         return Answer::bare(Answer::BADSTORE);
     }
     good_look(store, key)

@@ -7,8 +7,8 @@ use Rattle.steps.specs.Searches.{lookAnswer}
 use Rattle.searches.proofs.look.Statement.{statement}
 use Rattle.searches.proofs.look.Tie as tie
 
-is-good-requires : tie.Need-is-good-requires
-is-good-requires c κs = search needs
+good-store-requires : tie.Need-good-store-requires
+good-store-requires c κs = search needs
 
 bare-requires : tie.Need-bare-requires
 bare-requires c κs = search needs
@@ -17,14 +17,14 @@ returns : tie.Need-returns
 returns c =
     let g = c .before .before in
     let a = g .before .args in
-    c .bare .ensures ∙ sym (of-bad (lookAnswer (a .key)) (a .store) (sym (g .is-good .ensures) ∙ not-true (g .is-good .result) (c .before .if1 .taken)))
+    c .bare .ensures ∙ sym (of-bad (lookAnswer (a .key)) (a .store) (sym (g .good-store .ensures) ∙ not-true (g .good-store .result) (c .before .if1 .taken)))
 
 good-look-requires : tie.Need-good-look-requires
-good-look-requires c κs = sym (c .before .is-good .ensures) ∙ not-false (c .before .is-good .result) (c .if1 .left)
+good-look-requires c κs = sym (c .before .good-store .ensures) ∙ not-false (c .before .good-store .result) (c .if1 .left)
 
 returns-2 : tie.Need-returns-2
 returns-2 c = search needs
 
 pub look-spec : {M : Type 1} → statement M
 look-spec =
-    tie.close (tie.spec is-good-requires bare-requires returns good-look-requires returns-2)
+    tie.close (tie.spec good-store-requires bare-requires returns good-look-requires returns-2)
