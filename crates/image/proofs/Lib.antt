@@ -4,3 +4,5 @@ pub mod ImageBytes
 pub mod LoadWays
 pub mod RoundTrips
 pub mod ReadWays
+pub mod NodeWays
+pub mod HeadWays

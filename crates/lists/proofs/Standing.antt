@@ -126,7 +126,7 @@ module _ {A : Type 0} where
   wrote-cons {b} {at} {x} {l} w = record { to = let e = w .to in omega arith; holds = rw add-one at (w .holds) }
 
   -- A run of stores can be cut in two.
-  sets-join : (l k b : List A) (at : ℕ) → sets b at (l ++ k) ≡ sets (sets b at l) (at + length l) k
+  pub sets-join : (l k b : List A) (at : ℕ) → sets b at (l ++ k) ≡ sets (sets b at l) (at + length l) k
   sets-join [] k b at = rw add-zero
   sets-join (x ∷ l) k b at =
       let e : suc at + length l ≡ at + suc (length l) = omega arith in

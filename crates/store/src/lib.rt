@@ -137,6 +137,18 @@ impl Answer {
     }
 }
 
+impl Outcome {
+    // A refusal: its number, and the store as it was.
+    pub fn refused(number: u32, store: Store) -> Outcome
+        ensures { λ r. ⌜ r ≡ record { answer = bare number; store = store } ⌝ }
+    {
+        Outcome {
+            answer: Answer::bare(number),
+            store: store,
+        }
+    }
+}
+
 // The clock's last value, the slot count, the nodes, the places to each and in all.
 impl Store {
     pub const LAST_CLOCK: u32 = 4294967295;

@@ -2,16 +2,21 @@
 -- logical contents.
 use mathlib.Core.Path.{_≡_}
 use mathlib.Core.Bool.{true, cond}
-use mathlib.Core.List.{List, List·Memᴰ, flatten}
+use mathlib.Core.Logic.{_⊎_}
+use mathlib.Core.List.{List, _∷_, _++_, List·Memᴰ}
 use mathlib.Core.Option.{Option, none, some}
-use Prim.Native.Nat.{ℕ, _<_, _≤_}
+use Prim.Native.Nat.{ℕ, suc, _<_, _≤_}
 use lib.Dec.{eqb}
+use lib.ListN.{length}
 use Rattle.plan.specs.declared.Hop.the-variants.{To}
-use Rattle.plan.specs.Plan.{Plan, edgeOf, holds}
+use Rattle.plan.specs.Plan.{Plan, edgeOf, holds, path}
 use Rattle.plan.specs.PlanRules.{IsEdge}
 use Rattle.store.specs.declared.Copy.{Copy}
 use Rattle.store.specs.Copies.{stampOf}
 use Rattle.store.specs.State.{State, line, inReach, current}
+use Rattle.steps.specs.Searches.{ended}
+use Rattle.theory.specs.Events.{Event, after, answerOf, run, entered, held, ownSteps}
+use Rattle.theory.specs.Events.Event.{starts, steps}
 
 -- Contents: C_n(k), the copy of the key in the node, or nothing.
 abbrev pub Contents : State → ℕ → ℕ → Option Copy
@@ -37,10 +42,6 @@ pub record InReachEquation (p : Plan) (s : State) (n k : ℕ) : Type 0 where
 -- The upsert history: the copies entered or loaded so far, and for every key the copy "never" of stamp 0.
 abbrev pub History : Type 0
 History = List Copy
-
--- The copies that a state holds: a loaded store's history, each loaded copy as an entry. A fresh store's is empty.
-unfoldable pub held : State → History
-held s = flatten (s .nodes)
 
 -- (k, (v, t)) is in H: a copy of the key entered or loaded, or never, at stamp 0.
 abbrev pub InHistory : History → ℕ → Option Copy → Type 0
@@ -81,3 +82,24 @@ pub record Multicopy (p : Plan) (s : State) (h : History) : Type 0 where
   pub invariant-1 : (k : ℕ) → Logical h k (ContentsInReach p s 0 k)
   -- Invariant 3: "for all nodes n, C_n ⊆ H"
   pub invariant-3 : (n k : ℕ) → InHistory h k (Contents s n k)
+
+-- Search recency, of a search for key k in slot i: it was started after the events `before` from the state s, went on through the events
+-- `between`, and then ended by a step of its own.
+pub record SearchRecency (p : Plan) (s : State) (before between : List Event) (k i : ℕ) : Type 0 where
+  -- The answer is of what was found, and its visits are the search's own steps;
+  pub found : Option Copy
+  pub says : answerOf p (steps i) (run p between (after p (starts k) (run p before s))) ≡ ended found (suc (ownSteps i between))
+  -- at most as many as the key's path has nodes.
+  pub in-time : suc (ownSteps i between) ≤ length (path p k)
+  -- What was found was really entered or held, or is never: (k, (v, t)) ∈ H;
+  pub real : InHistory (held s ++ entered p (before ++ starts k ∷ between) s) k found
+  -- and nothing older than the line's latest at the search's start: t ≥ t₀.
+  pub no-older : stampOf (current p (run p before s) k) ≤ stampOf found
+  -- It "either returns the logical value associated with k at the point when the search started, or any other copy of k that was upserted
+  -- between the search's start time and the search's end time".
+  pub at-start-or-between :
+      (found ≡ current p (run p before s) k)
+      ⊎ ((x : Copy) × (found ≡ some x) × List·Memᴰ x (entered p between (after p (starts k) (run p before s))))
+  -- (2): "search returns the logical value M(k) = v of its query key k", as it was at some point while the search ran.
+  pub at-some-point :
+      (first rest : List Event) × (between ≡ first ++ rest) × (found ≡ current p (run p first (after p (starts k) (run p before s))) k)
