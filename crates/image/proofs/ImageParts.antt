@@ -1,9 +1,9 @@
 -- The parts of an image: each is read back where it stands, and where one is read, its bytes stand. Assumes nothing.
-use mathlib.Core.Path.{_≡_, refl, sym, ap, ap₂, _∙_}
+use mathlib.Core.Path.{_≡_, refl, sym, ap, _∙_}
 use mathlib.Core.Bool.{Bool, true, false, cond}
 use mathlib.Core.List.{List, [], _∷_, _++_}
 use mathlib.Core.Logic.{inl, inr}
-use Prim.Native.Nat.{ℕ, zero, suc, _+_, _<_, _≤_}
+use Prim.Native.Nat.{ℕ, zero, suc, _<_, _≤_}
 use native.Mathlib.Omega.{arith}
 use lib.Dec.{ltb, eqb}
 use lib.ListN.{length, getD}
@@ -16,13 +16,13 @@ use Rattle.plan.specs.Sizes.{mostCapacity, lastKey}
 use Rattle.plan.specs.Plan.{Node, Plan, size, capacityOf}
 use Rattle.store.specs.declared.Copy.{Copy}
 use Rattle.store.specs.Answers.{RULE}
-use Rattle.store.specs.Copies.{RESULT, copy, noCopy}
+use Rattle.store.specs.Copies.{RESULT, noCopy}
 use Rattle.store.specs.State.{lastClock}
 use Rattle.store.specs.StateRules.{KindAndValue}
-use Rattle.wire.specs.Reading.{Got, got, fault, bind, numberAt}
-use Rattle.wire.proofs.Chains.{bind-got, check-holds, Gives, gives-got, gives-check, gives-bind, NumberStands, number-back, number-gives}
+use Rattle.wire.specs.Reading.{got, numberAt}
+use Rattle.wire.proofs.Chains.{bind-got, check-holds, Gives, gives-got, gives-check, gives-bind, number-back, number-gives}
 use Rattle.image.specs.Image.{lastValue, valueBytes, copyBytes, copiesBytes, nodeBytes, nodesBytes}
-use Rattle.image.specs.Loading.{checked, valueAt, copyAt, copiesAt, nodeAt, nodesAt}
+use Rattle.image.specs.Loading.{valueAt, copyAt, copiesAt, nodeAt, nodesAt}
 
 -- Nothing stands: reading goes on at the same offset.
 nothing-stands : {A : Type 0} {s : List ℕ} {at next : ℕ} (x : A) → Stands s at [] next → got x at ≡ got x next
@@ -148,7 +148,7 @@ room-cons : (n : Node) (p : Plan) (xs : List Copy) (ns : List (List Copy)) → l
 room-cons n p xs ns h k zero = h
 room-cons n p xs ns h k (suc m) = k m
 
-small-none : Small noCopy
+pub small-none : Small noCopy
 small-none = record { key = omega arith; value = omega arith }
 
 module _ (s : List ℕ) (bytes : Bytes s) where

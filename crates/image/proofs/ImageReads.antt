@@ -1,18 +1,18 @@
 -- A whole image: it is read back where it stands, and where one is read, its bytes stand. Assumes nothing.
-use mathlib.Core.Path.{_≡_, refl, sym, ap, _∙_}
-use mathlib.Core.Bool.{Bool, true, false, cond}
+use mathlib.Core.Path.{_≡_, refl, ap, _∙_}
+use mathlib.Core.Bool.{true}
 use mathlib.Core.List.{List, [], _++_}
-use Prim.Native.Nat.{ℕ, suc, _+_, _*_, _<_, _≤_}
+use Prim.Native.Nat.{ℕ, _+_, _*_, _<_, _≤_}
 use native.Mathlib.Omega.{arith}
 use native.Mathlib.Decide.{decLt}
 use lib.Dec.{ltb, eqb}
 use lib.ListN.{length, getD, List·getD-eq-default}
-use borrow.Author.Tests.{lt-ltb, ltb-true, eqb-true}
+use borrow.Author.Tests.{lt-ltb, eqb-true}
 use Rattle.lists.specs.Stands.{Stands}
 use Rattle.lists.proofs.Standing.{stands-join, stands-left, stands-right}
 use Rattle.lists.proofs.Truths.{both-le, le-both}
 use Rattle.number.specs.Number.{Bytes, form}
-use Rattle.plan.specs.Plan.{size, capacityOf}
+use Rattle.plan.specs.Plan.{size}
 use Rattle.plan.specs.PlanRules.{PlanRules}
 use Rattle.plan.specs.PlanTable.{planOf, plans}
 use Rattle.plan.proofs.TableLaws.{plans-three, table-rules}
@@ -21,14 +21,13 @@ use Rattle.store.specs.declared.Store.{Store}
 use Rattle.store.specs.Answers.{PLAN, FORMAT, RULE}
 use Rattle.store.specs.Copies.{noCopy}
 use Rattle.store.specs.State.{State, lastClock, nodeAt, copyAt}
-use Rattle.store.specs.StateRules.{StateRules}
 use Rattle.store.specs.Layout.{width, copyOf, stateOf, storeOf}
 use Rattle.store.specs.StoreRules.{StoreRules, planNumberTest}
 use Rattle.store.proofs.Laying.{length-nodes, state-count, state-copy, state-back, store-back}
-use Rattle.wire.specs.Reading.{Got, got, bind, numberAt}
+use Rattle.wire.specs.Reading.{got}
 use Rattle.wire.proofs.Chains.{bind-got, check-holds, Gives, gives-got, gives-check, gives-bind, number-back, number-gives}
 use Rattle.image.specs.Image.{formatNumber, nodesBytes, imageOf, image, Declared}
-use Rattle.image.specs.Loading.{checked, nodesAt, loaded, nodesFrom, clockFrom, planFrom, imageAt, idled}
+use Rattle.image.specs.Loading.{loaded, nodesFrom, clockFrom, planFrom, imageAt, idled}
 use Rattle.image.proofs.ImageParts.{Writable, Small, WritableNodes, nodes-back, NodesStand, nodes-gives}
 
 plan-number : {plan : ℕ} → planNumberTest plan ≡ true → (1 ≤ plan) × (plan ≤ plans)

@@ -3,3 +3,7 @@ pub mod ImageReads
 pub mod ImageBytes
 pub mod LoadWays
 pub mod RoundTrips
+pub mod ReadWays
+pub mod NodeWays
+pub mod HeadWays
+pub mod ImageLengths

@@ -17,7 +17,7 @@ use Rattle.store.specs.declared.Store.{Store}
 use Rattle.store.specs.Answers.{DONE, PLAN, CUT, NUMBER, FORMAT, RULE, TRAIL, answer}
 use Rattle.store.specs.Copies.{RESULT, member}
 use Rattle.store.specs.StoreRules.{planNumberTest, goodStore}
-use Rattle.wire.specs.Reading.{Got, got, fault, bind, numberAt}
+use Rattle.wire.specs.Reading.{Got, got, fault, numberAt}
 use Rattle.wire.proofs.Chains.{Faults, faults-got, faults-fault, faults-bind, faults-cond, faults-number}
 use Rattle.image.specs.Image.{formatNumber}
 use Rattle.image.specs.Loading.{valueAt, copyAt, copiesAt, nodeAt, nodesAt, nodesFrom, clockFrom, planFrom, imageAt, refusedLoad, copiesHeld, finished, loadOutcome}

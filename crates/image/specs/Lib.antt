@@ -1,3 +1,4 @@
 pub mod Image
 pub mod Loading
 pub mod Promises
+pub mod Workers

@@ -5,4 +5,5 @@ pub mod Storing
 pub mod Options
 pub mod RisingKeys
 pub mod Orders
+pub mod Inserting
 pub mod Members

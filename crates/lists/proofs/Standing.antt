@@ -126,7 +126,7 @@ module _ {A : Type 0} where
   wrote-cons {b} {at} {x} {l} w = record { to = let e = w .to in omega arith; holds = rw add-one at (w .holds) }
 
   -- A run of stores can be cut in two.
-  sets-join : (l k b : List A) (at : ℕ) → sets b at (l ++ k) ≡ sets (sets b at l) (at + length l) k
+  pub sets-join : (l k b : List A) (at : ℕ) → sets b at (l ++ k) ≡ sets (sets b at l) (at + length l) k
   sets-join [] k b at = rw add-zero
   sets-join (x ∷ l) k b at =
       let e : suc at + length l ≡ at + suc (length l) = omega arith in
@@ -186,3 +186,8 @@ module _ {A : Type 0} where
   -- What stands from the beginning of a list to its end is the list.
   pub stands-whole : {s l : List A} {next : ℕ} → Stands s 0 l next → length s ≤ next → l ≡ s
   stands-whole {s} {l} h g = sym (h .here ∙ ap (λ (t : List A). l ++ t) (drop-of-length-le s g) ∙ append-nil l)
+
+  -- A list of no elements is empty.
+  pub no-elements : (l : List A) → length l ≡ 0 → l ≡ []
+  no-elements [] h = refl
+  no-elements (x ∷ l) h = absurd (omega arith)

@@ -1,12 +1,12 @@
 -- Laws of stores into a list by index: a run of stores, a store into a run, and a list of one element only. Assumes nothing.
 use mathlib.Core.Path.{_≡_, refl, sym, ap, _∙_}
-use mathlib.Core.List.{List, [], _∷_, map}
+use mathlib.Core.List.{List, [], _∷_, _++_, map}
 use Prim.Native.Nat.{ℕ, zero, suc, _+_, _<_, _≤_}
 use native.Mathlib.Omega.{arith}
 use native.Mathlib.Nat.{add-suc, suc-add, add-zero, zero-add}
 use native.Mathlib.Decide.{ℕ-discrete}
 use lib.ListN.{length, getD, set, replicate, length-set}
-use lib.Seq.{sets, getD-set-same, getD-set-other}
+use lib.Seq.{sets, set-comm, getD-set-same, getD-set-other}
 use Rattle.lists.specs.Runs.{run}
 use Rattle.lists.proofs.Running.{length-run, getD-run-0, as-run}
 
@@ -27,6 +27,19 @@ module _ {A : Type 0} where
   sets-inside (v ∷ vs) l i (suc k) d h g =
       ap (λ (n : ℕ). getD (sets (set l i v) (suc i) vs) n d) (add-suc i k ∙ sym (suc-add i k))
       ∙ sets-inside vs (set l i v) (suc i) k d (rw length-set (omega arith)) (omega arith)
+
+  -- A store past a run of stores may come first; right behind it, it is one more of the run.
+  pub sets-later : (vs l : List A) (i k : ℕ) (x : A) → i + length vs ≤ k → sets (set l k x) i vs ≡ set (sets l i vs) k x
+  sets-later [] l i k x h = refl
+  sets-later (v ∷ vs) l i k x h =
+      ap (λ (r : List A). sets r (suc i) vs) (set-comm l k i x v (λ (q : k ≡ i). omega arith))
+      ∙ sets-later vs (set l i v) (suc i) k x (omega arith)
+
+  pub sets-snoc : (vs l : List A) (i : ℕ) (x : A) → sets l i (vs ++ x ∷ []) ≡ set (sets l i vs) (i + length vs) x
+  sets-snoc [] l i x = rw add-zero
+  sets-snoc (v ∷ vs) l i x =
+      let k : i + suc (length vs) ≡ suc i + length vs = omega arith in
+      rw k (sets-snoc vs (set l i v) (suc i) x)
 
   -- A store into a run is the run that differs there.
   pub set-run : (f g : ℕ → A) (n k : ℕ) (v : A) → g k ≡ v → ((j : ℕ) → (j ≡ k → ⊥) → g j ≡ f j) → set (run 0 n f) k v ≡ run 0 n g

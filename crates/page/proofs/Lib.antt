@@ -1,0 +1,5 @@
+pub mod PageBytes
+pub mod PageLines
+pub mod Stale
+pub mod PageLength
+pub mod LongestPage

@@ -154,10 +154,13 @@ module _ (p : Plan) (rules : PlanRules p) where
           (λ (f : holds (edgeOf p n j) k ≡ false). f)
           (bool? (holds (edgeOf p n j) k))
 
-  -- Every key goes on from the root.
+  -- The root is a node of the plan,
+  pub root-in-plan : 0 < size p
+  root-in-plan = omega (arith, rules .two-to-eight-nodes)
+
+  -- and every key goes on from it.
   pub root-next : (k : ℕ) → k ≤ lastKey → (t : ℕ) × (next p 0 k ≡ To t)
   root-next k h =
       let w = rules .root-covers-every-key k h in
-      let two = rules .two-to-eight-nodes .0 in
-      let d : IsEdge p 0 (w .0) = record { node = omega arith; edge = w .1 } in
+      let d : IsEdge p 0 (w .0) = record { node = root-in-plan; edge = w .1 } in
       (edgeOf p 0 (w .0) .target, edge-next 0 (w .0) k d (w .2))

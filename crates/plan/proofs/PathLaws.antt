@@ -15,7 +15,7 @@ use Rattle.plan.specs.Plan.{Plan, size, next, walk, pathFrom, path, edge
 use Rattle.plan.specs.Plan.IsPath.{last, more}
 use Rattle.plan.specs.Plan.Reach.{here, there}
 use Rattle.plan.specs.PlanRules.{PlanRules}
-use Rattle.plan.proofs.NextLaws.{hop?, not-both-hops, one-target, next-down, root-next}
+use Rattle.plan.proofs.NextLaws.{hop?, not-both-hops, one-target, next-down, root-in-plan, root-next}
 
 module _ (hop : ℕ → Hop) where
   -- Two paths from one node are the same.
@@ -128,16 +128,12 @@ module _ (p : Plan) (rules : PlanRules p) (k : ℕ) where
   down : (n t : ℕ) → next p n k ≡ To t → (n < t) × (t < size p)
   down n t e = next-down p rules n k t e
 
-  -- The root is a node.
-  pub root-in-plan : 0 < size p
-  root-in-plan = omega (arith, rules .two-to-eight-nodes)
-
   root-path : IsPath (λ m. next p m k) 0 (path p k)
-  root-path = path-is 0 root-in-plan
+  root-path = path-is 0 (root-in-plan p rules)
 
   -- A key's path has at most as many nodes as the plan,
   pub path-within : length (path p k) ≤ size p
-  path-within = omega (arith, path-short (λ m. next p m k) (size p) down root-path root-in-plan)
+  path-within = omega (arith, path-short (λ m. next p m k) (size p) down root-path (root-in-plan p rules))
 
   -- its numbers rise,
   pub path-down : (i j : ℕ) → i < j → j < length (path p k) → getD (path p k) i 0 < getD (path p k) j 0
@@ -145,7 +141,7 @@ module _ (p : Plan) (rules : PlanRules p) (k : ℕ) where
 
   -- each is a node of the plan,
   pub path-in-plan : (i : ℕ) → i < length (path p k) → getD (path p k) i 0 < size p
-  path-in-plan i h = reach-below (λ m. next p m k) (size p) down (at-reach (λ m. next p m k) root-path i h) root-in-plan
+  path-in-plan i h = reach-below (λ m. next p m k) (size p) down (at-reach (λ m. next p m k) root-path i h) (root-in-plan p rules)
 
   -- and the last has no edge for the key.
   pub path-end : next p (getD (path p k) (edgesOn p k) 0) k ≡ Ends
@@ -176,7 +172,7 @@ module _ (p : Plan) (rules : PlanRules p) (k : ℕ) where
   two-on-path h =
       let w = root-next p rules k h in
       let d = down 0 (w .0) (w .1) in
-      rw (path-goes 0 (w .0) root-in-plan (w .1)) (omega (arith, path-some (λ m. next p m k) (path-is (w .0) (d .1))))
+      rw (path-goes 0 (w .0) (root-in-plan p rules) (w .1)) (omega (arith, path-some (λ m. next p m k) (path-is (w .0) (d .1))))
 
   pub edge-on-path : k ≤ lastKey → 1 ≤ edgesOn p k
   edge-on-path h = omega (arith, two-on-path h)

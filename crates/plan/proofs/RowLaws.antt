@@ -16,6 +16,7 @@ use Rattle.plan.specs.PlanArrays.{Grid, edgeCountIn, edgesIn, capacities
 use Rattle.plan.proofs.TableLaws.{table-rules, no-plan}
 use Rattle.plan.proofs.ArrayLaws.{capacities-back, count-back, edges-back}
 
+-- The row of a number is the number less 1, and past the last row for 0.
 pub row-is : (plan : ℕ) → 1 ≤ plan → plan - 1 ≡ rowOf plan
 unfolding rowOf
 row-is zero h = absurd (omega arith)

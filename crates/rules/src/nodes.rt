@@ -2,7 +2,7 @@
 // compared with that of the key's next copy down its path, which is looked for in nodes that were tested before.
 ghost use mathlib.Core.Path.{_≡_};
 ghost use mathlib.Core.Bool.{true, _&&_, _||_};
-ghost use Prim.Native.Nat.{suc, _+_, _*_, _<_, _≤_};
+ghost use Prim.Native.Nat.{suc, _+_, _-_, _*_, _<_, _≤_};
 ghost use lib.Dec.{leb, ltb};
 ghost use lib.ListN.{length, getD};
 ghost use lib.Seq.{slice};
@@ -13,8 +13,8 @@ ghost use Rattle.plan.specs.PlanTable.{planOf};
 ghost use Rattle.store.specs.Copies.{keyOf, find, foundOf, stampOf};
 ghost use Rattle.store.specs.State.{inReach};
 ghost use Rattle.store.specs.Layout.{width, places, nodeIn, stateOf};
-ghost use Rattle.store.specs.StoreRules.{planNumberTest, kindTest, copyTest, placeTest, allZero, nodeTest};
-ghost use Rattle.rules.specs.Workers.{holding, Sized, Ordered, OrderedFrom};
+ghost use Rattle.store.specs.StoreRules.{planNumberTest, kindTest, allZero};
+ghost use Rattle.rules.specs.Workers.{holding, copyGood, placeGood, nodeGood, Sized, Ordered, OrderedFrom};
 use crate::paths;
 use plan::Hop;
 use store::columns;
@@ -96,7 +96,7 @@ fn copy_good<'a>(
     x: Copy,
 ) -> bool
     requires { ⌜ (planNumberTest plan ≡ true) × OrderedFrom (now counts) (now keys) (suc node) ⌝ }
-    ensures { λ r. ⌜ r ≡ copyTest (planOf plan) (stateOf (holding plan clock (now (counts .entry)) (now (keys .entry)) (now (kinds .entry)) (now (values .entry)) (now (stamps .entry)))) node x ⌝ }
+    ensures { λ r. ⌜ r ≡ copyGood (holding plan clock (now (counts .entry)) (now (keys .entry)) (now (kinds .entry)) (now (values .entry)) (now (stamps .entry))) node x ⌝ }
 {
     if !kind_good(x) {
         return false;
@@ -111,4 +111,143 @@ fn copy_good<'a>(
         return false;
     }
     stamp_below(plan, counts, keys, kinds, values, stamps, node, x.key) < x.stamp
+}
+
+// "keys strictly rising in a node": the key at a used place is below the next one's, if there is one.
+fn key_rises(keys: &[u32; Store::PLACES], i: usize, end: usize) -> bool
+    requires { ⌜ (i < end) × (end ≤ places) ⌝ }
+    ensures { λ r. ⌜ r ≡ (leb end (suc i) || ltb (getD (now (keys .entry)) i 0) (getD (now (keys .entry)) (suc i) 0)) ⌝ }
+{
+    if end <= i + 1 {
+        return true;
+    }
+    keys[i] < keys[i + 1]
+}
+
+// A used place of a node, which has those up to end.
+fn place_good<'a>(
+    plan: u32,
+    clock: u32,
+    counts: &'a [u32; Store::NODES],
+    keys: &'a [u32; Store::PLACES],
+    kinds: &'a [u32; Store::PLACES],
+    values: &'a [u32; Store::PLACES],
+    stamps: &'a [u32; Store::PLACES],
+    node: u32,
+    i: usize,
+    end: usize,
+) -> bool
+    requires { ⌜ (i < end) × (end ≤ places) × (end ≡ width * node + getD (now counts) node 0) × (planNumberTest plan ≡ true) × OrderedFrom (now counts) (now keys) (suc node) ⌝ }
+    ensures { λ r. ⌜ r ≡ placeGood (holding plan clock (now (counts .entry)) (now (keys .entry)) (now (kinds .entry)) (now (values .entry)) (now (stamps .entry))) node i ⌝ }
+{
+    if !key_rises(keys, i, end) {
+        return false;
+    }
+    let x = Copy {
+        key: keys[i],
+        kind: kinds[i],
+        value: values[i],
+        stamp: stamps[i],
+    };
+    copy_good(plan, clock, counts, keys, kinds, values, stamps, node, x)
+}
+
+// The used places of a node, from..end.
+fn used_good<'a>(
+    plan: u32,
+    clock: u32,
+    counts: &'a [u32; Store::NODES],
+    keys: &'a [u32; Store::PLACES],
+    kinds: &'a [u32; Store::PLACES],
+    values: &'a [u32; Store::PLACES],
+    stamps: &'a [u32; Store::PLACES],
+    node: u32,
+    from: usize,
+    end: usize,
+) -> bool
+    requires { ⌜ (end ≤ places) × (end ≡ width * node + getD (now counts) node 0) × (planNumberTest plan ≡ true) × OrderedFrom (now counts) (now keys) (suc node) ⌝ }
+    ensures { λ r. ⌜ r ≡ allFrom from (end - from) (placeGood (holding plan clock (now (counts .entry)) (now (keys .entry)) (now (kinds .entry)) (now (values .entry)) (now (stamps .entry))) node) ⌝ }
+{
+    let mut i = from;
+    while i < end {
+        if !place_good(plan, clock, counts, keys, kinds, values, stamps, node, i, end) {
+            return false;
+        }
+        i += 1;
+    }
+    true
+}
+
+// "unused places .. all zero": those from..end.
+fn unused_good<'a>(
+    keys: &'a [u32; Store::PLACES],
+    kinds: &'a [u32; Store::PLACES],
+    values: &'a [u32; Store::PLACES],
+    stamps: &'a [u32; Store::PLACES],
+    from: usize,
+    end: usize,
+) -> bool
+    requires { ⌜ (from ≤ end) × (end ≤ places) × (length (now keys) ≡ places) × (length (now kinds) ≡ places) × (length (now values) ≡ places) × (length (now stamps) ≡ places) ⌝ }
+    ensures { λ r. ⌜ r ≡ (allZero (slice from end (now (keys .entry))) && allZero (slice from end (now (kinds .entry))) && allZero (slice from end (now (values .entry))) && allZero (slice from end (now (stamps .entry)))) ⌝ }
+{
+    if !columns::all_zero(keys, from, end) {
+        return false;
+    }
+    if !columns::all_zero(kinds, from, end) {
+        return false;
+    }
+    if !columns::all_zero(values, from, end) {
+        return false;
+    }
+    columns::all_zero(stamps, from, end)
+}
+
+// A node: "counts within capacity", its used places, and the others.
+fn node_good<'a>(
+    plan: u32,
+    clock: u32,
+    counts: &'a [u32; Store::NODES],
+    keys: &'a [u32; Store::PLACES],
+    kinds: &'a [u32; Store::PLACES],
+    values: &'a [u32; Store::PLACES],
+    stamps: &'a [u32; Store::PLACES],
+    node: u32,
+) -> bool
+    requires { ⌜ (node < mostNodes) × (planNumberTest plan ≡ true) × Sized (now counts) (now keys) (now kinds) (now values) (now stamps) × OrderedFrom (now counts) (now keys) (suc node) ⌝ }
+    ensures { λ r. ⌜ r ≡ nodeGood (holding plan clock (now (counts .entry)) (now (keys .entry)) (now (kinds .entry)) (now (values .entry)) (now (stamps .entry))) node ⌝ }
+{
+    let n = node as usize;
+    let count = counts[n];
+    if plan::capacity(plan, node) < count {
+        return false;
+    }
+    let from = Store::WIDTH * n;
+    let end = from + count as usize;
+    if !used_good(plan, clock, counts, keys, kinds, values, stamps, node, from, end) {
+        return false;
+    }
+    unused_good(keys, kinds, values, stamps, end, from + Store::WIDTH)
+}
+
+// All nodes, from the last to the root.
+pub fn nodes_good<'a>(
+    plan: u32,
+    clock: u32,
+    counts: &'a [u32; Store::NODES],
+    keys: &'a [u32; Store::PLACES],
+    kinds: &'a [u32; Store::PLACES],
+    values: &'a [u32; Store::PLACES],
+    stamps: &'a [u32; Store::PLACES],
+) -> bool
+    requires { ⌜ (planNumberTest plan ≡ true) × Sized (now counts) (now keys) (now kinds) (now values) (now stamps) ⌝ }
+    ensures { λ r. ⌜ r ≡ allBelow mostNodes (nodeGood (holding plan clock (now (counts .entry)) (now (keys .entry)) (now (kinds .entry)) (now (values .entry)) (now (stamps .entry)))) ⌝ }
+{
+    let mut node = Store::NODES as u32;
+    while 0 < node {
+        node -= 1;
+        if !node_good(plan, clock, counts, keys, kinds, values, stamps, node) {
+            return false;
+        }
+    }
+    true
 }

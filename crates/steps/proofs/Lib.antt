@@ -8,3 +8,5 @@ pub mod LinesKept
 pub mod Keeping
 pub mod CarryLaws
 pub mod Refusals
+pub mod SearchLaws
+pub mod Putting

@@ -9,13 +9,13 @@ use Rattle.lists.proofs.Orders.Order.{less, equal, more}
 use Rattle.plan.specs.declared.Hop.the-variants.{To}
 use Rattle.plan.specs.Plan.{Plan, size, next, path, IsPath}
 use Rattle.plan.specs.PlanRules.{PlanRules}
-use Rattle.plan.proofs.NextLaws.{not-both-hops, one-target}
-use Rattle.plan.proofs.PathLaws.{path-some, path-first, path-next, path-is, root-in-plan, path-down, path-in-plan, path-end, one-place}
+use Rattle.plan.proofs.NextLaws.{not-both-hops, one-target, root-in-plan}
+use Rattle.plan.proofs.PathLaws.{path-some, path-first, path-next, path-is, path-down, path-in-plan, path-end, one-place}
 use Rattle.store.specs.StateRules.{OnPath}
 
 module _ (p : Plan) (rules : PlanRules p) (k : ℕ) where
   is-path : IsPath (λ m. next p m k) 0 (path p k)
-  is-path = path-is p rules k 0 (root-in-plan p rules k)
+  is-path = path-is p rules k 0 (root-in-plan p rules)
 
   -- The root stands first.
   pub root-on-path : OnPath p k 0 0

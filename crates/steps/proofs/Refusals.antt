@@ -9,7 +9,7 @@ use lib.ListN.{length}
 use Rattle.lists.proofs.Truths.{not-both}
 use Rattle.plan.specs.Plan.{Plan, size, capacityOf, edgesOf}
 use Rattle.plan.specs.PlanRules.{PlanRules}
-use Rattle.plan.proofs.PathLaws.{root-in-plan}
+use Rattle.plan.proofs.NextLaws.{root-in-plan}
 use Rattle.store.specs.Answers.{DONE, GOING, CLOCK, FULL, NODE, EDGE, SLOTS, SLOT, IDLE}
 use Rattle.store.specs.Copies.{keyOf, find}
 use Rattle.store.specs.State.{State, lastClock, slotCount, nodeAt, slotAt}
@@ -52,7 +52,7 @@ module _ (p : Plan) (rules : PlanRules p) (s : State) (good : StateRules p s) wh
     full-exactly = go (entry-way kind k v p s)
       where
         within : length (nodeAt s 0) ≤ capacityOf p 0
-        within = good .counts-within-capacity 0 (root-in-plan p rules 0)
+        within = good .counts-within-capacity 0 (root-in-plan p rules)
 
         go : {o : Effect} → EntryWay kind k v p s o → (o .answer .number ≡ FULL) ↔ RootFull
         go (at-last-clock h) = (λ e. absurd (omega arith), λ r. absurd (omega (arith, r .clock-left)))

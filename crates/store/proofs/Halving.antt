@@ -1,11 +1,12 @@
 -- A search by halves in the places from .. end of a column, and what a look there finds. Assumes nothing.
 use mathlib.Core.Path.{_≡_, refl, sym, ap, _∙_}
 use mathlib.Core.List.{List}
-use mathlib.Core.Option.{none, some}
+use mathlib.Core.Option.{Option, none, some}
 use Prim.Native.Nat.{ℕ, _+_, _-_, _<_, _≤_}
 use native.Mathlib.Omega.{arith}
 use Rattle.lists.specs.Runs.{run}
 use Rattle.lists.proofs.Running.{map-run}
+use Rattle.store.specs.declared.Copy.{Copy}
 use Rattle.store.specs.declared.Found.the-variants.{Held, Nothing}
 use Rattle.store.specs.Copies.{copy, noCopy, keyOf, find, foundOf}
 use Rattle.store.specs.Layout.{copyIn}
@@ -65,3 +66,12 @@ module _ (keys : List ℕ) (from end : ℕ) (o : from ≤ end) where
       pub look-nothing : (k at : ℕ) → at ≡ placeIn keys from end k → (at < end → k < numberIn keys at)
           → Nothing ≡ foundOf (find keyOf (run from (end - from) (copyIn keys kinds values stamps)) k)
       look-nothing k at e h = ap foundOf (sym (none-at k at e (λ p q. let a = h p in omega arith)))
+
+-- What an answer says that was found.
+pub found-none : {o : Option Copy} → foundOf o ≡ Nothing → o ≡ none
+found-none {o = none} e = refl
+found-none {o = some x} e = cc
+
+pub found-some : {o : Option Copy} {x : Copy} → foundOf o ≡ Held x → o ≡ some x
+found-some {o = none} e = cc
+found-some {o = some y} e = cc

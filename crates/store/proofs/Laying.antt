@@ -17,7 +17,7 @@ use Rattle.plan.specs.PlanTable.{planOf, plans}
 use Rattle.plan.proofs.TableLaws.{table-rules}
 use Rattle.store.specs.declared.Copy.{Copy}
 use Rattle.store.specs.declared.Store.{Store}
-use Rattle.store.specs.Copies.{noCopy}
+use Rattle.store.specs.Copies.{noCopy, keyOf, find, foundOf}
 use Rattle.store.specs.State.{State, nodeAt, copyAt, slotCount}
 use Rattle.store.specs.Layout.{width, places, copyIn, nodeIn, copyOf, countOf, nodeOf, stateOf, placeOf, column, storeOf, Shape}
 use Rattle.store.specs.StateRules.{StateRules}
@@ -39,6 +39,15 @@ module _ (counts keys kinds values stamps : List ℕ) (n : ℕ) where
       → map part (nodeIn counts keys kinds values stamps n) ≡ run (width * n) (getD counts n 0) (λ i. part (copyIn keys kinds values stamps i))
   unfolding nodeIn
   node-in-part part = map-run part (copyIn keys kinds values stamps) (width * n) (getD counts n 0)
+
+  -- A look among its places is a look in it.
+  pub node-looked : (k : ℕ)
+      → foundOf (find keyOf (run (width * n) (width * n + getD counts n 0 - width * n) (copyIn keys kinds values stamps)) k)
+      ≡ foundOf (find keyOf (nodeIn counts keys kinds values stamps n) k)
+  unfolding nodeIn
+  node-looked k =
+      let e : width * n + getD counts n 0 - width * n ≡ getD counts n 0 = omega arith in
+      rw e
 
 -- The nodes of a store, and of its state.
 module _ (z : Store) where

@@ -10,3 +10,4 @@ pub mod Halving
 pub mod Freshening
 pub mod Opening
 pub mod Zeros
+pub mod GoodNodes

@@ -1,13 +1,14 @@
 -- Calls on stores: what a step on states shows of its call, the store rules kept by it, and the fresh store. Assumes nothing.
-use mathlib.Core.Path.{_≡_, ap, _∙_}
+use mathlib.Core.Path.{_≡_, sym, ap, _∙_}
 use mathlib.Core.Bool.{true, false}
 use mathlib.Core.Logic.{_⊎_, inl, inr}
 use mathlib.Core.List.{[]}
-use Prim.Native.Nat.{ℕ, suc, _≤_}
+use Prim.Native.Nat.{ℕ, suc, _+_, _-_, _*_, _<_, _≤_}
 use native.Mathlib.Omega.{arith}
 use lib.ListN.{length, length-replicate}
 use Rattle.lists.proofs.Truths.{bool?}
 use Rattle.lists.proofs.Storing.{getD-same}
+use Rattle.plan.specs.Sizes.{mostNodes}
 use Rattle.plan.specs.Plan.{Plan, size}
 use Rattle.plan.specs.PlanRules.{PlanRules}
 use Rattle.plan.specs.PlanTable.{planOf, plans}
@@ -19,10 +20,11 @@ use Rattle.store.specs.declared.Store.{Store}
 use Rattle.store.specs.Answers.{BADSTORE, bare}
 use Rattle.store.specs.State.{State, nodeAt, slotAt, slotCount, idle, fresh}
 use Rattle.store.specs.StateRules.{StateRules, HeldAt}
-use Rattle.store.specs.Layout.{stateOf, storeOf, freshStore}
-use Rattle.store.specs.StoreRules.{goodStore}
+use Rattle.store.specs.Layout.{width, countOf, stateOf, storeOf, freshStore}
+use Rattle.store.specs.StoreRules.{StoreRules, goodStore}
+use Rattle.store.specs.Workers.{RisesIn, Ordered}
 use Rattle.store.specs.Calls.{Effect, onStore, ofStore}
-use Rattle.store.proofs.Laying.{store-back, rules-back, rules-store}
+use Rattle.store.proofs.Laying.{every-count, every-copy, store-back, node-fits, rules-back, rules-store}
 use Rattle.store.proofs.Ruling.{good-rules, rules-good}
 
 -- The two ways of a call: a bad store, and a good one.
@@ -107,6 +109,26 @@ plan-good z good = let r = good-rules z good in table-rules (z .plan) (r .plan-1
 pub state-good : (z : Store) → goodStore z ≡ true → StateRules (planOf (z .plan)) (stateOf z)
 state-good z good = good-rules z good .state-rules
 
+-- Its nodes are in order: a look goes by halves in each.
+pub good-ordered : (z : Store) → goodStore z ≡ true → (n : ℕ) → n < mostNodes → Ordered (z .counts) (z .keys) n
+good-ordered z good n h = record { fits = few; rises = rises }
+  where
+    rules : StoreRules z
+    rules = good-rules z good
+
+    few : countOf z n ≤ width
+    few = omega (arith, every-count z rules n h, node-fits (plan-good z good) (rules .state-rules) n)
+
+    rises : RisesIn (z .keys) (width * n) (width * n + countOf z n)
+    rises i from end =
+        let j = i - width * n in
+        let here : width * n + j ≡ i = omega arith in
+        let next : width * n + suc j ≡ suc i = omega arith in
+        let held : suc j < length (nodeAt (stateOf z) n) = omega (arith, every-count z rules n h) in
+        let a = every-copy z rules n j h (omega (arith, few)) in
+        let b = every-copy z rules n (suc j) h (omega (arith, few)) in
+        rw (a, b, here, next) at (rules .state-rules .keys-strictly-rise n j held)
+
 pub good-back : (z : Store) → goodStore z ≡ true → storeOf (z .plan) (stateOf z) ≡ z
 good-back z good = store-back z (good-rules z good)
 
@@ -133,3 +155,21 @@ module _ (f : Plan → State → Effect) (z : Store) where
     state-agrees =
         let r = good-rules z good .plan-1-to-3 in
         ap (λ (o : Outcome). stateOf (o .store)) (on-good f z good) ∙ rules-back (z .plan) (r .0) (r .1) after-good
+
+-- A call's outcome on a bad store.
+pub on-broken : (f : Plan → State → Effect) (z : Store) → goodStore z ≡ false → (a : Answer) → a ≡ bare BADSTORE
+    → record { answer = a; store = z } ≡ onStore f z
+on-broken f z bad a e = rw e (sym (on-bad f z bad))
+
+-- A call's outcome on a good store, by the way out of its step: the answer and a store of the state after it,
+module _ (f : Plan → State → Effect) (z : Store) (good : goodStore z ≡ true) where
+  pub on-way : (a : Answer) (t : State) (r : Store) → f (planOf (z .plan)) (stateOf z) ≡ record { answer = a; after = t }
+      → r ≡ storeOf (z .plan) t → record { answer = a; store = r } ≡ onStore f z
+  on-way a t r e q =
+      ap (λ (y : Store). record { answer = a; store = y }) q
+      ∙ sym (on-good f z good ∙ ap (λ (w : Effect). record { answer = w .answer; store = storeOf (z .plan) (w .after) }) e)
+
+  -- or a refusal, and the store as it was.
+  pub on-refusal : (number : ℕ) → f (planOf (z .plan)) (stateOf z) ≡ record { answer = bare number; after = stateOf z }
+      → record { answer = bare number; store = z } ≡ onStore f z
+  on-refusal number e = on-way (bare number) (stateOf z) z e (sym (good-back z good))

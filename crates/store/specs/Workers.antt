@@ -1,11 +1,13 @@
 -- What the workers on lent columns promise: the place of a key by rising keys, and a number put in between others.
 use mathlib.Core.Bool.{cond}
 use mathlib.Core.List.{List, [], _∷_, _++_}
-use Prim.Native.Nat.{ℕ, suc, _+_, _-_, _<_, _≤_}
+use Prim.Native.Nat.{ℕ, suc, _+_, _-_, _*_, _<_, _≤_}
 use lib.Dec.{ltb}
 use lib.ListN.{length, getD, take, drop}
 use lib.Seq.{slice}
 use Rattle.lists.specs.Runs.{run}
+use Rattle.store.specs.declared.Store.{Store}
+use Rattle.store.specs.Layout.{width}
 
 -- The number of a column at a place.
 abbrev pub numberIn : List ℕ → ℕ → ℕ
@@ -31,6 +33,16 @@ Rises key none xs = (i : ℕ) → suc i < length xs → key (getD xs i none) < k
 -- The same of a column, from one place up to another.
 abbrev pub RisesIn : List ℕ → ℕ → ℕ → Type 0
 RisesIn keys from end = (i : ℕ) → from ≤ i → suc i < end → numberIn keys i < numberIn keys (suc i)
+
+-- A node in which a look can go by halves: it has room for its copies, and their keys rise.
+pub record Ordered (counts keys : List ℕ) (n : ℕ) : Type 0 where
+  pub fits : getD counts n 0 ≤ width
+  pub rises : RisesIn keys (width * n) (width * n + getD counts n 0)
+
+-- A store of the columns that a worker is lent. No look reads its searches, so there are none.
+abbrev pub holding : ℕ → ℕ → List ℕ → List ℕ → List ℕ → List ℕ → List ℕ → Store
+holding plan clock counts keys kinds values stamps =
+    record { plan = plan; clock = clock; counts = counts; keys = keys; kinds = kinds; values = values; stamps = stamps; slots = [] }
 
 -- A list with x put in at a place; those from there up to end stand one place further up, over the one that stood at end.
 unfoldable pub opened : {A : Type 0} → List A → ℕ → ℕ → A → List A

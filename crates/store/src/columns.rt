@@ -5,9 +5,10 @@ ghost use lib.ListN.{length};
 ghost use lib.Seq.{slice};
 ghost use Rattle.lists.specs.Runs.{run};
 ghost use Rattle.store.specs.Copies.{keyOf, find, foundOf};
-ghost use Rattle.store.specs.Layout.{places, copyIn};
+ghost use Rattle.plan.specs.Sizes.{mostNodes};
+ghost use Rattle.store.specs.Layout.{places, copyIn, nodeIn};
 ghost use Rattle.store.specs.StoreRules.{allZero};
-ghost use Rattle.store.specs.Workers.{placeIn, RisesIn, opened};
+ghost use Rattle.store.specs.Workers.{placeIn, RisesIn, Ordered, opened};
 use crate::Copy;
 use crate::Found;
 use crate::Store;
@@ -66,6 +67,25 @@ pub fn look_in<'a>(
         value: values[at],
         stamp: stamps[at],
     })
+}
+
+// The same of a node by its number.
+pub fn look_at<'a>(
+    counts: &'a [u32; Store::NODES],
+    keys: &'a [u32; Store::PLACES],
+    kinds: &'a [u32; Store::PLACES],
+    values: &'a [u32; Store::PLACES],
+    stamps: &'a [u32; Store::PLACES],
+    node: u32,
+    key: u32,
+) -> Found
+    requires { ⌜ (node < mostNodes) × Ordered (now counts) (now keys) node ⌝ }
+    ensures { λ r. ⌜ r ≡ foundOf (find keyOf (nodeIn (now (counts .entry)) (now (keys .entry)) (now (kinds .entry)) (now (values .entry)) (now (stamps .entry)) node) key) ⌝ }
+{
+    let n = node as usize;
+    let from = Store::WIDTH * n;
+    let end = from + counts[n] as usize;
+    look_in(keys, kinds, values, stamps, from, end, key)
 }
 
 // The number put in at a place; those from there up to end move one place up, over the one at end.

@@ -61,6 +61,13 @@ pub enum Found {
     Nothing,
 }
 
+// The kinds of copies.
+impl Copy {
+    pub const WITHDRAWN: u32 = 0;
+
+    pub const RESULT: u32 = 1;
+}
+
 // The answer numbers, in the table's order.
 impl Answer {
     pub const DONE: u32 = 0;
@@ -126,6 +133,18 @@ impl Answer {
             b: b,
             c: c,
             d: d,
+        }
+    }
+}
+
+impl Outcome {
+    // A refusal: its number, and the store as it was.
+    pub fn refused(number: u32, store: Store) -> Outcome
+        ensures { λ r. ⌜ r ≡ record { answer = bare number; store = store } ⌝ }
+    {
+        Outcome {
+            answer: Answer::bare(number),
+            store: store,
         }
     }
 }

@@ -2,7 +2,6 @@
 use mathlib.Core.List.{List, [], _∷_, _++_}
 use Prim.Native.Nat.{ℕ, zero, suc}
 use lib.Dec.{lit<}
-use lib.ListN.{getD}
 use Rattle.number.specs.Number.{Bytes}
 
 pub no-bytes : Bytes []

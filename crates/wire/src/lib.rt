@@ -2,6 +2,7 @@
 ghost use mathlib.Core.Path.{_≡_};
 ghost use Rattle.wire.specs.Reading.{numberAt, numOf};
 use number::Reading;
+use store::Answer;
 
 // A number and the offset after it, or a fault: an answer number and its offset.
 pub struct Num {
@@ -25,13 +26,13 @@ pub fn read_number(bytes: &[u8], at: usize) -> Num
         },
         Reading::Cut => Num {
             ok: false,
-            fault: 13,
+            fault: Answer::CUT,
             at,
             value: 0,
         },
         Reading::Malformed => Num {
             ok: false,
-            fault: 14,
+            fault: Answer::NUMBER,
             at,
             value: 0,
         },

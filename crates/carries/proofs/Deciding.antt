@@ -1,0 +1,97 @@
+-- The walk through two nodes from its start to its end, and the count of the places that an edge holds. Assumes nothing.
+use mathlib.Core.Path.{_≡_, refl, sym, ap, _∙_}
+use mathlib.Core.Bool.{Bool, true, false}
+use mathlib.Core.List.{List, [], _∷_, _++_, append-nil}
+use Prim.Native.Nat.{ℕ, suc, _+_, _-_, _<_, _≤_}
+use native.Mathlib.Omega.{arith}
+use native.Mathlib.Numerals.{add-one}
+use lib.ListN.{length, getD, set, take, drop, drop-of-length-le, length-set}
+use lib.Seq.{drop-cons}
+use Rattle.lists.proofs.Running.{run-off}
+use Rattle.plan.specs.declared.Edge.{Edge}
+use Rattle.plan.specs.Plan.{holds}
+use Rattle.store.specs.Layout.{width}
+use Rattle.store.specs.Workers.{numberIn, itself}
+use Rattle.steps.specs.Carries.{Merged, merge, bit, countHeld}
+use Rattle.carries.specs.declared.decision.Merge.{Merge}
+use Rattle.carries.specs.Decisions.{span, standing, outcome, Going, Ready, Lists, Decided}
+use Rattle.carries.proofs.Turning.{stood, own-stands}
+
+-- The rest of the target's own places: one more,
+pub rest-turn : (target : List ℕ) (end : ℕ) (m : Merge) → m .next < end → m .got + (end - m .next) ≤ width → length target ≡ width
+    → (r : Merge) (target′ : List ℕ) → r ≡ record { place = m .place; next = m .next + 1; kept = m .kept; got = m .got + 1 }
+    → target′ ≡ set target (m .got) (m .next)
+    → (r .next ≤ end) × (r .got + (end - r .next) ≤ width) × (length target′ ≡ width) × (r .kept ≡ m .kept)
+    × (standing target′ end r ≡ standing target end m)
+rest-turn target end m h fits long r target′ r-is target-is =
+    rw (r-is, target-is) (
+      omega arith,
+      omega arith,
+      length-set target (m .got) (m .next) ∙ long,
+      refl,
+      stood target end m (m .next) (m .place) (m .next + 1) (omega arith) ∙ own-stands target end m h,
+    )
+
+-- and all.
+pub rest-end : (target : List ℕ) (end : ℕ) (m : Merge) → end ≤ m .next → length target ≡ width → m .got ≤ width
+    → Lists target (m .got) (standing target end m)
+unfolding standing
+rest-end target end m h long few =
+    record { long = long; counted = few; listed = rw (run-off itself (m .next) end h) (sym (append-nil (take (m .got) target))) }
+
+-- The start of the walk,
+module _ (keys : List ℕ) (capacity : ℕ) (e : Edge) (from to start end : ℕ) (stay target : List ℕ) where
+  pub start-going : Ready keys capacity from to start end → length stay ≡ width → length target ≡ width
+      → Going keys capacity to end stay target (record { place = from; next = start; kept = 0; got = 0 })
+  start-going r s t =
+      record {
+        stay-64 = s;
+        target-64 = t;
+        place-within = (r .node-within .0, r .node-within .1);
+        next-within = (r .target-within .0, r .target-within .1);
+        stays = omega (arith, r .node-within .2);
+        fits = omega (arith, r .target-within .2);
+        few = r .few;
+        node-rises = r .node-rises;
+        target-rises = r .target-rises;
+        low = λ i j h. absurd (omega arith);
+      }
+
+  pub start-outcome : outcome keys capacity e to end stay target (record { place = from; next = start; kept = 0; got = 0 })
+      ≡ merge (numberIn keys) capacity e (span from to) (span start end)
+  unfolding outcome standing
+  start-outcome = refl
+
+-- and its end.
+pub decided : {keys : List ℕ} {capacity : ℕ} (e : Edge) {to end : ℕ} {stay target : List ℕ} {m : Merge} → Going keys capacity to end stay target m
+    → to ≤ m .place → (l : Merged ℕ) → outcome keys capacity e to end stay target m ≡ l → (r : Merge) (target′ : List ℕ) → r .kept ≡ m .kept
+    → Lists target′ (r .got) (standing target end m) → Decided l stay target′ r
+unfolding outcome merge
+decided {keys} {capacity} e {to} {end} {stay} {target} {m} g h l l-is r target′ kept gets =
+    rw (← l-is, run-off itself (m .place) to h)
+    (record {
+      stays =
+          record {
+            long = g .stay-64;
+            counted = omega (arith, g .stays);
+            listed = rw kept (sym (append-nil (take (m .kept) stay)));
+          };
+      gets = gets;
+    })
+
+-- One more place is counted if the edge holds its key,
+module _ (keys : List ℕ) (e : Edge) (list : List ℕ) (i : ℕ) (h : i < length list) where
+  pub count-one : holds e (numberIn keys (numberIn list i)) ≡ true
+      → countHeld (numberIn keys) e (drop i list) ≡ suc (countHeld (numberIn keys) e (drop (i + 1) list))
+  unfolding countHeld
+  count-one t = rw (drop-cons list i 0 h, t, add-one) (omega arith)
+
+  pub count-none : holds e (numberIn keys (numberIn list i)) ≡ false
+      → countHeld (numberIn keys) e (drop i list) ≡ countHeld (numberIn keys) e (drop (i + 1) list)
+  unfolding countHeld
+  count-none t = rw (drop-cons list i 0 h, t, add-one) (omega arith)
+
+-- and after the last there is none.
+pub count-end : (keys : List ℕ) (e : Edge) (list : List ℕ) (i : ℕ) → length list ≤ i → countHeld (numberIn keys) e (drop i list) ≡ 0
+unfolding countHeld
+count-end keys e list i h = rw (drop-of-length-le list h)

@@ -1,0 +1,53 @@
+use mathlib.Core.Path.{_≡_, _∙_}
+use Prim.Native.Nat.{_+_, _-_}
+use native.Mathlib.Omega.{arith}
+use Rattle.store.specs.Workers.{numberIn}
+use Rattle.steps.specs.Carries.{merge}
+use Rattle.carries.specs.Decisions.{span, outcome, Going}
+use Rattle.carries.proofs.Deciding.{start-going, start-outcome, decided}
+use Rattle.carries.proofs.decision.decide.Statement.{statement}
+use Rattle.carries.proofs.decision.decide.Tie as tie
+use Rattle.carries.proofs.decision.decide.Reads as reads
+use Rattle.carries.proofs.decision.decide.Lts as lts
+use Rattle.carries.proofs.decision.rest.Reads as rest-reads
+use Rattle.carries.proofs.decision.turn.Reads as turn-reads
+
+abbrev Inv-loop : tie.InvT-loop
+Inv-loop keys stay₀ target₀ from to start end edge capacity m₀ stay target m =
+    Going keys capacity to end stay target m
+    × (outcome keys capacity edge to end stay target m ≡ merge (numberIn keys) capacity edge (span from to) (span start end))
+
+abbrev μ-loop : tie.MeasureT-loop
+μ-loop keys stay₀ target₀ from to start end edge capacity m₀ stay target m = (to - m .place) + (end - m .next)
+
+loop-holds : tie.Need-loop-holds Inv-loop μ-loop
+loop-holds c =
+    let a = c .args in (
+      start-going (a .keys .now) (a .capacity) (a .edge) (a .from) (a .to) (a .start) (a .end) (a .stay .now) (a .target .now) (c .pre .0) (c .pre .1) (c .pre .2),
+      start-outcome (a .keys .now) (a .capacity) (a .edge) (a .from) (a .to) (a .start) (a .end) (a .stay .now) (a .target .now),
+    )
+
+turn-requires : tie.Need-turn-requires Inv-loop μ-loop
+turn-requires c κs = (c .before .before .before .before .loop .inv .0, omega arith)
+
+loop-less : tie.Need-loop-less Inv-loop μ-loop
+loop-less c = c .turn .ensures .less
+
+loop-again : tie.Need-loop-again Inv-loop μ-loop
+loop-again c = (c .turn .ensures .going, c .turn .ensures .same ∙ c .before .before .before .before .before .loop .inv .1)
+
+rest-requires : tie.Need-rest-requires Inv-loop μ-loop
+rest-requires c κs =
+    let g = c .before .before .before .loop .inv .0 in
+    (g .next-within .0, omega (arith, g .fits, g .few), g .target-64)
+
+returns : tie.Need-returns Inv-loop μ-loop
+returns c =
+    let l = c .before .before .before .before in
+    let e = c .rest .ensures in
+    decided (l .before .args .edge) (l .loop .inv .0) (omega arith) _ (l .loop .inv .1) (c .rest .result) (c .rest .last .0) (e .0) (e .1)
+
+pub decide-spec : {M : Type 1} → statement M
+decide-spec =
+    tie.close
+    (tie.spec Inv-loop μ-loop loop-holds turn-requires loop-less loop-again rest-requires returns)

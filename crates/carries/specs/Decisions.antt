@@ -1,0 +1,69 @@
+-- What the decision of a carry promises: which places stay in the node, and which the target then has, by the keys at the places.
+use mathlib.Core.Path.{_≡_}
+use mathlib.Core.List.{List, _++_}
+use Prim.Native.Nat.{ℕ, _+_, _-_, _<_, _≤_}
+use lib.ListN.{length, take}
+use Rattle.lists.specs.Runs.{run}
+use Rattle.plan.specs.declared.Edge.{Edge}
+use Rattle.store.specs.Layout.{width, places}
+use Rattle.store.specs.Workers.{numberIn, itself, RisesIn}
+use Rattle.steps.specs.Carries.{Merged, merge}
+use Rattle.carries.specs.declared.decision.Merge.{Merge}
+
+-- The places from one up to another.
+abbrev pub span : ℕ → ℕ → List ℕ
+span from end = run from (end - from) itself
+
+-- The target as it stands: the places that it has got so far, and its own from the next on.
+unfoldable pub standing : List ℕ → ℕ → Merge → List ℕ
+standing target end m = take (m .got) target ++ span (m .next) end
+
+-- What the merge comes to from here: the places that stay so far, and the merge of the node's places from the next on.
+unfoldable pub outcome : List ℕ → ℕ → Edge → ℕ → ℕ → List ℕ → List ℕ → Merge → Merged ℕ
+outcome keys capacity e to end stay target m =
+    let r = merge (numberIn keys) capacity e (span (m .place) to) (standing target end m) in
+    record { stay = take (m .kept) stay ++ r .stay; target = r .target }
+
+-- A merge under way: the node's places from the next up to `to`, and the target's from its next up to `end`, are still to be walked through.
+pub record Going (keys : List ℕ) (capacity to end : ℕ) (stay target : List ℕ) (m : Merge) : Type 0 where
+  pub stay-64 : length stay ≡ width
+  pub target-64 : length target ≡ width
+  pub place-within : (m .place ≤ to) × (to ≤ places)
+  pub next-within : (m .next ≤ end) × (end ≤ places)
+  -- there is room for all that may stay, and for all that the target may have
+  pub stays : m .kept + (to - m .place) ≤ width
+  pub fits : m .got + (end - m .next) ≤ capacity
+  pub few : capacity ≤ width
+  -- keys rise in what is still to come, and those that the target has got are below the node's
+  pub node-rises : RisesIn keys (m .place) to
+  pub target-rises : RisesIn keys (m .next) end
+  pub low : (i j : ℕ) → i < m .got → m .place ≤ j → j < to → numberIn keys (numberIn target i) < numberIn keys j
+
+-- After one turn the merge comes to the same, and less is still to be walked through.
+pub record Turned (keys : List ℕ) (capacity : ℕ) (e : Edge) (to end : ℕ) (stay target : List ℕ) (m : Merge) (stay′ target′ : List ℕ) (r : Merge) : Type 0 where
+  pub going : Going keys capacity to end stay′ target′ r
+  pub same : outcome keys capacity e to end stay′ target′ r ≡ outcome keys capacity e to end stay target m
+  pub less : (to - r .place) + (end - r .next) < (to - m .place) + (end - m .next)
+
+-- Two nodes that can be merged: their places, as many as they have room for, by rising keys.
+pub record Ready (keys : List ℕ) (capacity from to start end : ℕ) : Type 0 where
+  pub node-within : (from ≤ to) × (to ≤ places) × (to - from ≤ width)
+  pub target-within : (start ≤ end) × (end ≤ places) × (end - start ≤ capacity)
+  pub few : capacity ≤ width
+  pub node-rises : RisesIn keys from to
+  pub target-rises : RisesIn keys start end
+
+-- An array and a count stand for a list of places.
+pub record Lists (array : List ℕ) (count : ℕ) (list : List ℕ) : Type 0 where
+  pub long : length array ≡ width
+  pub counted : count ≤ width
+  pub listed : take count array ≡ list
+
+-- The two lists of a merge.
+pub record Decided (l : Merged ℕ) (stay target : List ℕ) (r : Merge) : Type 0 where
+  pub stays : Lists stay (r .kept) (l .stay)
+  pub gets : Lists target (r .got) (l .target)
+
+-- The numbers of a list are below a bound.
+abbrev pub Within : List ℕ → ℕ → Type 0
+Within list bound = (i : ℕ) → i < length list → numberIn list i < bound

@@ -1,0 +1,145 @@
+// Which copies a carry moves, by the keys alone: the places whose copies stay in the node, and those whose copies the target then has.
+// The two nodes are walked through once, side by side, by rising key.
+ghost use mathlib.Core.Path.{_≡_};
+ghost use Prim.Native.Nat.{_+_, _-_, _<_, _≤_};
+ghost use lib.ListN.{length, set};
+ghost use Rattle.plan.specs.Plan.{holds as heldBy};
+ghost use Rattle.store.specs.Layout.{width, places};
+ghost use Rattle.store.specs.Workers.{numberIn};
+ghost use Rattle.steps.specs.Carries.{merge, countHeld};
+ghost use Rattle.carries.specs.Decisions.{span, standing, Going, Turned, Ready, Lists, Decided, Within};
+use plan::Edge;
+use store::Store;
+
+// A merge under way: the next place of the node and of the target, how many places stay so far, and how many the target has.
+pub struct Merge {
+    pub place: usize,
+    pub next: usize,
+    pub kept: usize,
+    pub got: usize,
+}
+
+// The edge's range holds the key: "both included".
+fn holds(edge: Edge, key: u32) -> bool
+    ensures { λ r. ⌜ r ≡ heldBy edge key ⌝ }
+{
+    edge.lowest <= key && key <= edge.highest
+}
+
+// The node's next place stays.
+fn keep(stay: &mut [usize; Store::WIDTH], m: Merge) -> Merge
+    requires { ⌜ (m .kept < width) × (m .place < places) ⌝ }
+    ensures { λ r. ⌜ (r ≡ record { place = m .place + 1; next = m .next; kept = m .kept + 1; got = m .got }) × (now (stay .exit) ≡ set (now (stay .entry)) (m .kept) (m .place)) ⌝ }
+{
+    let kept = m.kept;
+    stay[kept] = m.place;
+    Merge {
+        place: m.place + 1,
+        next: m.next,
+        kept: kept + 1,
+        got: m.got,
+    }
+}
+
+// The target gets a place; the walk goes on at a place of the node and at one of the target.
+fn get(target: &mut [usize; Store::WIDTH], m: Merge, x: usize, place: usize, next: usize) -> Merge
+    requires { ⌜ m .got < width ⌝ }
+    ensures { λ r. ⌜ (r ≡ record { place = place; next = next; kept = m .kept; got = m .got + 1 }) × (now (target .exit) ≡ set (now (target .entry)) (m .got) x) ⌝ }
+{
+    let got = m.got;
+    target[got] = x;
+    Merge {
+        place: place,
+        next: next,
+        kept: m.kept,
+        got: got + 1,
+    }
+}
+
+// One turn: the target's own copy if its key is smaller. Else the node's copy, if the edge holds its key: it replaces the target's
+// copy of that key, or is added if the target has a free place. Else it stays.
+fn turn(
+    keys: &[u32; Store::PLACES],
+    stay: &mut [usize; Store::WIDTH],
+    target: &mut [usize; Store::WIDTH],
+    m: Merge,
+    to: usize,
+    end: usize,
+    edge: Edge,
+    capacity: usize,
+) -> Merge
+    requires { ⌜ Going (now keys) capacity to end (now stay) (now target) m × (m .place < to) ⌝ }
+    ensures { λ r. ⌜ Turned (now (keys .entry)) capacity edge to end (now (stay .entry)) (now (target .entry)) m (now (stay .exit)) (now (target .exit)) r ⌝ }
+{
+    let place = m.place;
+    let next = m.next;
+    let key = keys[place];
+    if next < end && keys[next] < key {
+        return get(target, m, next, place, next + 1);
+    }
+    if !holds(edge, key) {
+        return keep(stay, m);
+    }
+    if next < end && keys[next] == key {
+        return get(target, m, place, place + 1, next + 1);
+    }
+    if m.got + (end - next) < capacity {
+        return get(target, m, place, place + 1, next);
+    }
+    keep(stay, m)
+}
+
+// After the node's last copy the rest of the target's own.
+fn rest(target: &mut [usize; Store::WIDTH], mut m: Merge, end: usize) -> Merge
+    requires { ⌜ (m .next ≤ end) × (m .got + (end - m .next) ≤ width) × (length (now target) ≡ width) ⌝ }
+    ensures { λ r. ⌜ (r .kept ≡ m .kept) × Lists (now (target .exit)) (r .got) (standing (now (target .entry)) end m) ⌝ }
+{
+    while m.next < end {
+        m = get(target, m, m.next, m.place, m.next + 1);
+    }
+    m
+}
+
+// The places that stay, and those whose copies the target then has: of the node's from..to and the target's start..end.
+pub fn decide(
+    keys: &[u32; Store::PLACES],
+    stay: &mut [usize; Store::WIDTH],
+    target: &mut [usize; Store::WIDTH],
+    from: usize,
+    to: usize,
+    start: usize,
+    end: usize,
+    edge: Edge,
+    capacity: usize,
+) -> Merge
+    requires { ⌜ Ready (now keys) capacity from to start end × (length (now stay) ≡ width) × (length (now target) ≡ width) ⌝ }
+    ensures { λ r. ⌜ Decided (merge (numberIn (now (keys .entry))) capacity edge (span from to) (span start end)) (now (stay .exit)) (now (target .exit)) r ⌝ }
+{
+    let mut m = Merge {
+        place: from,
+        next: start,
+        kept: 0,
+        got: 0,
+    };
+    while m.place < to {
+        m = turn(keys, stay, target, m, to, end, edge, capacity);
+    }
+    rest(target, m, end)
+}
+
+// How many places of a list have a key that the edge holds.
+pub fn count_held(keys: &[u32; Store::PLACES], list: &[usize], edge: Edge) -> usize
+    requires { ⌜ Within (now list) places ⌝ }
+    ensures { λ r. ⌜ r ≡ countHeld (numberIn (now (keys .entry))) edge (now (list .entry)) ⌝ }
+{
+    let mut count = 0;
+    let mut i = 0;
+    while i < list.len() {
+        let place = list[i];
+        if holds(edge, keys[place]) {
+            count += 1;
+        }
+        i += 1;
+    }
+    count
+}

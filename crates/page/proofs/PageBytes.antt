@@ -1,0 +1,92 @@
+-- A page reads back from the left: two byte strings that begin with pages and are equal have the same sample and the same lines.
+-- And how long a page can be. Assumes nothing.
+use mathlib.Core.Path.{_≡_, refl, sym, ap, _∙_}
+use mathlib.Core.Bool.{Bool, true, false, cond, _&&_}
+use mathlib.Core.List.{List, [], _∷_, _++_, append-assoc}
+use mathlib.Core.Logic.{_⊎_, ⊎-elim}
+use mathlib.Core.Option.{Option, none, some}
+use Prim.Native.Nat.{ℕ, zero, suc, _+_, _*_, _^_, _<_, _≤_}
+use native.Mathlib.Omega.{arith}
+use lib.Dec.{eqb}
+use lib.ListN.{length, length-append}
+use borrow.Author.Tests.{eqb-true, eq-eqb}
+use Rattle.lists.proofs.Truths.{and-left, and-right, bool?, not-both}
+use Rattle.number.specs.Number.{form}
+use Rattle.number.proofs.Forms.{form-length, form-width}
+use Rattle.number.proofs.Readings.{form-apart, form-rest}
+use Rattle.plan.specs.Plan.{Plan}
+use Rattle.store.specs.declared.Copy.{Copy}
+use Rattle.store.specs.Copies.{RESULT}
+use Rattle.store.specs.State.{State, current}
+use Rattle.page.specs.Page.{analytes, lastSample, keyFor, Line, shown, linesFrom, linesOf, lineBytes, linesBytes, pageBytes, pageOf, begins}
+
+-- A line whose numbers have 32 bits.
+pub record Small (l : Line) : Type 0 where
+  pub analyte : l .analyte ≤ 4294967295
+  pub value : l .value ≤ 4294967295
+  pub stamp : l .stamp ≤ 4294967295
+
+abbrev pub AllSmall : List Line → Type 0
+AllSmall [] = Unit {0}
+AllSmall (l ∷ ls) = Small l × AllSmall ls
+
+-- Two lines that begin one byte string are equal, and so is what follows them.
+line-apart : (l m : Line) → Small l → Small m → (a b : List ℕ) → lineBytes l ++ a ≡ lineBytes m ++ b → (l ≡ m) × (a ≡ b)
+unfolding lineBytes
+line-apart l m p q a b e = (λ i. record { analyte = e1 i; value = e3 i; stamp = e5 i }, e6)
+  where
+    e0 : form (l .analyte) ++ (form (l .value) ++ (form (l .stamp) ++ a)) ≡ form (m .analyte) ++ (form (m .value) ++ (form (m .stamp) ++ b))
+    e0 = simp append-assoc at e
+    e1 : l .analyte ≡ m .analyte
+    e1 = form-apart _ _ (p .analyte) (q .analyte) e0
+    e2 : form (l .value) ++ (form (l .stamp) ++ a) ≡ form (m .value) ++ (form (m .stamp) ++ b)
+    e2 = form-rest _ _ (p .analyte) (q .analyte) e0
+    e3 : l .value ≡ m .value
+    e3 = form-apart _ _ (p .value) (q .value) e2
+    e4 : form (l .stamp) ++ a ≡ form (m .stamp) ++ b
+    e4 = form-rest _ _ (p .value) (q .value) e2
+    e5 : l .stamp ≡ m .stamp
+    e5 = form-apart _ _ (p .stamp) (q .stamp) e4
+    e6 : a ≡ b
+    e6 = form-rest _ _ (p .stamp) (q .stamp) e4
+
+lines-apart : (ls ms : List Line) → length ls ≡ length ms → AllSmall ls → AllSmall ms → (a b : List ℕ)
+    → linesBytes ls ++ a ≡ linesBytes ms ++ b → ls ≡ ms
+unfolding linesBytes
+lines-apart [] [] n p q a b e = refl
+lines-apart [] (m ∷ ms) n p q a b e = absurd (omega arith)
+lines-apart (l ∷ ls) [] n p q a b e = absurd (omega arith)
+lines-apart (l ∷ ls) (m ∷ ms) n p q a b e =
+    let w =
+    line-apart l m (p .0) (q .0) (linesBytes ls ++ a) (linesBytes ms ++ b)
+    (sym (append-assoc (lineBytes l) (linesBytes ls) a) ∙ e ∙ append-assoc (lineBytes m) (linesBytes ms) b)
+    in
+    let r : ls ≡ ms = lines-apart ls ms (omega arith) (p .1) (q .1) a b (w .1) in
+    λ i. w .0 i ∷ r i
+
+-- Two pages that begin one byte string are of one sample and have the same lines.
+pub page-apart : (sample other : ℕ) (ls ms : List Line) → sample ≤ 4294967295 → other ≤ 4294967295
+    → length ls ≤ 4294967295 → length ms ≤ 4294967295 → AllSmall ls → AllSmall ms → (a b : List ℕ)
+    → pageBytes sample ls ++ a ≡ pageBytes other ms ++ b → (sample ≡ other) × (ls ≡ ms)
+unfolding pageBytes
+page-apart sample other ls ms h g hl gl p q a b e = (form-apart _ _ h g e0, lines-apart ls ms (form-apart _ _ hl gl e1) p q a b (form-rest _ _ hl gl e1))
+  where
+    e0 : form sample ++ (form (length ls) ++ (linesBytes ls ++ a)) ≡ form other ++ (form (length ms) ++ (linesBytes ms ++ b))
+    e0 = simp append-assoc at e
+    e1 : form (length ls) ++ (linesBytes ls ++ a) ≡ form (length ms) ++ (linesBytes ms ++ b)
+    e1 = form-rest _ _ h g e0
+
+-- Bytes that begin with others are these and a rest.
+pub begins-rest : (bytes page : List ℕ) → begins bytes page ≡ true → (rest : List ℕ) × (bytes ≡ page ++ rest)
+unfolding begins
+begins-rest bytes [] t = (bytes, refl)
+begins-rest [] (b ∷ bs) t = absurd (not-both t refl)
+begins-rest (a ∷ bytes) (b ∷ bs) t =
+    let e : a ≡ b = eqb-true a b (and-left (eqb a b) (begins bytes bs) t) in
+    let w = begins-rest bytes bs (and-right (eqb a b) (begins bytes bs) t) in
+    (w .0, λ i. e i ∷ w .1 i)
+
+pub rest-begins : (page rest : List ℕ) → begins (page ++ rest) page ≡ true
+unfolding begins
+rest-begins [] rest = refl
+rest-begins (b ∷ bs) rest = rw (eq-eqb b b refl) (rest-begins bs rest)

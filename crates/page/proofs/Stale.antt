@@ -1,0 +1,101 @@
+-- The harm that this store is to prevent: bytes that were a sample's page do not begin with its page any more once a result of one of its
+-- lines was entered later, or a line that they show withdrawn. And what leaves every page as it was. Assumes nothing.
+use mathlib.Core.Path.{_≡_, refl, sym, ap, _∙_}
+use mathlib.Core.Bool.{Bool, true, false, cond, _&&_}
+use mathlib.Core.List.{List, _++_}
+use mathlib.Core.Logic.{⊎-elim}
+use mathlib.Core.Option.{Option, none, some}
+use Prim.Native.Nat.{ℕ, zero, suc, _+_, _<_, _≤_}
+use native.Mathlib.Omega.{arith}
+use lib.Dec.{eqb, leb}
+use lib.ListN.{length, take}
+use lib.Seq.{take-append-seam}
+use denote.Ref.{RefT}
+use borrow.Author.Tests.{eq-eqb}
+use Rattle.lists.proofs.Truths.{bool?, and-right}
+use Rattle.plan.specs.Plan.{Plan}
+use Rattle.store.specs.declared.Copy.{Copy}
+use Rattle.store.specs.declared.Store.{Store}
+use Rattle.store.specs.Copies.{WITHDRAWN, RESULT}
+use Rattle.store.specs.State.{State, current}
+use Rattle.store.specs.StoreRules.{goodStore}
+use Rattle.page.specs.Page.{analytes, lastSample, keyFor, Line, shown, linesFrom, pageBytes, pageOf, begins}
+use Rattle.page.specs.Promises.{pageNow, fresh?, served}
+use Rattle.page.proofs.PageBytes.{begins-rest}
+use Rattle.page.proofs.PageLines.{lineOf, Bounded, same-lines, same-line}
+
+-- A result is shown, and a withdrawn copy is not.
+shows-result : (a : ℕ) (x : Copy) → x .kind ≡ RESULT → lineOf a (some x) ≡ some (record { analyte = a; value = x .value; stamp = x .stamp })
+shows-result a x e = rw (eq-eqb (x .kind) RESULT e)
+
+hides-withdrawn : (a : ℕ) (x : Copy) → x .kind ≡ WITHDRAWN → lineOf a (some x) ≡ none
+hides-withdrawn a x e = rw e
+
+-- The stamp that a shown line has is its copy's.
+shown-stamp : (a : ℕ) (o : Option Copy) (l : Line) → lineOf a o ≡ some l → (y : Copy) × (o ≡ some y) × (y .stamp ≡ l .stamp)
+shown-stamp a none l e = absurd (let z : _≡_ {A = ℕ} 0 1 = cc in omega arith)
+shown-stamp a (some y) l e = go (eqb (y .kind) RESULT) e
+  where
+    go : (r : Bool) → cond r (some (record { analyte = a; value = y .value; stamp = y .stamp })) none ≡ some l
+        → (z : Copy) × (some y ≡ some z) × (z .stamp ≡ l .stamp)
+    go true e = (y, refl, ap (λ (m : Option Line). stampIn m) e)
+      where
+        stampIn : Option Line → ℕ
+        stampIn none = 0
+        stampIn (some m) = m .stamp
+    go false e = absurd (let z : _≡_ {A = ℕ} 0 1 = cc in omega arith)
+
+-- "s" is the state whose page the bytes were, "t" the state now.
+module _ (p : Plan) (s t : State) (sample a : ℕ) (h : sample ≤ lastSample) (g : a < analytes) (before : Bounded p s) (now : Bounded p t) where
+  -- The line's current copy is a result entered since.
+  pub stale-by-result : (x : Copy) → current p t (keyFor sample a) ≡ some x → x .kind ≡ RESULT → s .clock ≤ x .stamp
+      → (rest : List ℕ) → begins (pageOf p s sample ++ rest) (pageOf p t sample) ≡ false
+  stale-by-result x e r late rest =
+      ⊎-elim (λ (b : begins (pageOf p s sample ++ rest) (pageOf p t sample) ≡ true).
+      let lines = same-line p s t sample (same-lines p s t sample h before now rest b) a g in
+      let w = shown-stamp a (current p s (keyFor sample a)) _ (lines ∙ ap (lineOf a) e ∙ shows-result a x r) in
+      absurd (omega (arith, w .2, before .stamps (keyFor sample a) (w .0) (w .1))))
+      (λ (b : begins (pageOf p s sample ++ rest) (pageOf p t sample) ≡ false). b)
+      (bool? (begins (pageOf p s sample ++ rest) (pageOf p t sample)))
+
+  -- The line was shown, and its current copy is withdrawn.
+  pub stale-by-withdrawal : (x y : Copy) → current p t (keyFor sample a) ≡ some x → x .kind ≡ WITHDRAWN
+      → current p s (keyFor sample a) ≡ some y → y .kind ≡ RESULT
+      → (rest : List ℕ) → begins (pageOf p s sample ++ rest) (pageOf p t sample) ≡ false
+  stale-by-withdrawal x y e w d r rest =
+      ⊎-elim (λ (b : begins (pageOf p s sample ++ rest) (pageOf p t sample) ≡ true).
+      let lines = same-line p s t sample (same-lines p s t sample h before now rest b) a g in
+      let n : some (record { analyte = a; value = y .value; stamp = y .stamp }) ≡ none =
+      sym (ap (lineOf a) d ∙ shows-result a y r) ∙ lines ∙ ap (lineOf a) e ∙ hides-withdrawn a x w
+      in
+      absurd (let z : _≡_ {A = ℕ} 0 1 = cc in omega arith))
+      (λ (b : begins (pageOf p s sample ++ rest) (pageOf p t sample) ≡ false). b)
+      (bool? (begins (pageOf p s sample ++ rest) (pageOf p t sample)))
+
+-- Where every line's current result is the same, every page is.
+module _ (p : Plan) (s t : State) (same : (k : ℕ) → current p t k ≡ current p s k) (sample : ℕ) where
+  same-lines-from : (b n : ℕ) → linesFrom p t sample b n ≡ linesFrom p s sample b n
+  unfolding linesFrom
+  same-lines-from b zero = refl
+  same-lines-from b (suc n) = rw (same (keyFor sample b), same-lines-from (suc b) n)
+
+  pub same-page : pageOf p t sample ≡ pageOf p s sample
+  same-page = ap (pageBytes sample) (same-lines-from 0 analytes)
+
+-- What serve hands back is the sample's page as the store is now, in the kept page's own bytes, or the whole notice.
+pub serves-kept : (z : Store) (sample : ℕ) (kept notice : RefT (List ℕ)) → fresh? z sample (kept .now) ≡ true
+    → served z sample kept notice ≡ (kept .ptr, pageNow z sample)
+unfolding served fresh?
+serves-kept z sample kept notice t =
+    let b : begins (kept .now) (pageNow z sample) ≡ true =
+    and-right (goodStore z && leb sample lastSample) (begins (kept .now) (pageNow z sample)) t
+    in
+    let w = begins-rest (kept .now) (pageNow z sample) b in
+    rw t
+    (ap (λ (l : List ℕ). (kept .ptr, l))
+    (ap (λ (l : List ℕ). take (length (pageNow z sample)) l) (w .1) ∙ take-append-seam (pageNow z sample) (w .0)))
+
+pub serves-notice : (z : Store) (sample : ℕ) (kept notice : RefT (List ℕ)) → fresh? z sample (kept .now) ≡ false
+    → served z sample kept notice ≡ (notice .ptr, notice .now)
+unfolding served
+serves-notice z sample kept notice f = rw f

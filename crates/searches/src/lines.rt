@@ -1,0 +1,50 @@
+// A look down one line's path, on lent columns.
+ghost use mathlib.Core.Path.{_≡_};
+ghost use Rattle.store.specs.Workers.{holding};
+ghost use Rattle.searches.specs.Workers.{Lookable, seenIn};
+use plan::Hop;
+use store::Found;
+use store::Store;
+use store::columns;
+
+// What a look saw: the line's first copy on its path, or nothing, and the nodes visited.
+pub struct Seen {
+    pub found: Found,
+    pub visits: u32,
+}
+
+// "A whole search at once": node by node, until one has a copy of the key, a withdrawn one included, or the path ends.
+pub fn look_down<'a>(
+    plan: u32,
+    counts: &'a [u32; Store::NODES],
+    keys: &'a [u32; Store::PLACES],
+    kinds: &'a [u32; Store::PLACES],
+    values: &'a [u32; Store::PLACES],
+    stamps: &'a [u32; Store::PLACES],
+    key: u32,
+) -> Seen
+    requires { ⌜ Lookable plan (now counts) (now keys) ⌝ }
+    ensures { λ r. ⌜ r ≡ seenIn (holding plan 0 (now (counts .entry)) (now (keys .entry)) (now (kinds .entry)) (now (values .entry)) (now (stamps .entry))) key ⌝ }
+{
+    let mut node = 0;
+    let mut visits = 0;
+    let copy = loop {
+        visits += 1;
+        let Found::Held(copy) = columns::look_at(counts, keys, kinds, values, stamps, node, key)
+        else {
+            let Hop::To(to) = plan::next(plan, node, key) else {
+                return Seen {
+                    found: Found::Nothing,
+                    visits: visits,
+                };
+            };
+            node = to;
+            continue;
+        };
+        break copy;
+    };
+    Seen {
+        found: Found::Held(copy),
+        visits: visits,
+    }
+}
