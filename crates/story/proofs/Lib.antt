@@ -1,3 +1,4 @@
 pub mod Follows
 pub mod Histories
 pub mod CarryBound
+pub mod Recalls
