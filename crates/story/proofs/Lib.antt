@@ -2,3 +2,4 @@ pub mod Follows
 pub mod Histories
 pub mod CarryBound
 pub mod Recalls
+pub mod Uniqueness
