@@ -26,7 +26,7 @@ use Rattle.store.proofs.Opening.{length-opened, opened-before, opened-here, ope
 use Rattle.rules.specs.Workers.{firsts, Sorted}
 
 -- A test that cannot hold fails.
-refuted : (b : Bool) → (b ≡ true → ⊥) → b ≡ false
+pub refuted : (b : Bool) → (b ≡ true → ⊥) → b ≡ false
 refuted b h = ⊎-elim (λ (t : b ≡ true). absurd (h t)) (λ (f : b ≡ false). f) (bool? b)
 
 -- Numbers that rise are different.

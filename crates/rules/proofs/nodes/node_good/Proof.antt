@@ -64,7 +64,7 @@ used-good-requires c κs =
     let n = a .node in
     let cap = c .before .capacity .ensures in
     let fits = capacity-fits (planOf (a .plan)) (number-rules (a .plan) (s .pre .1)) n in
-    (omega arith, refl, s .pre .1, s .pre .3)
+    (omega arith, refl, s .pre .1, s .pre .2, s .pre .4)
 
 -- src/nodes.rt:227:9
 returns-2 : tie.Need-returns-2
@@ -88,7 +88,7 @@ unused-good-requires c κs =
     let n = a .node in
     let cap = c .before .before .before .capacity .ensures in
     let fits = capacity-fits (planOf (a .plan)) (number-rules (a .plan) (s .pre .1)) n in
-    let size = s .pre .2 in
+    let size = s .pre .3 in
     (omega arith, omega arith, size .keys-512, size .kinds-512, size .values-512, size .stamps-512)
 
 -- src/nodes.rt:206:1

@@ -17,11 +17,11 @@ use Rattle.rules.proofs.nodes.nodes_good.Lts as lts
 use Rattle.rules.proofs.nodes.node_good.Reads as node-good-reads
 
 abbrev Inv-loop : tie.InvT-loop
-Inv-loop plan clock counts keys kinds values stamps node₀ node =
+Inv-loop plan clock edges lows highs targets counts keys kinds values stamps node₀ node =
     (node ≤ mostNodes) × (allFrom node (mostNodes - node) (nodeGood (holding plan clock counts keys kinds values stamps)) ≡ true)
 
 abbrev μ-loop : tie.MeasureT-loop
-μ-loop plan clock counts keys kinds values stamps node₀ node = node
+μ-loop plan clock edges lows highs targets counts keys kinds values stamps node₀ node = node
 
 -- The store of the columns lent.
 abbrev lent : tie.Start Inv-loop μ-loop → Store
@@ -44,7 +44,7 @@ node-good-requires : tie.Need-node-good-requires Inv-loop μ-loop
 node-good-requires c κs =
     let l = c .before in
     let s = l .before in
-    (omega arith, s .pre .0, s .pre .1, λ m h g. nodes-ordered (lent s) (s .pre .0) (l .loop .node) (omega arith) (l .loop .inv .1) m (omega arith) g)
+    (omega arith, s .pre .0, s .pre .1, s .pre .2, λ m h g. nodes-ordered (lent s) (s .pre .0) (l .loop .node) (omega arith) (l .loop .inv .1) m (omega arith) g)
 
 -- src/nodes.rt:249:13
 returns : tie.Need-returns Inv-loop μ-loop
@@ -63,9 +63,10 @@ loop-again : tie.Need-loop-again Inv-loop μ-loop
 loop-again c =
     let l = c .before .before .before in
     let s = l .before in
-    let node = c .before .node-good in
-    (omega arith,
-    all-down (nodeGood (lent s)) (l .loop .node) mostNodes (omega arith) (omega arith) (sym (node .ensures) ∙ not-false (node .result) (c .if1 .left)) (l .loop .inv .1))
+    let node = c .before .node-good in (
+      omega arith,
+      all-down (nodeGood (lent s)) (l .loop .node) mostNodes (omega arith) (omega arith) (sym (node .ensures) ∙ not-false (node .result) (c .if1 .left)) (l .loop .inv .1),
+    )
 
 -- src/nodes.rt:233:1
 returns-2 : tie.Need-returns-2 Inv-loop μ-loop

@@ -14,11 +14,11 @@ use Rattle.rules.proofs.nodes.used_good.Lts as lts
 use Rattle.rules.proofs.nodes.place_good.Reads as place-good-reads
 
 abbrev Inv-loop : tie.InvT-loop
-Inv-loop plan clock counts keys kinds values stamps node from end i₀ i =
+Inv-loop plan clock edges lows highs targets counts keys kinds values stamps node from end i₀ i =
     (from ≤ i) × (allFrom from (end - from) (placeGood (holding plan clock counts keys kinds values stamps) node) ≡ allFrom i (end - i) (placeGood (holding plan clock counts keys kinds values stamps) node))
 
 abbrev μ-loop : tie.MeasureT-loop
-μ-loop plan clock counts keys kinds values stamps node from end i₀ i = end - i
+μ-loop plan clock edges lows highs targets counts keys kinds values stamps node from end i₀ i = end - i
 
 -- The store of the columns lent.
 abbrev lent : tie.Start Inv-loop μ-loop → Store

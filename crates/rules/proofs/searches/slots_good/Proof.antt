@@ -23,11 +23,11 @@ abbrev eachSlot : ℕ → List Slot → ℕ → Bool
 eachSlot plan slots i = slotTest (planOf plan) (getD slots i idle)
 
 abbrev Inv-loop : tie.InvT-loop
-Inv-loop plan slots i₀ i =
+Inv-loop plan edges lows highs targets slots i₀ i =
     (i ≤ slotCount) × (allBelow slotCount (eachSlot plan slots) ≡ allFrom i (slotCount - i) (eachSlot plan slots))
 
 abbrev μ-loop : tie.MeasureT-loop
-μ-loop plan slots i₀ i = slotCount - i
+μ-loop plan edges lows highs targets slots i₀ i = slotCount - i
 
 -- src/searches.rt:30:5
 loop-holds : tie.Need-loop-holds Inv-loop μ-loop
@@ -49,7 +49,7 @@ slot-good-requires c κs = search needs
 returns : tie.Need-returns Inv-loop μ-loop
 returns c =
     let l = c .before .before .before .before in
-    let f = eachSlot (l .before .args .plan) (l .before .args .t2) in
+    let f = eachSlot (l .before .args .plan) (l .before .args .t6) in
     sym (l .loop .inv .1 ∙ all-stop f (l .loop .i) slotCount (omega arith) (sym (c .before .slot-good .ensures) ∙ not-true (c .before .slot-good .result) (c .if1 .taken)))
 
 -- src/searches.rt:34:9
@@ -64,14 +64,14 @@ loop-less c = search needs
 loop-again : tie.Need-loop-again Inv-loop μ-loop
 loop-again c =
     let l = c .before .before .before .before in
-    let f = eachSlot (l .before .args .plan) (l .before .args .t2) in
+    let f = eachSlot (l .before .args .plan) (l .before .args .t6) in
     (omega arith, l .loop .inv .1 ∙ all-turn f (l .loop .i) slotCount (omega arith) (sym (c .before .slot-good .ensures) ∙ not-false (c .before .slot-good .result) (c .if1 .left)))
 
 -- src/searches.rt:26:1
 returns-2 : tie.Need-returns-2 Inv-loop μ-loop
 returns-2 c =
     let l = c .before in
-    sym (l .loop .inv .1 ∙ all-end (eachSlot (l .before .args .plan) (l .before .args .t2)) (l .loop .i) slotCount (omega arith))
+    sym (l .loop .inv .1 ∙ all-end (eachSlot (l .before .args .plan) (l .before .args .t6)) (l .loop .i) slotCount (omega arith))
 
 pub slots-good-spec : {M : Type 1} → statement M
 slots-good-spec =

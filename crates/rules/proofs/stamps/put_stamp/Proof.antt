@@ -33,9 +33,10 @@ returns : tie.Need-returns
 returns c =
     let s = c .before .before .before .before .before in
     let a = s .args in
-    let seek = c .before .before .before .seek in
-    (sym (ap not (put-there (a .sorted .now) (a .held) (s .pre .2) (a .stamp) (seek .result) (seek .ensures) (c .before .before .if1 .taken) (eqb-true (numberIn (a .sorted .now) (seek .result)) (a .stamp) (c .if2 .taken)))),
-    λ q. absurd (not-both q refl))
+    let seek = c .before .before .before .seek in (
+      sym (ap not (put-there (a .sorted .now) (a .held) (s .pre .2) (a .stamp) (seek .result) (seek .ensures) (c .before .before .if1 .taken) (eqb-true (numberIn (a .sorted .now) (seek .result)) (a .stamp) (c .if2 .taken)))),
+      λ q. absurd (not-both q refl),
+    )
 
 -- src/stamps.rt:27:5
 open-requires : tie.Need-open-requires
@@ -58,9 +59,10 @@ returns-2 c =
     let seek = c .before .before .before .seek in
     let w = place-bounds (a .sorted .now) 0 (a .held) (omega arith) (a .stamp) in
     let e = seek .ensures in
-    let none = put-absent (a .sorted .now) (a .held) (s .pre .2) (a .stamp) (seek .result) e (apart c) in
-    (sym (ap not none),
-    λ q. rw (c .«open» .ensures) (put-sorted (a .sorted .now) (a .held) (a .stamp) (seek .result) (s .pre .1) (s .pre .0) (omega arith) (s .pre .2) e none))
+    let none = put-absent (a .sorted .now) (a .held) (s .pre .2) (a .stamp) (seek .result) e (apart c) in (
+      sym (ap not none),
+      λ q. rw (c .«open» .ensures) (put-sorted (a .sorted .now) (a .held) (a .stamp) (seek .result) (s .pre .1) (s .pre .0) (omega arith) (s .pre .2) e none),
+    )
 
 pub put-stamp-spec : {M : Type 1} → statement M
 put-stamp-spec =

@@ -47,9 +47,10 @@ returns : tie.Need-returns Inv-loop μ-loop
 returns c =
     let l = c .before .before .before .before .before in
     let a = l .before .args in
-    let put = c .before .put-stamp in
-    (sym (took-twice (numberIn (a .stamps .now)) (a .sorted .now) (a .held) (a .end) (l .loop .i) (l .loop .many) (l .loop .sorted) (l .loop .inv .3) (omega arith) (omega arith) (put .result) (put .ensures .0) (not-true (put .result) (c .if1 .taken)) (a .from) (omega arith)),
-    λ q. absurd (not-both q refl))
+    let put = c .before .put-stamp in (
+      sym (took-twice (numberIn (a .stamps .now)) (a .sorted .now) (a .held) (a .end) (l .loop .i) (l .loop .many) (l .loop .sorted) (l .loop .inv .3) (omega arith) (omega arith) (put .result) (put .ensures .0) (not-true (put .result) (c .if1 .taken)) (a .from) (omega arith)),
+      λ q. absurd (not-both q refl),
+    )
 
 -- src/stamps.rt:49:9
 add-many : tie.Need-add-many Inv-loop μ-loop
