@@ -1,16 +1,15 @@
 -- The test of all store rules, way out by way out. Assumes nothing.
 use mathlib.Core.Path.{_≡_, refl, sym, _∙_}
 use mathlib.Core.Bool.{Bool, true, false, and-true, and-false, _&&_}
-use mathlib.Core.List.{List}
 use Prim.Native.Nat.{ℕ, _<_, _≤_}
 use native.Mathlib.Omega.{arith}
-use lib.Dec.{leb, eqb}
+use lib.Dec.{leb}
 use lib.ListN.{length, getD}
 use borrow.Author.Tests.{eq-eqb, le-leb, lt-leb}
-use Rattle.lists.specs.Runs.{allFrom, allBelow}
+use Rattle.lists.specs.Runs.{allBelow}
 use Rattle.lists.proofs.Truths.{not-both, and-left, and-right, and-both}
 use Rattle.plan.specs.Sizes.{mostNodes}
-use Rattle.plan.specs.PlanTable.{planOf, plans}
+use Rattle.plan.specs.PlanTable.{planOf}
 use Rattle.plan.proofs.TableLaws.{plans-three}
 use Rattle.store.specs.declared.Store.{Store}
 use Rattle.store.specs.Copies.{different}

@@ -1,3 +1,4 @@
+-- `rules::good` meets its contract: the test of all store rules, of the store that is lent. Assumes nothing.
 use mathlib.Core.Path.{_≡_, sym, _∙_}
 use native.Mathlib.Omega.{arith}
 use lib.ListN.{length}
@@ -19,10 +20,6 @@ use Rattle.rules.proofs.Judging.{
 use borrow.Author.Needs.{needs}
 use Rattle.rules.proofs.good.Statement.{statement}
 use Rattle.rules.proofs.good.Tie as tie
-use Rattle.rules.proofs.good.Reads as reads
-use Rattle.rules.proofs.good.Lts as lts
-use Rattle.rules.proofs.parts_good.Reads as parts-good-reads
-use Rattle.rules.proofs.stamps.stamps_differ.Reads as stamps-differ-reads
 
 -- The store of what is lent and given.
 abbrev asked : tie.Start → Store
@@ -42,46 +39,38 @@ asked s =
 eight : (s : tie.Start) → length (s .args .slots) ≡ slotCount
 eight s = search needs
 
--- src/lib.rt:58:9
 returns : tie.Need-returns
 returns c = sym (number-fails (asked (c .before)) (number-low (c .before .args .plan) (c .if1 .taken)))
 
--- src/lib.rt:60:9
 cast-if2 : tie.Need-cast-if2
 cast-if2 c = search needs
 
--- src/lib.rt:61:9
 returns-2 : tie.Need-returns-2
 returns-2 c =
     let s = c .before .before in
     sym (number-fails (asked s) (number-high (s .args .plan) (c .if2 .taken)))
 
--- src/lib.rt:64:9
 returns-3 : tie.Need-returns-3
 returns-3 c =
     let s = c .before .before .before in
     sym (clock-fails (asked s) (clock-low (s .args .clock) (c .if3 .taken)))
 
--- src/lib.rt:66:9
 parts-good-requires : tie.Need-parts-good-requires
 parts-good-requires c κs =
     let s = c .before .before .before in
     (number-in (s .args .plan) (omega arith) (omega arith), s .pre)
 
--- src/lib.rt:67:9
 returns-4 : tie.Need-returns-4
 returns-4 c =
     let parts = c .before .parts-good in
     sym (parts-fail (asked (c .before .before .before .before .before)) (sym (parts .ensures) ∙ not-true (parts .result) (c .if4 .taken)))
 
--- src/lib.rt:69:5
 stamps-differ-requires : tie.Need-stamps-differ-requires
 stamps-differ-requires c κs =
     let s = c .before .before .before .before .before in
     let parts = c .before .parts-good in
     parts-fit (asked s) (number-in (s .args .plan) (omega arith) (omega arith)) (sym (parts .ensures) ∙ not-false (parts .result) (c .if4 .left))
 
--- src/lib.rt:44:1
 returns-5 : tie.Need-returns-5
 returns-5 c =
     let s = c .before .before .before .before .before .before in

@@ -1,3 +1,4 @@
+-- `rules::parts_good` meets its contract. Assumes nothing.
 use mathlib.Core.Path.{sym, _∙_}
 use borrow.Author.Tests.{not-true, not-false}
 use Rattle.store.specs.declared.Store.{Store}
@@ -5,14 +6,6 @@ use Rattle.rules.proofs.Judging.{slots-fail, nodes-decide}
 use borrow.Author.Needs.{needs}
 use Rattle.rules.proofs.parts_good.Statement.{statement}
 use Rattle.rules.proofs.parts_good.Tie as tie
-use Rattle.rules.proofs.parts_good.Reads as reads
-use Rattle.rules.proofs.parts_good.Lts as lts
-use Rattle.plan.proofs.edge_counts_of.Reads as edge-counts-of-reads
-use Rattle.plan.proofs.highest_of.Reads as highest-of-reads
-use Rattle.plan.proofs.lowest_of.Reads as lowest-of-reads
-use Rattle.plan.proofs.targets_of.Reads as targets-of-reads
-use Rattle.rules.proofs.nodes.nodes_good.Reads as nodes-good-reads
-use Rattle.rules.proofs.searches.slots_good.Reads as slots-good-reads
 
 -- The store of what is lent and given.
 abbrev asked : tie.Start → Store
@@ -29,37 +22,29 @@ asked s =
       slots = a .slots;
     }
 
--- src/lib.rt:33:17
 edge-counts-of-requires : tie.Need-edge-counts-of-requires
 edge-counts-of-requires c κs = search needs
 
--- src/lib.rt:34:16
 lowest-of-requires : tie.Need-lowest-of-requires
 lowest-of-requires c κs = search needs
 
--- src/lib.rt:35:17
 highest-of-requires : tie.Need-highest-of-requires
 highest-of-requires c κs = search needs
 
--- src/lib.rt:36:19
 targets-of-requires : tie.Need-targets-of-requires
 targets-of-requires c κs = search needs
 
--- src/lib.rt:37:9
 slots-good-requires : tie.Need-slots-good-requires
 slots-good-requires c κs = search needs
 
--- src/lib.rt:38:9
 returns : tie.Need-returns
 returns c =
     let slots = c .before .slots-good in
     slots-fail (asked (c .before .before .before .before .before .before .before .before .before .before)) (sym (slots .ensures) ∙ not-true (slots .result) (c .if1 .taken))
 
--- src/lib.rt:40:5
 nodes-good-requires : tie.Need-nodes-good-requires
 nodes-good-requires c κs = search needs
 
--- src/lib.rt:20:1
 returns-2 : tie.Need-returns-2
 returns-2 c =
     let slots = c .before .before .before .before .before .before .slots-good in

@@ -1,3 +1,4 @@
+-- `rules::nodes::place_good` meets its contract. Assumes nothing.
 use mathlib.Core.Path.{sym, _∙_}
 use borrow.Author.Tests.{not-true, not-false}
 use Rattle.store.specs.declared.Store.{Store}
@@ -6,63 +7,47 @@ use Rattle.rules.proofs.Copying.{place-order, place-copy}
 use borrow.Author.Needs.{needs}
 use Rattle.rules.proofs.nodes.place_good.Statement.{statement}
 use Rattle.rules.proofs.nodes.place_good.Tie as tie
-use Rattle.rules.proofs.nodes.place_good.Reads as reads
-use Rattle.rules.proofs.nodes.place_good.Lts as lts
-use Rattle.rules.proofs.nodes.copy_good.Reads as copy-good-reads
-use Rattle.rules.proofs.nodes.key_rises.Reads as key-rises-reads
 
 -- The store of the columns lent.
 abbrev lent : tie.Start → Store
 lent s = let a = s .args in holding (a .plan) (a .clock) (a .counts .now) (a .keys .now) (a .kinds .now) (a .values .now) (a .stamps .now)
 
--- src/nodes.rt:170:9
 key-rises-requires : tie.Need-key-rises-requires
 key-rises-requires c κs = search needs
 
--- src/nodes.rt:171:9
 returns : tie.Need-returns
 returns c =
     let s = c .before .before in
     let rises = c .before .key-rises in
     sym (place-order (lent s) (s .args .node) (s .args .i) (s .args .end) (s .pre .2) (sym (rises .ensures) ∙ not-true (rises .result) (c .if1 .taken)))
 
--- src/nodes.rt:173:15
 mul-key : tie.Need-mul-key
 mul-key c = search needs
 
--- src/nodes.rt:173:15
 element-copy-out-key : tie.Need-element-copy-out-key
 element-copy-out-key c = search needs
 
--- src/nodes.rt:174:16
 mul-kind : tie.Need-mul-kind
 mul-kind c = search needs
 
--- src/nodes.rt:174:16
 element-copy-out-kind : tie.Need-element-copy-out-kind
 element-copy-out-kind c = search needs
 
--- src/nodes.rt:175:17
 mul-value : tie.Need-mul-value
 mul-value c = search needs
 
--- src/nodes.rt:175:17
 element-copy-out-value : tie.Need-element-copy-out-value
 element-copy-out-value c = search needs
 
--- src/nodes.rt:176:17
 mul-stamp : tie.Need-mul-stamp
 mul-stamp c = search needs
 
--- src/nodes.rt:176:17
 element-copy-out-stamp : tie.Need-element-copy-out-stamp
 element-copy-out-stamp c = search needs
 
--- src/nodes.rt:183:5
 copy-good-requires : tie.Need-copy-good-requires
 copy-good-requires c κs = search needs
 
--- src/nodes.rt:151:1
 returns-2 : tie.Need-returns-2
 returns-2 c =
     let s = c .before .before .before .before .before .before .before in
