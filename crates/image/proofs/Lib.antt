@@ -6,3 +6,4 @@ pub mod RoundTrips
 pub mod ReadWays
 pub mod NodeWays
 pub mod HeadWays
+pub mod ImageLengths
