@@ -2,7 +2,7 @@
 use mathlib.Core.Path.{_≡_, refl, sym, ap, _∙_}
 use mathlib.Core.Bool.{Bool, true, false}
 use mathlib.Core.Logic.{⊎-elim}
-use mathlib.Core.List.{List, [], _∷_, map}
+use mathlib.Core.List.{List, [], _∷_, _++_, map}
 use Prim.Native.Nat.{ℕ, zero, suc, _+_, _-_, _<_, _≤_}
 use native.Mathlib.Omega.{arith}
 use native.Mathlib.Nat.{add-suc, suc-add, add-zero, zero-add, le-of-suc-le-suc, not-suc-le-zero}
@@ -46,6 +46,14 @@ pub map-run : {A B : Type 0} (g : A → B) (f : ℕ → A) (i n : ℕ) → map g
 unfolding run
 map-run g f i zero = refl
 map-run {B = B} g f i (suc n) = ap (λ (l : List B). g (f i) ∷ l) (map-run g f (suc i) n)
+
+-- A run can be cut in two.
+pub run-split : {A : Type 0} (f : ℕ → A) (i n m : ℕ) → run i (n + m) f ≡ run i n f ++ run (i + n) m f
+unfolding run
+run-split f i zero m = rw (zero-add, add-zero)
+run-split {A} f i (suc n) m =
+    let s : suc i + n ≡ i + suc n = omega arith in
+    rw (suc-add, ← s) (ap (λ (l : List A). f i ∷ l) (run-split f (suc i) n m))
 
 -- A test at each of the n numbers from i on holds exactly when it holds at each of them.
 pub all-at : (f : ℕ → Bool) (i n : ℕ) → allFrom i n f ≡ true → (j : ℕ) → i ≤ j → j < i + n → f j ≡ true
