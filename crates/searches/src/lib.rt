@@ -5,7 +5,7 @@ ghost use mathlib.Core.Option.{none, some};
 ghost use Prim.Native.Nat.{_<_};
 ghost use Rattle.store.specs.State.{slotCount, idle};
 ghost use Rattle.store.specs.StoreRules.{goodStore};
-ghost use Rattle.steps.specs.Searches.{ended};
+ghost use Rattle.steps.specs.Searches.{running, ended};
 ghost use Rattle.steps.specs.Promises.{Starts, Steps, Cancels, Looks};
 ghost use Rattle.searches.specs.Workers.{slotted, Runs};
 use plan::Hop;
@@ -26,6 +26,18 @@ fn with_slot(mut store: Store, i: usize, slot: Slot) -> Store
 {
     store.slots[i] = slot;
     store
+}
+
+// A running search: its key, the node that it stands at, and the nodes visited.
+fn search_at(key: u32, node: u32, visits: u32) -> Slot
+    ensures { λ r. ⌜ r ≡ running key node visits ⌝ }
+{
+    Slot {
+        running: 1,
+        key: key,
+        node: node,
+        visits: visits,
+    }
 }
 
 // "Ending makes the slot idle."
@@ -67,25 +79,19 @@ fn good_start(store: Store, key: u32) -> Outcome
     requires { ⌜ goodStore store ≡ true ⌝ }
     ensures { λ r. ⌜ Starts store key r ⌝ }
 {
-    let mut i = 0;
+    let mut n = 0;
     let slot = loop {
-        if Store::SLOTS <= i {
+        if Store::SLOTS <= n {
             return Outcome::refused(Answer::SLOTS, store);
         }
-        if store.slots[i].running == 0 {
-            break i;
+        if store.slots[n].running == 0 {
+            break n;
         }
-        i += 1;
-    };
-    let search = Slot {
-        running: 1,
-        key: key,
-        node: 0,
-        visits: 0,
+        n += 1;
     };
     Outcome {
         answer: Answer::of(Answer::DONE, slot as u64, 0, 0, 0),
-        store: with_slot(store, slot, search),
+        store: with_slot(store, slot, search_at(key, 0, 0)),
     }
 }
 
@@ -111,12 +117,7 @@ fn visit(store: Store, i: usize) -> Outcome
                 store: freed(store, i),
             };
         };
-        let further = Slot {
-            running: 1,
-            key: search.key,
-            node: to,
-            visits: visits,
-        };
+        let further = search_at(search.key, to, visits);
         return Outcome {
             answer: Answer::of(Answer::GOING, to as u64, visits as u64, 0, 0),
             store: with_slot(store, i, further),
@@ -148,16 +149,16 @@ fn good_cancel(store: Store, slot: u32) -> Outcome
     requires { ⌜ goodStore store ≡ true ⌝ }
     ensures { λ r. ⌜ Cancels store slot r ⌝ }
 {
-    let i = slot as usize;
-    if Store::SLOTS <= i {
+    let at = slot as usize;
+    if Store::SLOTS <= at {
         return Outcome::refused(Answer::SLOT, store);
     }
-    if store.slots[i].running == 0 {
+    if store.slots[at].running == 0 {
         return Outcome::refused(Answer::IDLE, store);
     }
     Outcome {
         answer: Answer::bare(Answer::DONE),
-        store: freed(store, i),
+        store: freed(store, at),
     }
 }
 
@@ -181,4 +182,44 @@ fn good_look(store: Store, key: u32) -> Answer
         return never(visits);
     };
     held(copy, visits)
+}
+
+// Start a search for a key: its slot. BADSTORE, or SLOTS where all run.
+pub fn start(store: Store, key: u32) -> Outcome
+    ensures { λ r. ⌜ Starts store key r ⌝ }
+{
+    if !rules::good_store(store) {
+        return Outcome::refused(Answer::BADSTORE, store);
+    }
+    good_start(store, key)
+}
+
+// One step of the search in a slot: its end, or GOING. BADSTORE, SLOT, or IDLE where none runs.
+pub fn step(store: Store, slot: u32) -> Outcome
+    ensures { λ r. ⌜ Steps store slot r ⌝ }
+{
+    if !rules::good_store(store) {
+        return Outcome::refused(Answer::BADSTORE, store);
+    }
+    good_step(store, slot)
+}
+
+// End the search in a slot without a result. BADSTORE, SLOT, or IDLE where none runs.
+pub fn cancel(store: Store, slot: u32) -> Outcome
+    ensures { λ r. ⌜ Cancels store slot r ⌝ }
+{
+    if !rules::good_store(store) {
+        return Outcome::refused(Answer::BADSTORE, store);
+    }
+    good_cancel(store, slot)
+}
+
+// A whole search at once, no slot used. BADSTORE, or its end.
+pub fn look(store: Store, key: u32) -> Answer
+    ensures { λ r. ⌜ Looks store key r ⌝ }
+{
+    if !rules::good_store(store) {
+        return Answer::bare(Answer::BADSTORE);
+    }
+    good_look(store, key)
 }

@@ -1,13 +1,15 @@
 -- `searches::visit` meets its contract. Assumes nothing.
-use mathlib.Core.Path.{_≡_, sym, _∙_}
+use mathlib.Core.Path.{_≡_, sym, ap, _∙_}
 use mathlib.Core.Option.{none, some}
 use Prim.Native.Nat.{_+_, _<_}
 use native.Mathlib.Omega.{arith}
 use Rattle.plan.specs.Sizes.{mostNodes}
+use Rattle.store.specs.declared.Slot.{Slot}
 use Rattle.store.specs.Answers.{GOING, answer}
 use Rattle.store.specs.State.{idle}
 use Rattle.store.proofs.Lifting.{plan-good, good-ordered}
 use Rattle.steps.specs.Searches.{running, ended, stepStep}
+use Rattle.searches.specs.Workers.{slotted}
 use Rattle.searches.proofs.Slotting.{slotIn, writes, in-plan, few-visits, step-held, step-never, step-goes}
 use borrow.Author.Needs.{needs}
 use Rattle.searches.proofs.visit.Statement.{statement}
@@ -63,6 +65,9 @@ returns c =
     let v = slotIn z i .visits + 1 in
     writes z (s .pre .good) (stepStep i) i idle (ended none v) (step-never z i (s .pre) v (omega arith) (sym (l .look-at .ensures) ∙ n .before .enum-told .given .1) (sym (n .next .ensures) ∙ c .before .before .enum-told2 .given .1)) (c .before .never .result) (c .freed .result) (c .before .never .ensures) (c .freed .ensures)
 
+search-at-requires : tie.Need-search-at-requires
+search-at-requires c κs = search needs
+
 cast-of : tie.Need-cast-of
 cast-of c = search needs
 
@@ -77,14 +82,15 @@ with-slot-requires c κs = search needs
 
 returns-2 : tie.Need-returns-2
 returns-2 c =
-    let n = c .before .before .before .before .before in
+    let n = c .before .before .before .before .before .before in
     let l = n .before .before .before in
     let s = l .before .before .before .before .before .before .before .before .before in
     let z = s .args .t1 in
     let i = s .args .i in
     let v = slotIn z i .visits + 1 in
-    let to = c .before .before .before .to .given in
-    writes z (s .pre .good) (stepStep i) i (running (slotIn z i .key) (to .0 .0) v) (answer GOING (to .0 .0) v 0 0) (step-goes z i (s .pre) (to .0 .0) v (omega arith) (sym (l .look-at .ensures) ∙ n .before .enum-told .given .1) (sym (n .next .ensures) ∙ to .1)) (c .before .of .result) (c .with-slot .result) (c .before .of .ensures) (c .with-slot .ensures)
+    let to = c .before .before .before .before .to .given in
+    let there = c .with-slot .ensures ∙ ap (λ (q : Slot). slotted i q z) (c .before .before .search-at .ensures) in
+    writes z (s .pre .good) (stepStep i) i (running (slotIn z i .key) (to .0 .0) v) (answer GOING (to .0 .0) v 0 0) (step-goes z i (s .pre) (to .0 .0) v (omega arith) (sym (l .look-at .ensures) ∙ n .before .enum-told .given .1) (sym (n .next .ensures) ∙ to .1)) (c .before .of .result) (c .with-slot .result) (c .before .of .ensures) there
 
 held-requires : tie.Need-held-requires
 held-requires c κs = search needs
@@ -118,6 +124,7 @@ visit-spec =
     never-requires
     freed-requires
     returns
+    search-at-requires
     cast-of
     cast-of-2
     of-requires
