@@ -6,17 +6,18 @@ use Prim.Native.Nat.{ℕ, _+_, _-_, _*_, _<_, _≤_}
 use native.Mathlib.Omega.{arith}
 use lib.ListN.{length, getD, set, take, replicate, length-map, length-set}
 use lib.Seq.{sets, set-comm, length-take-le, getD-set-other}
+use borrow.Author.Tests.{lt-ltb, le-ltb}
 use Rattle.lists.specs.Runs.{run}
 use Rattle.lists.proofs.Running.{map-run}
 use Rattle.plan.specs.declared.Edge.{Edge}
 use Rattle.plan.specs.Sizes.{mostNodes}
-use Rattle.plan.specs.Plan.{Plan, size, capacityOf, edgeOf}
+use Rattle.plan.specs.Plan.{Plan, size, capacityOf, edgesOf, edgeOf}
 use Rattle.plan.specs.PlanRules.{PlanRules, IsEdge}
 use Rattle.plan.specs.PlanTable.{planOf}
 use Rattle.store.specs.declared.Answer.{Answer}
 use Rattle.store.specs.declared.Copy.{Copy}
 use Rattle.store.specs.declared.Store.{Store}
-use Rattle.store.specs.Answers.{DONE, answer}
+use Rattle.store.specs.Answers.{DONE, NODE, EDGE, answer, bare}
 use Rattle.store.specs.Copies.{noCopy, keyOf}
 use Rattle.store.specs.State.{State, nodeAt}
 use Rattle.store.specs.StateRules.{StateRules}
@@ -25,7 +26,7 @@ use Rattle.store.specs.StoreRules.{goodStore}
 use Rattle.store.specs.Calls.{onStore}
 use Rattle.store.specs.Workers.{numberIn, itself}
 use Rattle.store.proofs.Laying.{OneNode, set-one, node-laid, node-grown, counts-written, store-is, state-node, state-count, length-nodes, state-clock, state-slots}
-use Rattle.store.proofs.Lifting.{plan-good, state-good, good-back, on-way}
+use Rattle.store.proofs.Lifting.{plan-good, state-good, good-back, on-way, on-refusal}
 use Rattle.store.proofs.GoodNodes.{count-fits, node-rises}
 use Rattle.steps.specs.Carries.{Merged, merge, countHeld, mergeAlong, carriedTo, carriedOut, carryStep}
 use Rattle.steps.proofs.Merges.{merging, stay-short, target-long}
@@ -58,11 +59,11 @@ module _ (ns : List (List Copy)) (n t : ℕ) (xs ys : List Copy) (n-there : n < 
   second : OneNode n xs (set ns t ys) (set (set ns n xs) t ys)
   second = rw (set-comm ns n t xs ys apart) (set-one (set ns t ys) n xs (rw length-set n-there))
 
-  column-written : (part : Copy → ℕ) (k : ℕ) → n < mostNodes → t < mostNodes → length (getD ns n []) ≤ length xs + k → length xs + k ≤ width
+  column-written : (part : Copy → ℕ) → part noCopy ≡ 0 → (k : ℕ) → n < mostNodes → t < mostNodes → length (getD ns n []) ≤ length xs + k → length xs + k ≤ width
       → length (getD ns t []) ≤ length ys → length ys ≤ width
-      → sets (sets (column part ns) (width * t) (map part ys)) (width * n) (map part xs ++ replicate k (part noCopy)) ≡ column part (set (set ns n xs) t ys)
-  column-written part k few fewer over fits grows room =
-      ap (λ (c : List ℕ). sets c (width * n) (map part xs ++ replicate k (part noCopy))) (node-grown first part fewer grows room)
+      → sets (sets (column part ns) (width * t) (map part ys)) (width * n) (map part xs ++ replicate k 0) ≡ column part (set (set ns n xs) t ys)
+  column-written part zero k few fewer over fits grows room =
+      ap₂ (λ (c : List ℕ) (x : ℕ). sets c (width * n) (map part xs ++ replicate k x)) (node-grown first part fewer grows room) (sym zero)
       ∙ node-laid second part k few (rw (getD-set-other ns t n ys [] apart) over) fits
 
   both-counts : run 0 mostNodes (λ m. length (getD (set (set ns n xs) t ys) m []))
@@ -70,6 +71,13 @@ module _ (ns : List (List Copy)) (n t : ℕ) (xs ys : List Copy) (n-there : n < 
   both-counts =
       counts-written (set-one (set ns n xs) t ys (rw length-set t-there))
       ∙ ap (λ (l : List ℕ). set l t (length ys)) (counts-written (set-one ns n xs n-there))
+
+-- What a carry comes to, by the counts before and after it.
+out-is : (n : ℕ) (e : Edge) (m : Merged Copy) (s : State) (had held kept got left : ℕ) → length (nodeAt s n) ≡ had
+    → length (nodeAt s (e .target)) ≡ held → length (m .stay) ≡ kept → length (m .target) ≡ got → countHeld keyOf e (m .stay) ≡ left
+    → carriedOut n e m s ≡ record { answer = answer DONE (had - kept) (had - kept - (got - held)) left 0; after = carriedTo n (e .target) m s }
+unfolding carriedOut
+out-is n e m s had held kept got left a b c f g = rw (a, b, c, f, g)
 
 -- The edge i of node n of a good store's plan.
 module _ (z : Store) (good : goodStore z ≡ true) (n i : ℕ) (d : IsEdge (planOf (z .plan)) n i) (e : Edge) (e-is : e ≡ edgeOf (planOf (z .plan)) n i) where
@@ -143,6 +151,13 @@ module _ (z : Store) (good : goodStore z ≡ true) (n i : ℕ) (d : IsEdge (plan
       got-is =
           sym (length-take-le (m .got) target (omega (arith, decided .gets .long, decided .gets .counted))) ∙ ap length (decided .gets .listed)
 
+      -- The counts are the lengths of the lists.
+      pub kept-listed : m .kept ≡ length (take (m .kept) stay)
+      kept-listed = kept-is ∙ ap length (sym (decided .stays .listed))
+
+      pub got-listed : m .got ≡ length (take (m .got) target)
+      got-listed = got-is ∙ ap length (sym (decided .gets .listed))
+
       -- The node's count falls, the target's rises, by no more.
       pub counts-go : (m .kept ≤ countOf z n) × (countOf z t ≤ m .got) × (m .got - countOf z t ≤ countOf z n - m .kept)
       counts-go =
@@ -167,3 +182,113 @@ module _ (z : Store) (good : goodStore z ≡ true) (n i : ℕ) (d : IsEdge (plan
 
       pub stays-within : Within (take (m .kept) stay) places
       stays-within j h = omega (arith, column-movable .low j h, target-few)
+
+      -- The copies that then stay, and those that the target has.
+      abbrev xs : List Copy
+      xs = map (copyOf z) (places-merged .stay)
+
+      abbrev ys : List Copy
+      ys = map (copyOf z) (places-merged .target)
+
+      stay-count : length xs ≡ m .kept
+      stay-count = length-map (places-merged .stay) (copyOf z) ∙ sym kept-is
+
+      target-count : length ys ≡ m .got
+      target-count = length-map (places-merged .target) (copyOf z) ∙ sym got-is
+
+      node-apart : n ≡ t → ⊥
+      node-apart q = omega (arith, target-below)
+
+      -- One column after the carry.
+      column-after : (part : Copy → ℕ) (c : List ℕ) → part noCopy ≡ 0 → c ≡ column part (s .nodes) → ((j : ℕ) → numberIn c j ≡ part (copyOf z j))
+          → (r : List ℕ) → r ≡ carriedColumn c (take (m .kept) stay) (take (m .got) target) (width * n) (countOf z n) (width * t)
+          → r ≡ column part (set (set (s .nodes) n xs) t ys)
+      unfolding carriedColumn
+      column-after part c zero c-is of r r-is =
+          let go = counts-go in
+          let a = stay-count in
+          let b = target-count in
+          let l = length-nodes z in
+          let there = target-there in
+          let here = node-there in
+          r-is
+          ∙ rw (
+            ← kept-listed,
+            decided .stays .listed,
+            decided .gets .listed,
+            gathered part (copyOf z) c of (places-merged .stay),
+            gathered part (copyOf z) c of (places-merged .target),
+            c-is,
+          )
+          (column-written (s .nodes) n t xs ys (omega arith) (omega arith) node-apart part zero (countOf z n - m .kept) node-few target-few
+          (omega (arith, state-count z n here)) (omega (arith, count-fits z good n node-few)) (omega (arith, state-count z t there))
+          (omega (arith, decided .gets .counted)))
+
+      -- The store after the carry, and its answer.
+      pub carry-is : (a : Answer) (left : ℕ) (keys kinds values stamps : List ℕ)
+          → a ≡ answer DONE (countOf z n - m .kept) (countOf z n - m .kept - (m .got - countOf z t)) left 0
+          → left ≡ countHeld (numberIn (z .keys)) e (take (m .kept) stay)
+          → keys ≡ carriedColumn (z .keys) (take (m .kept) stay) (take (m .got) target) (width * n) (countOf z n) (width * t)
+          → kinds ≡ carriedColumn (z .kinds) (take (m .kept) stay) (take (m .got) target) (width * n) (countOf z n) (width * t)
+          → values ≡ carriedColumn (z .values) (take (m .kept) stay) (take (m .got) target) (width * n) (countOf z n) (width * t)
+          → stamps ≡ carriedColumn (z .stamps) (take (m .kept) stay) (take (m .got) target) (width * n) (countOf z n) (width * t)
+          → record {
+            answer = a;
+            store = record {
+              plan = z .plan;
+              clock = z .clock;
+              counts = set (set (z .counts) n (m .kept)) t (m .got);
+              keys = keys;
+              kinds = kinds;
+              values = values;
+              stamps = stamps;
+              slots = z .slots;
+            };
+          } ≡ onStore (carryStep n i) z
+      unfolding carriedTo storeOf
+      carry-is a left keys kinds values stamps a-is left-is keys-is kinds-is values-is stamps-is =
+          on-way (carryStep n i) z good a (carriedTo n t copies-merged s) _
+          (carry-done p (plan-good z good) s (state-good z good) n i d
+          ∙ ap (λ (f : Edge). carriedOut n f (mergeAlong p n f s) s) (sym e-is)
+          ∙ ap (λ (f : Merged Copy). carriedOut n e f s) copied
+          ∙ out-is n e copies-merged s (countOf z n) (countOf z t) (m .kept) (m .got) left (state-count z n node-there) (state-count z t target-there) stay-count
+          target-count counted
+          ∙ ap (λ (x : Answer). record { answer = x; after = carriedTo n t copies-merged s }) (sym a-is))
+          (store-is (z .plan) (carriedTo n t copies-merged s) _ refl (sym (state-clock z)) counts
+          (column-after (λ (x : Copy). x .key) (z .keys) refl (back (λ (y : Store). y .keys)) (λ j. refl) keys keys-is)
+          (column-after (λ (x : Copy). x .kind) (z .kinds) refl (back (λ (y : Store). y .kinds)) (λ j. refl) kinds kinds-is)
+          (column-after (λ (x : Copy). x .value) (z .values) refl (back (λ (y : Store). y .values)) (λ j. refl) values values-is)
+          (column-after (λ (x : Copy). x .stamp) (z .stamps) refl (back (λ (y : Store). y .stamps)) (λ j. refl) stamps stamps-is)
+          (sym (state-slots z)))
+        where
+          -- What the store has is what the store of its state has.
+          back : (f : Store → List ℕ) → f z ≡ f (storeOf (z .plan) (stateOf z))
+          back f = ap f (sym (good-back z good))
+
+          counted : countHeld keyOf e xs ≡ left
+          counted = count-map keyOf (copyOf z) e (places-merged .stay) ∙ sym (left-is ∙ ap (countHeld (numberIn (z .keys)) e) (decided .stays .listed))
+
+          counts : set (set (z .counts) n (m .kept)) t (m .got) ≡ run 0 mostNodes (λ k. length (getD (set (set (s .nodes) n xs) t ys) k []))
+          counts =
+              let l = length-nodes z in
+              let there = target-there in
+              let here = node-there in
+              ap (λ (l : List ℕ). set (set l n (m .kept)) t (m .got)) (back (λ (y : Store). y .counts))
+              ∙ ap₂ (λ (j k : ℕ). set (set (run 0 mostNodes (λ l. length (nodeAt s l))) n j) t k) (sym stay-count) (sym target-count)
+              ∙ (sym (both-counts (s .nodes) n t xs ys (omega arith) (omega arith) node-apart))
+
+-- The refusals of a carry on a good store.
+module _ (z : Store) (good : goodStore z ≡ true) (n i : ℕ) where
+  -- NODE: "plan has no such node"
+  pub no-node : size (planOf (z .plan)) ≤ n → (a : Answer) → a ≡ bare NODE → record { answer = a; store = z } ≡ onStore (carryStep n i) z
+  unfolding carryStep
+  no-node h a e = rw e (on-refusal (carryStep n i) z good NODE (rw (le-ltb n (size (planOf (z .plan))) h)))
+
+  -- EDGE: "node has no such edge"
+  pub no-edge : n < size (planOf (z .plan)) → length (edgesOf (planOf (z .plan)) n) ≤ i → (a : Answer) → a ≡ bare EDGE
+      → record { answer = a; store = z } ≡ onStore (carryStep n i) z
+  unfolding carryStep
+  no-edge h g a e =
+      rw e
+      (on-refusal (carryStep n i) z good EDGE
+      (rw (lt-ltb n (size (planOf (z .plan))) h, le-ltb i (length (edgesOf (planOf (z .plan)) n)) g)))

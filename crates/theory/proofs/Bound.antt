@@ -1,19 +1,16 @@
 -- Demand 3: how often the copies of a line are carried. A carry takes one off what the line's copies are worth, and an entry adds at most
 -- the edges of the path. Assumes nothing.
-use mathlib.Core.Path.{_≡_, refl, sym, ap, _∙_, subst}
+use mathlib.Core.Path.{_≡_, refl, subst}
 use mathlib.Core.Bool.{Bool, true, false, cond}
-use mathlib.Core.Logic.{_≢_}
 use mathlib.Core.List.{List, [], _∷_, _++_, flatten}
-use mathlib.Core.Option.{Option, none, some}
+use mathlib.Core.Option.{some}
 use Prim.Native.Nat.{ℕ, zero, suc, _+_, _-_, _*_, _<_, _≤_}
 use native.Mathlib.Omega.{arith}
 use native.Mathlib.Nat.{zero-add, suc-add, mul-zero, mul-one, mul-add, le-trans, mul-le-mul-left}
-use native.Mathlib.Decide.{ℕ-discrete}
 use lib.Dec.{eqb}
 use lib.ListN.{length, getD, drop}
-use borrow.Author.Tests.{eq-eqb, ne-eqb}
 use Rattle.plan.specs.declared.Hop.{Hop}
-use Rattle.plan.specs.declared.Hop.the-variants.{To, Ends}
+use Rattle.plan.specs.declared.Hop.the-variants.{To}
 use Rattle.plan.specs.Plan.{Plan, next, path, edgesOn, IsPath, Reach}
 use Rattle.plan.specs.Plan.IsPath.{last, more}
 use Rattle.plan.specs.Plan.Reach.{here, there}
@@ -28,7 +25,7 @@ use Rattle.store.proofs.Lifting.{fresh-rules}
 use Rattle.steps.specs.Carries.{bit}
 use Rattle.steps.proofs.LineSteps.{Line, Entered, Carried, LineStep}
 use Rattle.steps.proofs.LineSteps.LineStep.{same, enters, carries}
-use Rattle.theory.specs.Events.{Event, effect, after, run, entryOf, ofLine, held, copiesOf, heldOf, entries, carriesLine, carried, worthOn, worth}
+use Rattle.theory.specs.Events.{Event, after, run, entryOf, ofLine, held, copiesOf, heldOf, entries, carried, worthOn, worth}
 use Rattle.theory.proofs.EventSteps.{event-keeps, event-line}
 use Rattle.theory.proofs.Invariants.{line-led-to, held-fresh}
 
@@ -172,12 +169,12 @@ module _ (p : Plan) (rules : PlanRules p) (k : ℕ) where
   unfolding carried entries run
   account [] s good = rw mul-zero (omega arith)
   account (e ∷ es) s good =
-      rw (mul-add (edgesOn p k) (bit (ofLine k (entryOf p e s))) (entries p k es (after p e s)))
-      (omega (
+      omega (
         arith,
+        mul-add (edgesOn p k) (bit (ofLine k (entryOf p e s))) (entries p k es (after p e s)),
         pays (λ n. next p n k) down (line-led-to p rules s good k) (event-line p rules s good e k) is-path,
         account es (after p e s) (event-keeps p rules e s good),
-      ))
+      )
 
   -- Demand 3, from any state: carried ≤ edges on the path × entries, each copy of the line that is held at the start counting as one.
   pub bound : (es : List Event) (s : State) → StateRules p s → carried p k es s ≤ edgesOn p k * (heldOf k s + entries p k es s)

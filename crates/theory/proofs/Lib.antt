@@ -6,3 +6,4 @@ pub mod Searching
 pub mod Recency
 pub mod Looks
 pub mod Bound
+pub mod Reached

@@ -1,6 +1,6 @@
 -- A look is a search with nothing in between: its answer is the line's current result, after the visits that the search takes.
 -- Assumes nothing.
-use mathlib.Core.Path.{_≡_, refl, sym, ap, _∙_, subst}
+use mathlib.Core.Path.{_≡_, refl, sym, ap, _∙_}
 use mathlib.Core.Bool.{true, cond}
 use mathlib.Core.Logic.{_≢_, _⊎_, inl, inr}
 use mathlib.Core.List.{List, [], _∷_}
@@ -9,13 +9,11 @@ use Prim.Native.Nat.{ℕ, zero, suc, _+_, _<_, _≤_}
 use native.Mathlib.Omega.{arith}
 use native.Mathlib.Nat.{zero-add, add-suc, suc-add, le-of-suc-le-suc}
 use native.Mathlib.Numerals.{add-one}
-use lib.Dec.{eqb}
 use lib.ListN.{length, getD, replicate}
 use borrow.Author.Tests.{eq-eqb}
 use Rattle.lists.proofs.Truths.{and-both}
 use Rattle.lists.proofs.Options.{option?, not-none-and-some}
-use Rattle.plan.specs.declared.Hop.{Hop}
-use Rattle.plan.specs.declared.Hop.the-variants.{To, Ends}
+use Rattle.plan.specs.declared.Hop.the-variants.{To}
 use Rattle.plan.specs.Plan.{Plan, next, pathFrom, path, IsPath}
 use Rattle.plan.specs.Plan.IsPath.{last, more}
 use Rattle.plan.specs.PlanRules.{PlanRules}
@@ -26,11 +24,10 @@ use Rattle.store.specs.declared.Slot.{Slot}
 use Rattle.store.specs.Answers.{DONE, GOING, answer}
 use Rattle.store.specs.Copies.{keyOf, find, isSome}
 use Rattle.store.specs.State.{State, slotAt, line, orElse, firstOn, inReach, current}
-use Rattle.store.specs.StateRules.{StateRules}
 use Rattle.store.specs.Calls.{Effect}
 use Rattle.steps.specs.Searches.{running, withSlot, ended, visited, stepStep, visitsOn, lookAnswer}
 use Rattle.steps.proofs.LineSteps.{slot-set, start-still}
-use Rattle.theory.specs.Events.{Event, effect, after, answerOf, run, goesOnThrough, goesOn}
+use Rattle.theory.specs.Events.{effect, after, answerOf, run, goesOn}
 use Rattle.theory.specs.Events.Event.{starts, steps}
 use Rattle.theory.proofs.Searching.{own-goes-on, own-visit, started-slot, slot-there}
 

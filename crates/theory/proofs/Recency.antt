@@ -14,13 +14,11 @@ use mathlib.Core.List.{
   List·Memᴰ·append-cases,
 }
 use mathlib.Core.Option.{Option, none, some}
-use Prim.Native.Nat.{ℕ, suc, _+_, _<_, _≤_}
+use Prim.Native.Nat.{ℕ, suc, _<_, _≤_}
 use native.Mathlib.Omega.{arith}
 use native.Mathlib.Nat.{add-zero}
-use lib.Dec.{eqb}
 use lib.ListN.{length}
 use borrow.Author.Tests.{eq-eqb}
-use Rattle.lists.proofs.Options.{option?, not-none-and-some}
 use Rattle.plan.specs.declared.Hop.the-variants.{To}
 use Rattle.plan.specs.Plan.{Plan, path}
 use Rattle.plan.specs.PlanRules.{PlanRules}
@@ -31,9 +29,9 @@ use Rattle.store.specs.Copies.{stampOf}
 use Rattle.store.specs.State.{State, line, inReach, current}
 use Rattle.store.specs.StateRules.{StateRules}
 use Rattle.steps.specs.Searches.{ended}
-use Rattle.theory.specs.Events.{Event, effect, after, answerOf, run, entryOf, optionList, entered, held, goesOn, ownSteps, notCancelled, EndsIn}
+use Rattle.theory.specs.Events.{Event, after, answerOf, run, entryOf, optionList, entered, held, goesOn, ownSteps, notCancelled, EndsIn}
 use Rattle.theory.specs.Events.Event.{starts, steps}
-use Rattle.theory.specs.Paper.{History, InHistory, upserted, Multicopy, SearchRecency}
+use Rattle.theory.specs.Paper.{History, Multicopy, SearchRecency}
 use Rattle.theory.proofs.EventSteps.{event-keeps, run-keeps, run-append}
 use Rattle.theory.proofs.InReach.{in-reach-held}
 use Rattle.theory.proofs.Invariants.{history-in, in-history, member-option, entered-append, multicopy}

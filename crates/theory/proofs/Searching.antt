@@ -1,9 +1,9 @@
 -- A search in a slot, event by event: what is not its own leaves it, its own step ends it or takes it to the key's next node; and what is
 -- in reach of the node where it stands never gets older. Assumes nothing.
 use mathlib.Core.Path.{_≡_, refl, sym, ap, _∙_, subst}
-use mathlib.Core.Bool.{Bool, true, false, not, _&&_, _||_}
+use mathlib.Core.Bool.{Bool, true, false, not, _&&_}
 use mathlib.Core.Logic.{_≢_, _⊎_, inl, inr}
-use mathlib.Core.List.{List, [], _∷_, _++_}
+use mathlib.Core.List.{List, [], _∷_}
 use mathlib.Core.Option.{Option, none, some}
 use Prim.Native.Nat.{ℕ, suc, _+_, _<_, _≤_}
 use native.Mathlib.Omega.{arith}
@@ -30,7 +30,7 @@ use Rattle.store.specs.StateRules.{OnPath, StateRules}
 use Rattle.store.specs.Calls.{Effect}
 use Rattle.store.proofs.RulingLines.{reach-ends, reach-goes}
 use Rattle.steps.specs.Carries.{bit}
-use Rattle.steps.specs.Searches.{running, withSlot, ended, visited, withRunning, stepStep, startStep}
+use Rattle.steps.specs.Searches.{running, withSlot, ended, visited, withRunning, stepStep}
 use Rattle.steps.proofs.WaysOut.{StartWay, start-way, RunningWay, Visit, step-way, Freed, cancel-way}
 use Rattle.steps.proofs.WaysOut.StartWay.{all-running, starts as taken}
 use Rattle.steps.proofs.WaysOut.RunningWay.{no-slot, slot-idle, slot-runs}
@@ -40,7 +40,7 @@ use Rattle.steps.proofs.LineSteps.{slot-set, slot-other, entry-slots, carry-slo
 use Rattle.steps.proofs.OnPaths.{on-path-in-plan}
 use Rattle.theory.specs.Events.{Event, effect, after, answerOf, run, goesOnThrough, goesOn, isOwnStep, ownSteps, cancelsSlot, notCancelled, EndsIn}
 use Rattle.theory.specs.Events.Event.{enters, withdraws, carries, starts, steps, cancels, asks}
-use Rattle.theory.proofs.EventSteps.{event-keeps, run-keeps}
+use Rattle.theory.proofs.EventSteps.{event-keeps}
 use Rattle.theory.proofs.Invariants.{reach-increases}
 
 -- A slot that runs is one of the slots.
@@ -304,7 +304,7 @@ module _ (p : Plan) (rules : PlanRules p) (k t₀ i : ℕ) where
 
       go : (isOwnStep i e ≡ true) ⊎ (isOwnStep i e ≡ false)
           → ((v : ℕ) → Searches p k t₀ i v (after p e s) → notCancelled i es ≡ true → length (path p k) ≤ ownSteps i es + v
-              → EndsIn p i es (after p e s))
+          → EndsIn p i es (after p e s))
           → EndsIn p i (e ∷ es) s
       go (inl a) ih = own (own-step s good v r)
         where
