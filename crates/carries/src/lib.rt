@@ -14,7 +14,6 @@ use store::Outcome;
 use store::Store;
 
 mod decision; // decision.rt: which copies move, by the keys alone
-
 mod writing; // writing.rt: a column after a carry, written in place
 
 // "Carried is the fall in the node's count; discarded is carried less the rise in the target's"; and left.
@@ -33,6 +32,7 @@ fn tally(had: usize, kept: usize, held: usize, got: usize, left: usize) -> Answe
     )
 }
 
+// Along an edge of a good store's plan: what stays and what the target gets is decided first; then the columns are written, one by one.
 fn good_carry(mut store: Store, node: u32, edge: u32) -> Outcome
     requires { ⌜ (goodStore store ≡ true) × IsEdge (planOf (store .plan)) node edge ⌝ }
     ensures { λ r. ⌜ r ≡ onStore (carryStep node edge) store ⌝ }
@@ -47,7 +47,17 @@ fn good_carry(mut store: Store, node: u32, edge: u32) -> Outcome
     let mut stay = [0; Store::WIDTH];
     let mut target = [0; Store::WIDTH];
     let capacity = plan::capacity(store.plan, e.target) as usize;
-    let m = decision::decide(&store.keys, &mut stay, &mut target, from, from + had, start, start + held, e, capacity);
+    let m = decision::decide(
+        &store.keys,
+        &mut stay,
+        &mut target,
+        from,
+        from + had,
+        start,
+        start + held,
+        e,
+        capacity,
+    );
     let kept = m.kept;
     let got = m.got;
     let stays = &stay[..kept];
@@ -65,7 +75,7 @@ fn good_carry(mut store: Store, node: u32, edge: u32) -> Outcome
     }
 }
 
-// Carry (node, edge): BADSTORE, then NODE, then EDGE; a refusal leaves the store as it was.
+// Carry (node, edge): BADSTORE, then NODE, then EDGE, and none of them alters the store.
 pub fn carry(store: Store, node: u32, edge: u32) -> Outcome
     ensures { λ r. ⌜ Carries store node edge r ⌝ }
 {

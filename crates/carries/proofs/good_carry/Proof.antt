@@ -20,14 +20,6 @@ use Rattle.carries.proofs.Carrying.{
 }
 use Rattle.carries.proofs.good_carry.Statement.{statement}
 use Rattle.carries.proofs.good_carry.Tie as tie
-use Rattle.carries.proofs.good_carry.Reads as reads
-use Rattle.carries.proofs.good_carry.Lts as lts
-use Rattle.carries.proofs.decision.count_held.Reads as count-held-reads
-use Rattle.carries.proofs.decision.decide.Reads as decide-reads
-use Rattle.carries.proofs.tally.Reads as tally-reads
-use Rattle.carries.proofs.writing.carry_column.Reads as carry-column-reads
-use Rattle.plan.proofs.capacity.Reads as capacity-reads
-use Rattle.plan.proofs.edge_at.Reads as edge-at-reads
 
 abbrev S : tie.Start → Store
 S c = c .args .t1

@@ -7,10 +7,6 @@ use Rattle.carries.specs.Decisions.{span, outcome, Going}
 use Rattle.carries.proofs.Deciding.{start-going, start-outcome, decided}
 use Rattle.carries.proofs.decision.decide.Statement.{statement}
 use Rattle.carries.proofs.decision.decide.Tie as tie
-use Rattle.carries.proofs.decision.decide.Reads as reads
-use Rattle.carries.proofs.decision.decide.Lts as lts
-use Rattle.carries.proofs.decision.rest.Reads as rest-reads
-use Rattle.carries.proofs.decision.turn.Reads as turn-reads
 
 abbrev Inv-loop : tie.InvT-loop
 Inv-loop keys stay₀ target₀ from to start end edge capacity m₀ stay target m =
