@@ -93,12 +93,6 @@ merges c =
     let s = e .before in
     ready (S s) (s .pre .0) (s .args .node) (s .args .edge) (s .pre .1) (e .edge-at .result) (e .edge-at .ensures) (c .capacity .result) (c .capacity .ensures)
 
-add-decide : tie.Need-add-decide
-add-decide c = let r = merges (c .before .before .before .before) in search (needs, r .node-within .1)
-
-add-decide-2 : tie.Need-add-decide-2
-add-decide-2 c = let r = merges (c .before .before .before .before) in search (needs, r .target-within .1)
-
 decide-requires : tie.Need-decide-requires
 decide-requires c κs = (merges (c .before .before .before .before), refl, refl)
 
@@ -206,8 +200,6 @@ good-carry-spec =
     mul-start
     capacity-requires
     cast-capacity
-    add-decide
-    add-decide-2
     decide-requires
     array-share-prefix-stay
     slice-aggregate-stays
