@@ -6,17 +6,18 @@ use Prim.Native.Nat.{ℕ, _+_, _-_, _*_, _<_, _≤_}
 use native.Mathlib.Omega.{arith}
 use lib.ListN.{length, getD, set, take, replicate, length-map, length-set}
 use lib.Seq.{sets, set-comm, length-take-le, getD-set-other}
+use borrow.Author.Tests.{lt-ltb, le-ltb}
 use Rattle.lists.specs.Runs.{run}
 use Rattle.lists.proofs.Running.{map-run}
 use Rattle.plan.specs.declared.Edge.{Edge}
 use Rattle.plan.specs.Sizes.{mostNodes}
-use Rattle.plan.specs.Plan.{Plan, size, capacityOf, edgeOf}
+use Rattle.plan.specs.Plan.{Plan, size, capacityOf, edgesOf, edgeOf}
 use Rattle.plan.specs.PlanRules.{PlanRules, IsEdge}
 use Rattle.plan.specs.PlanTable.{planOf}
 use Rattle.store.specs.declared.Answer.{Answer}
 use Rattle.store.specs.declared.Copy.{Copy}
 use Rattle.store.specs.declared.Store.{Store}
-use Rattle.store.specs.Answers.{DONE, answer}
+use Rattle.store.specs.Answers.{DONE, NODE, EDGE, answer, bare}
 use Rattle.store.specs.Copies.{noCopy, keyOf}
 use Rattle.store.specs.State.{State, nodeAt}
 use Rattle.store.specs.StateRules.{StateRules}
@@ -25,7 +26,7 @@ use Rattle.store.specs.StoreRules.{goodStore}
 use Rattle.store.specs.Calls.{onStore}
 use Rattle.store.specs.Workers.{numberIn, itself}
 use Rattle.store.proofs.Laying.{OneNode, set-one, node-laid, node-grown, counts-written, store-is, state-node, state-count, length-nodes, state-clock, state-slots}
-use Rattle.store.proofs.Lifting.{plan-good, state-good, good-back, on-way}
+use Rattle.store.proofs.Lifting.{plan-good, state-good, good-back, on-way, on-refusal}
 use Rattle.store.proofs.GoodNodes.{count-fits, node-rises}
 use Rattle.steps.specs.Carries.{Merged, merge, countHeld, mergeAlong, carriedTo, carriedOut, carryStep}
 use Rattle.steps.proofs.Merges.{merging, stay-short, target-long}
@@ -275,3 +276,19 @@ module _ (z : Store) (good : goodStore z ≡ true) (n i : ℕ) (d : IsEdge (plan
               ap (λ (l : List ℕ). set (set l n (m .kept)) t (m .got)) (back (λ (y : Store). y .counts))
               ∙ ap₂ (λ (j k : ℕ). set (set (run 0 mostNodes (λ l. length (nodeAt s l))) n j) t k) (sym stay-count) (sym target-count)
               ∙ (sym (both-counts (s .nodes) n t xs ys (omega arith) (omega arith) node-apart))
+
+-- The refusals of a carry on a good store.
+module _ (z : Store) (good : goodStore z ≡ true) (n i : ℕ) where
+  -- NODE: "plan has no such node"
+  pub no-node : size (planOf (z .plan)) ≤ n → (a : Answer) → a ≡ bare NODE → record { answer = a; store = z } ≡ onStore (carryStep n i) z
+  unfolding carryStep
+  no-node h a e = rw e (on-refusal (carryStep n i) z good NODE (rw (le-ltb n (size (planOf (z .plan))) h)))
+
+  -- EDGE: "node has no such edge"
+  pub no-edge : n < size (planOf (z .plan)) → length (edgesOf (planOf (z .plan)) n) ≤ i → (a : Answer) → a ≡ bare EDGE
+      → record { answer = a; store = z } ≡ onStore (carryStep n i) z
+  unfolding carryStep
+  no-edge h g a e =
+      rw e
+      (on-refusal (carryStep n i) z good EDGE
+      (rw (lt-ltb n (size (planOf (z .plan))) h, le-ltb i (length (edgesOf (planOf (z .plan)) n)) g)))

@@ -8,6 +8,7 @@ ghost use Rattle.store.specs.Answers.{DONE, answer};
 ghost use Rattle.store.specs.Calls.{onStore};
 ghost use Rattle.store.specs.StoreRules.{goodStore};
 ghost use Rattle.steps.specs.Carries.{carryStep};
+ghost use Rattle.steps.specs.Promises.{Carries};
 use store::Answer;
 use store::Outcome;
 use store::Store;
@@ -62,4 +63,38 @@ fn good_carry(mut store: Store, node: u32, edge: u32) -> Outcome
         answer: tally(had, kept, held, got, left),
         store: store,
     }
+}
+
+// Carry (node, edge): BADSTORE, then NODE, then EDGE; a refusal leaves the store as it was.
+pub fn carry(store: Store, node: u32, edge: u32) -> Outcome
+    ensures { λ r. ⌜ Carries store node edge r ⌝ }
+{
+    if !rules::good(
+        store.plan,
+        store.clock,
+        &store.counts,
+        &store.keys,
+        &store.kinds,
+        &store.values,
+        &store.stamps,
+        store.slots,
+    ) {
+        return Outcome {
+            answer: Answer::bare(Answer::BADSTORE),
+            store: store,
+        };
+    }
+    if plan::nodes(store.plan) <= node {
+        return Outcome {
+            answer: Answer::bare(Answer::NODE),
+            store: store,
+        };
+    }
+    if plan::edge_count(store.plan, node) <= edge {
+        return Outcome {
+            answer: Answer::bare(Answer::EDGE),
+            store: store,
+        };
+    }
+    good_carry(store, node, edge)
 }

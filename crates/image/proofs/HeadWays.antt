@@ -13,7 +13,7 @@ use Rattle.wire.specs.Reading.{got, fault, numberAt}
 use Rattle.wire.proofs.Chains.{bind-got, bind-fault, check-holds, check-fails}
 use Rattle.image.specs.declared.reading.Head.{Head}
 use Rattle.image.specs.Image.{formatNumber}
-use Rattle.image.specs.Loading.{nodesFrom, clockFrom, planFrom, imageAt}
+use Rattle.image.specs.Loading.{clockFrom, planFrom, imageAt}
 use Rattle.image.specs.Workers.{ReadsHead}
 
 -- Reading the image ends in the head, with a fault.

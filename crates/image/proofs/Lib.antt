@@ -6,3 +6,5 @@ pub mod RoundTrips
 pub mod ReadWays
 pub mod NodeWays
 pub mod HeadWays
+pub mod ImageLengths
+pub mod WriteWays

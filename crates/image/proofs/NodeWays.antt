@@ -9,10 +9,9 @@ use lib.Dec.{ltb}
 use lib.ListN.{length, getD, set, drop, length-append, drop-of-length-le, List·getD-eq-default}
 use lib.Seq.{sets, drop-cons}
 use borrow.Author.Tests.{lt-ltb, le-ltb, ltb-true}
-use Rattle.lists.proofs.Truths.{not-both, both-le}
+use Rattle.lists.proofs.Truths.{both-le}
 use Rattle.plan.specs.Sizes.{mostNodes}
 use Rattle.plan.specs.Plan.{Plan, noNode, size, capacityOf}
-use Rattle.plan.specs.PlanRules.{PlanRules}
 use Rattle.plan.specs.PlanTable.{planOf, plans}
 use Rattle.plan.proofs.TableLaws.{table-rules}
 use Rattle.store.specs.declared.Copy.{Copy}
@@ -22,10 +21,10 @@ use Rattle.store.specs.StoreRules.{planNumberTest}
 use Rattle.store.proofs.Laying.{append-one, node-grown, counts-written}
 use Rattle.wire.specs.declared.Num.{Num}
 use Rattle.wire.specs.Reading.{Got, got, fault, bind, numberAt, numOf}
-use Rattle.wire.proofs.Chains.{bind-got, bind-fault, check-holds, check-fails, got-or-fault, bound, num-got, num-fault, Gives, gives-got, gives-all, gives-check, gives-bind}
-use Rattle.image.specs.Loading.{copyAt, copiesAt, nodeAt, nodesAt}
+use Rattle.wire.proofs.Chains.{bind-got, bind-fault, check-holds, check-fails, got-or-fault, num-got, num-fault, Gives, gives-got, gives-all, gives-check, gives-bind}
+use Rattle.image.specs.Loading.{copiesAt, nodeAt, nodesAt}
 use Rattle.image.proofs.ReadWays.{fault-lays}
-use Rattle.image.specs.Workers.{Columns, columns, laid, columnsOf, countsOf, noNumber, ending, Lays, LaysNodes}
+use Rattle.image.specs.Workers.{Columns, laid, columnsOf, countsOf, noNumber, ending, Lays, LaysNodes}
 
 -- ---- how many copies are read
 
@@ -120,12 +119,16 @@ module _ (s : List ℕ) (capacity at : ℕ) (before : Columns) (from : ℕ) (aft
 -- ---- read_nodes
 
 -- A plan's nodes are no more than a store has, and their capacities no more than their places.
+pub plan-few : (plan : ℕ) → planNumberTest plan ≡ true → size (planOf plan) ≤ mostNodes
+unfolding planNumberTest
+plan-few plan t = let b = both-le 1 plan plan plans t in table-rules plan (b .0) (b .1) .two-to-eight-nodes .1
+
 pub plan-fits : (plan n : ℕ) → planNumberTest plan ≡ true → n < size (planOf plan) → (n < mostNodes) × (capacityOf (planOf plan) n ≤ width)
 unfolding planNumberTest
 plan-fits plan n t h =
     let b = both-le 1 plan plan plans t in
     let r = table-rules plan (b .0) (b .1) in
-    (omega (arith, r .two-to-eight-nodes .1), r .capacity-1-to-64 n h .1)
+    (omega (arith, plan-few plan t), r .capacity-1-to-64 n h .1)
 
 -- The nodes read so far, in their places, and what is left to read.
 pub record Sofar (s : List ℕ) (p : Plan) (at n : ℕ) (counts : List ℕ) (c : Columns) (next : ℕ) : Type 0 where

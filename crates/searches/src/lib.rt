@@ -183,3 +183,43 @@ fn good_look(store: Store, key: u32) -> Answer
     };
     held(copy, visits)
 }
+
+// Start a search for a key: its slot. BADSTORE, or SLOTS where all run.
+pub fn start(store: Store, key: u32) -> Outcome
+    ensures { λ r. ⌜ Starts store key r ⌝ }
+{
+    if !rules::good_store(store) {
+        return Outcome::refused(Answer::BADSTORE, store);
+    }
+    good_start(store, key)
+}
+
+// One step of the search in a slot: its end, or GOING. BADSTORE, SLOT, or IDLE where none runs.
+pub fn step(store: Store, slot: u32) -> Outcome
+    ensures { λ r. ⌜ Steps store slot r ⌝ }
+{
+    if !rules::good_store(store) {
+        return Outcome::refused(Answer::BADSTORE, store);
+    }
+    good_step(store, slot)
+}
+
+// End the search in a slot without a result. BADSTORE, SLOT, or IDLE where none runs.
+pub fn cancel(store: Store, slot: u32) -> Outcome
+    ensures { λ r. ⌜ Cancels store slot r ⌝ }
+{
+    if !rules::good_store(store) {
+        return Outcome::refused(Answer::BADSTORE, store);
+    }
+    good_cancel(store, slot)
+}
+
+// A whole search at once, no slot used. BADSTORE, or its end.
+pub fn look(store: Store, key: u32) -> Answer
+    ensures { λ r. ⌜ Looks store key r ⌝ }
+{
+    if !rules::good_store(store) {
+        return Answer::bare(Answer::BADSTORE);
+    }
+    good_look(store, key)
+}

@@ -169,12 +169,12 @@ module _ (p : Plan) (rules : PlanRules p) (k : ℕ) where
   unfolding carried entries run
   account [] s good = rw mul-zero (omega arith)
   account (e ∷ es) s good =
-      rw (mul-add (edgesOn p k) (bit (ofLine k (entryOf p e s))) (entries p k es (after p e s)))
-      (omega (
+      omega (
         arith,
+        mul-add (edgesOn p k) (bit (ofLine k (entryOf p e s))) (entries p k es (after p e s)),
         pays (λ n. next p n k) down (line-led-to p rules s good k) (event-line p rules s good e k) is-path,
         account es (after p e s) (event-keeps p rules e s good),
-      ))
+      )
 
   -- Demand 3, from any state: carried ≤ edges on the path × entries, each copy of the line that is held at the start counting as one.
   pub bound : (es : List Event) (s : State) → StateRules p s → carried p k es s ≤ edgesOn p k * (heldOf k s + entries p k es s)

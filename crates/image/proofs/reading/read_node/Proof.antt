@@ -1,9 +1,6 @@
 -- `image::reading::read_node` meets its contract. Assumes nothing.
-use Prim.Native.Nat.{_*_}
 use borrow.Author.Tests.{not-true, not-false}
-use Rattle.store.specs.Layout.{width}
 use Rattle.wire.proofs.Chains.{num-got}
-use Rattle.image.specs.Workers.{columns}
 use Rattle.image.proofs.NodeWays.{node-no-count, node-over, node-stops, node-whole}
 use borrow.Author.Needs.{needs}
 use Rattle.image.proofs.reading.read_node.Statement.{statement}
