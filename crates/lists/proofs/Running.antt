@@ -2,7 +2,7 @@
 use mathlib.Core.Path.{_≡_, refl, sym, ap, _∙_}
 use mathlib.Core.Bool.{Bool, true, false}
 use mathlib.Core.Logic.{⊎-elim}
-use mathlib.Core.List.{List, [], _∷_, map}
+use mathlib.Core.List.{List, [], _∷_, _++_, map}
 use Prim.Native.Nat.{ℕ, zero, suc, _+_, _-_, _<_, _≤_}
 use native.Mathlib.Omega.{arith}
 use native.Mathlib.Nat.{add-suc, suc-add, add-zero, zero-add, le-of-suc-le-suc, not-suc-le-zero}
@@ -46,6 +46,14 @@ pub map-run : {A B : Type 0} (g : A → B) (f : ℕ → A) (i n : ℕ) → map g
 unfolding run
 map-run g f i zero = refl
 map-run {B = B} g f i (suc n) = ap (λ (l : List B). g (f i) ∷ l) (map-run g f (suc i) n)
+
+-- One number more is one element more at the end.
+pub run-snoc : {A : Type 0} (f : ℕ → A) (i n : ℕ) → run i (suc n) f ≡ run i n f ++ f (i + n) ∷ []
+unfolding run
+run-snoc f i zero = rw add-zero
+run-snoc {A} f i (suc n) =
+    let e : suc i + n ≡ i + suc n = omega arith in
+    ap (λ (l : List A). f i ∷ l) (run-snoc f (suc i) n ∙ ap (λ (m : ℕ). run (suc i) n f ++ f m ∷ []) e)
 
 -- A test at each of the n numbers from i on holds exactly when it holds at each of them.
 pub all-at : (f : ℕ → Bool) (i n : ℕ) → allFrom i n f ≡ true → (j : ℕ) → i ≤ j → j < i + n → f j ≡ true

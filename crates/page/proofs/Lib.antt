@@ -3,3 +3,4 @@ pub mod PageLines
 pub mod Stale
 pub mod PageLength
 pub mod LongestPage
+pub mod Gathering
