@@ -4,3 +4,4 @@ pub mod Stale
 pub mod PageLength
 pub mod LongestPage
 pub mod Gathering
+pub mod PageWriting

@@ -1,45 +1,43 @@
+use Prim.Native.Nat.{_-_, _≤_}
+use borrow.Author.Needs.{needs}
+use lib.ListN.{length, take, length-set}
+use Rattle.lists.specs.Stands.{Wrote}
+use Rattle.lists.proofs.Standing.{wrote-nil, wrote-length}
+use Rattle.page.proofs.PageWriting.{lay-turns, lay-ends}
 use Rattle.page.proofs.writing.lay.Statement.{statement}
 use Rattle.page.proofs.writing.lay.Tie as tie
-use Rattle.page.proofs.writing.lay.Reads as reads
-use Rattle.page.proofs.writing.lay.Lts as lts
 
 abbrev Inv-loop : tie.InvT-loop
-Inv-loop buffer₀ page i₀ buffer i = ?
+Inv-loop buffer₀ page i₀ buffer i = (i ≤ length page) × (length page ≤ length buffer) × Wrote buffer₀ 0 (take i page) i buffer
 
 abbrev μ-loop : tie.MeasureT-loop
-μ-loop buffer₀ page i₀ buffer i = ?
+μ-loop buffer₀ page i₀ buffer i = length page - i
 
--- src/writing.rt:51:5
 loop-holds : tie.Need-loop-holds Inv-loop μ-loop
-loop-holds c = ?
+loop-holds c = (search needs, search needs, wrote-nil (c .args .buffer .now) 0)
 
--- src/writing.rt:52:21
 shared-slice-read-buffer : tie.Need-shared-slice-read-buffer Inv-loop μ-loop
-shared-slice-read-buffer c = ?
+shared-slice-read-buffer c = search needs
 
--- src/writing.rt:52:9
 slice-write-buffer : tie.Need-slice-write-buffer Inv-loop μ-loop
-slice-write-buffer c = ?
+slice-write-buffer c = search needs
 
--- src/writing.rt:53:9
 add-i : tie.Need-add-i Inv-loop μ-loop
-add-i c = ?
+add-i c = search needs
 
--- src/writing.rt:51:5
 loop-less : tie.Need-loop-less Inv-loop μ-loop
-loop-less c = ?
+loop-less c = search needs
 
--- src/writing.rt:51:5
 loop-again : tie.Need-loop-again Inv-loop μ-loop
-loop-again c = ?
+loop-again c =
+    let l = c .before .before in
+    (search needs, rw length-set (l .loop .inv .1), lay-turns (l .before .args .page .now) (search needs) (l .loop .inv .2))
 
--- src/writing.rt:46:1
 same-length : tie.Need-same-length Inv-loop μ-loop
-same-length c = ?
+same-length c = wrote-length (c .before .loop .inv .2)
 
--- src/writing.rt:46:1
 returns : tie.Need-returns Inv-loop μ-loop
-returns c = ?
+returns c = lay-ends (c .before .before .args .page .now) (search needs) (search needs) (c .before .loop .inv .2)
 
 pub lay-spec : {M : Type 1} → statement M
 lay-spec =

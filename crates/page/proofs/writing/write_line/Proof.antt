@@ -1,29 +1,29 @@
+use native.Mathlib.Omega.{arith}
+use Rattle.page.specs.Workers.{line}
+use Rattle.page.proofs.PageWriting.{line-long, line-wrote}
 use borrow.Author.Needs.{needs}
 use Rattle.page.proofs.writing.write_line.Statement.{statement}
 use Rattle.page.proofs.writing.write_line.Tie as tie
-use Rattle.page.proofs.writing.write_line.Reads as reads
-use Rattle.page.proofs.writing.write_line.Lts as lts
-use Rattle.number.proofs.write_at.Reads as write-at-reads
 
--- src/writing.rt:15:9
 write-at-requires : tie.Need-write-at-requires
-write-at-requires c κs = ?
+write-at-requires c κs = let a = c .before .before .args in omega (arith, line-long (line (a .analyte) (a .value) (a .stamp)))
 
--- src/writing.rt:16:9
 write-at-requires-2 : tie.Need-write-at-requires-2
-write-at-requires-2 c κs = ?
+write-at-requires-2 c κs = let a = c .before .before .before .before .before .before .args in omega (arith, line-long (line (a .analyte) (a .value) (a .stamp)))
 
--- src/writing.rt:17:5
 write-at-requires-3 : tie.Need-write-at-requires-3
-write-at-requires-3 c κs = ?
+write-at-requires-3 c κs = let a = c .before .before .before .before .before .before .before .before .before .before .args in omega (arith, line-long (line (a .analyte) (a .value) (a .stamp)))
 
--- src/writing.rt:11:1
 same-length : tie.Need-same-length
 same-length c = search needs
 
--- src/writing.rt:11:1
 returns : tie.Need-returns
-returns c = ?
+returns c =
+    let third = c .before .before in
+    let second = third .before .before .before .before in
+    let first = second .before .before .before .before in
+    let a = first .before .before .before .args in
+    line-wrote (line (a .analyte) (a .value) (a .stamp)) (first .write-at .ensures) (second .write-at2 .ensures) (third .write-at3 .ensures)
 
 pub write-line-spec : {M : Type 1} → statement M
 write-line-spec =

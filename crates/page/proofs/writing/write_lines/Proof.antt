@@ -1,66 +1,73 @@
+use Prim.Native.Nat.{ℕ, _-_, _≤_}
+use borrow.Author.Needs.{needs}
+use Rattle.page.specs.Page.{Line}
+use Rattle.page.specs.Workers.{lineIn, linesIn}
+use Rattle.page.proofs.PageWriting.{WritingLines, lines-start, line-fits, lines-turn, lines-end}
 use Rattle.page.proofs.writing.write_lines.Statement.{statement}
 use Rattle.page.proofs.writing.write_lines.Tie as tie
-use Rattle.page.proofs.writing.write_lines.Reads as reads
-use Rattle.page.proofs.writing.write_lines.Lts as lts
-use Rattle.page.proofs.writing.write_line.Reads as write-line-reads
 
 abbrev Inv-loop : tie.InvT-loop
-Inv-loop buffer₀ at lines count next₀ i₀ buffer next i = ?
+Inv-loop buffer₀ at lines count next₀ i₀ buffer next i =
+    (i ≤ lines .count) × WritingLines (lineIn (lines .analytes) (lines .values) (lines .stamps)) (lines .count) buffer₀ at buffer next i
 
 abbrev μ-loop : tie.MeasureT-loop
-μ-loop buffer₀ at lines count next₀ i₀ buffer next i = ?
+μ-loop buffer₀ at lines count next₀ i₀ buffer next i = lines .count - i
 
--- src/writing.rt:28:5
+-- The lines by number.
+abbrev lent : tie.Start Inv-loop μ-loop → ℕ → Line
+lent s = lineIn (s .args .t3 .analytes) (s .args .t3 .values) (s .args .t3 .stamps)
+
 loop-holds : tie.Need-loop-holds Inv-loop μ-loop
-loop-holds c = ?
+unfolding linesIn
+loop-holds c =
+    let s = c .before in
+    (search needs, lines-start (lent s) (s .args .t3 .count) (s .args .buffer .now) (s .args .at) (s .pre .1))
 
--- src/writing.rt:29:41
 mul-write-line : tie.Need-mul-write-line Inv-loop μ-loop
-mul-write-line c = ?
+mul-write-line c = search needs
 
--- src/writing.rt:29:41
 element-copy-out-write-line : tie.Need-element-copy-out-write-line Inv-loop μ-loop
-element-copy-out-write-line c = ?
+element-copy-out-write-line c = search needs
 
--- src/writing.rt:29:60
 mul-write-line-2 : tie.Need-mul-write-line-2 Inv-loop μ-loop
-mul-write-line-2 c = ?
+mul-write-line-2 c = search needs
 
--- src/writing.rt:29:60
 element-copy-out-write-line-2 : tie.Need-element-copy-out-write-line-2 Inv-loop μ-loop
-element-copy-out-write-line-2 c = ?
+element-copy-out-write-line-2 c = search needs
 
--- src/writing.rt:29:77
 mul-write-line-3 : tie.Need-mul-write-line-3 Inv-loop μ-loop
-mul-write-line-3 c = ?
+mul-write-line-3 c = search needs
 
--- src/writing.rt:29:77
 element-copy-out-write-line-3 : tie.Need-element-copy-out-write-line-3 Inv-loop μ-loop
-element-copy-out-write-line-3 c = ?
+element-copy-out-write-line-3 c = search needs
 
--- src/writing.rt:29:9
 write-line-requires : tie.Need-write-line-requires Inv-loop μ-loop
-write-line-requires c κs = ?
+write-line-requires c κs =
+    let l = c .before .before .before .before .before in
+    let s = l .before .before in
+    line-fits (lent s) (s .args .t3 .count) (l .loop .inv .1) (search needs)
 
--- src/writing.rt:30:9
 add-i : tie.Need-add-i Inv-loop μ-loop
-add-i c = ?
+add-i c = search needs
 
--- src/writing.rt:28:5
 loop-less : tie.Need-loop-less Inv-loop μ-loop
-loop-less c = ?
+loop-less c = search needs
 
--- src/writing.rt:28:5
 loop-again : tie.Need-loop-again Inv-loop μ-loop
-loop-again c = ?
+loop-again c =
+    let l = c .before .before .before .before .before .before .before .before in
+    let s = l .before .before in
+    (search needs, lines-turn (lent s) (s .args .t3 .count) (l .loop .inv .1) (search needs) (c .before .before .write-line .ensures))
 
--- src/writing.rt:21:1
 same-length : tie.Need-same-length Inv-loop μ-loop
-same-length c = ?
+same-length c = c .before .loop .inv .1 .kept
 
--- src/writing.rt:21:1
 returns : tie.Need-returns Inv-loop μ-loop
-returns c = ?
+unfolding linesIn
+returns c =
+    let l = c .before in
+    let s = l .before .before in
+    lines-end (lent s) (s .args .t3 .count) (l .loop .inv .1) (search needs)
 
 pub write-lines-spec : {M : Type 1} → statement M
 write-lines-spec =
