@@ -4,3 +4,6 @@ pub mod ImageBytes
 pub mod LoadWays
 pub mod RoundTrips
 pub mod ReadWays
+pub mod NodeWays
+pub mod HeadWays
+pub mod ImageLengths

@@ -90,6 +90,13 @@ unfolding bind
 ending-added (got x next) h = refl
 ending-added (fault number at) h = refl
 
+-- A reading that stops with a fault.
+pub fault-lays : (g : Got (List Copy)) (value : List Copy → ℕ) (before : Columns) (from : ℕ) {number at : ℕ} (after : Columns) → g ≡ fault number at
+    → Lays g value before from (record { ok = false; fault = number; at = at; value = 0 }) after
+unfolding numOf
+fault-lays g value before from after e =
+    record { ends = ap numOf (sym (bind-fault g _ e)); lays = λ xs next q. absurd (got-or-fault q e) }
+
 module _ (s : List ℕ) (end : ℕ) (keys kinds values stamps : List ℕ) (i at : ℕ) where
   -- All places are filled.
   pub lays-end : end ≤ i
@@ -103,14 +110,10 @@ module _ (s : List ℕ) (end : ℕ) (keys kinds values stamps : List ℕ) (i at 
   -- A copy cannot be read.
   pub lays-fault : {number place : ℕ} (after : Columns) → i < end → copyAt s at ≡ fault number place
       → Lays (copiesAt s (end - i) at) noNumber (columns keys kinds values stamps) i (record { ok = false; fault = number; at = place; value = 0 }) after
-  unfolding copiesAt numOf
-  lays-fault {number} {place} after h e =
+  unfolding copiesAt
+  lays-fault after h e =
       let m : end - i ≡ suc (end - (i + 1)) = omega arith in
-      let g : copiesAt s (suc (end - (i + 1))) at ≡ fault number place = bind-fault _ _ e in
-      rw m (record {
-        ends = ap numOf (sym (bind-fault _ _ g));
-        lays = λ xs next q. absurd (got-or-fault q g);
-      })
+      rw m (fault-lays _ noNumber (columns keys kinds values stamps) i after (bind-fault _ _ e))
 
   -- The first of some copies laid at a place, and the others after it.
   laid-cons : (x : Copy) (xs : List Copy)

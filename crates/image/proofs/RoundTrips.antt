@@ -124,7 +124,7 @@ pub load-good : (s : List ℕ) → goodStore (loadOutcome s .store) ≡ true
 load-good s = go (load-way s)
   where
     refused : goodStore (freshStore 1) ≡ true
-    refused = fresh-good good-rules rules-good 1 (lit≤ tt) (omega (arith, plans-three))
+    refused = fresh-good 1 (lit≤ tt) (omega (arith, plans-three))
 
     go : LoadWay s → goodStore (loadOutcome s .store) ≡ true
     go (stops e r) = rw r refused

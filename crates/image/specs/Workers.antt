@@ -1,21 +1,23 @@
--- What the functions below load hand back: copies laid into lent columns, and what was read of an image's head.
+-- What the functions below save and load hand back: an image from columns, copies laid into lent columns, what was read of its head.
 use mathlib.Core.Path.{_≡_}
 use mathlib.Core.Bool.{true, false}
-use mathlib.Core.List.{List, map}
-use Prim.Native.Nat.{ℕ, _*_}
+use mathlib.Core.List.{List, [], map}
+use Prim.Native.Nat.{ℕ, _≤_}
 use lib.ListN.{length, getD}
 use lib.Seq.{sets}
-use mathlib.Core.List.{[]}
 use Rattle.lists.specs.Runs.{run}
 use Rattle.plan.specs.Sizes.{mostNodes}
+use Rattle.plan.specs.Plan.{size}
+use Rattle.plan.specs.PlanTable.{planOf}
 use Rattle.store.specs.declared.Copy.{Copy}
 use Rattle.store.specs.Copies.{noCopy}
-use Rattle.store.specs.Layout.{width, places, column}
+use Rattle.store.specs.Layout.{width, nodeIn, column}
 use Rattle.store.specs.StoreRules.{planNumberTest}
 use Rattle.wire.specs.declared.Num.{Num}
 use Rattle.wire.specs.Reading.{Got, got, fault, bind, numOf}
 use Rattle.image.specs.declared.reading.CopyRead.{CopyRead}
 use Rattle.image.specs.declared.reading.Head.{Head}
+use Rattle.image.specs.Image.{imageOf}
 use Rattle.image.specs.Loading.{nodesFrom, imageAt}
 
 -- A copy that was read and the offset after it, or the fault and its offset.
@@ -75,3 +77,17 @@ pub record LaysNodes (g : Got (List (List Copy))) (r : Num) (counts : List ℕ) 
 pub record ReadsHead (s : List ℕ) (r : Head) : Type 0 where
   pub goes : r .ok ≡ true → (planNumberTest (r .plan) ≡ true) × (imageAt s ≡ nodesFrom s (r .plan) (r .clock) (r .at))
   pub stops : r .ok ≡ false → imageAt s ≡ fault (r .fault) (r .at)
+
+-- ---- saving
+
+-- The nodes that counts and columns hold, so many of them.
+abbrev pub nodesIn : ℕ → List ℕ → Columns → List (List Copy)
+nodesIn size counts c = run 0 size (nodeIn counts (c .keys) (c .kinds) (c .values) (c .stamps))
+
+-- The image of the store with this plan, clock, counts and columns.
+abbrev pub imageIn : ℕ → ℕ → List ℕ → Columns → List ℕ
+imageIn plan clock counts c = imageOf plan (record { clock = clock; nodes = nodesIn (size (planOf plan)) counts c; slots = [] })
+
+-- No node holds more than its places.
+abbrev pub WithinPlaces : List ℕ → Type 0
+WithinPlaces counts = (n : ℕ) → getD counts n 0 ≤ width

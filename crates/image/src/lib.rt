@@ -1,4 +1,6 @@
 // The evening's bytes: save and load. Document 01, "Bytes".
+mod lengths; // lengths.rt: how many bytes an image takes
+
 mod reading; // reading.rt: an image's numbers, read into lent columns
 
 // "format 1"

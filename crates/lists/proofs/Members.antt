@@ -1,20 +1,7 @@
 -- Members of a list: by their places, and of a list of lists put together. Assumes nothing.
 use mathlib.Core.Path.{_≡_, refl, sym}
 use mathlib.Core.Logic.{_⊎_, inl, inr}
-use mathlib.Core.List.{
-  List,
-  [],
-  _∷_,
-  _++_,
-  flatten,
-  List·Memᴰ,
-  List·Memᴰ·head,
-  List·Memᴰ·tail,
-  List·Memᴰ·not-nil,
-  List·Memᴰ·append-cases,
-  Memᴰ·append-left,
-  Memᴰ·append-right,
-}
+use mathlib.Core.List.{List, [], _∷_, flatten, List·Memᴰ, List·Memᴰ·head, List·Memᴰ·tail, List·Memᴰ·not-nil, List·Memᴰ·append-cases, Memᴰ·append-left, Memᴰ·append-right}
 use Prim.Native.Nat.{ℕ, zero, suc, _<_}
 use native.Mathlib.Omega.{arith}
 use native.Mathlib.Nat.{le-of-suc-le-suc, not-suc-le-zero}

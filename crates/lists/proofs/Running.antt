@@ -47,13 +47,13 @@ unfolding run
 map-run g f i zero = refl
 map-run {B = B} g f i (suc n) = ap (λ (l : List B). g (f i) ∷ l) (map-run g f (suc i) n)
 
--- One number more is one element more at the end.
-pub run-snoc : {A : Type 0} (f : ℕ → A) (i n : ℕ) → run i (suc n) f ≡ run i n f ++ f (i + n) ∷ []
+-- A run can be cut in two.
+pub run-split : {A : Type 0} (f : ℕ → A) (i n m : ℕ) → run i (n + m) f ≡ run i n f ++ run (i + n) m f
 unfolding run
-run-snoc f i zero = rw add-zero
-run-snoc {A} f i (suc n) =
-    let e : suc i + n ≡ i + suc n = omega arith in
-    ap (λ (l : List A). f i ∷ l) (run-snoc f (suc i) n ∙ ap (λ (m : ℕ). run (suc i) n f ++ f m ∷ []) e)
+run-split f i zero m = rw (zero-add, add-zero)
+run-split {A} f i (suc n) m =
+    let s : suc i + n ≡ i + suc n = omega arith in
+    rw (suc-add, ← s) (ap (λ (l : List A). f i ∷ l) (run-split f (suc i) n m))
 
 -- A test at each of the n numbers from i on holds exactly when it holds at each of them.
 pub all-at : (f : ℕ → Bool) (i n : ℕ) → allFrom i n f ≡ true → (j : ℕ) → i ≤ j → j < i + n → f j ≡ true

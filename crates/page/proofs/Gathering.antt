@@ -12,7 +12,7 @@ use lib.ListN.{length, getD, set, length-append}
 use lib.Seq.{getD-set-same, getD-set-other}
 use borrow.Author.Tests.{eq-eqb, ne-eqb}
 use Rattle.lists.specs.Runs.{run}
-use Rattle.lists.proofs.Running.{length-run, same-run, run-snoc}
+use Rattle.lists.proofs.Running.{length-run, same-run, run-split}
 use Rattle.plan.specs.Plan.{Plan}
 use Rattle.store.specs.declared.Copy.{Copy}
 use Rattle.store.specs.declared.Found.{Found}
@@ -51,7 +51,7 @@ added r analyte value stamp =
 module _ (r : Lines) (analyte value stamp : ℕ) (a : r .count < length (r .analytes)) (v : r .count < length (r .values))
     (t : r .count < length (r .stamps)) where
   line-added : linesIn (added r analyte value stamp) ≡ linesIn r ++ line analyte value stamp ∷ []
-  unfolding linesIn
+  unfolding linesIn run
   line-added =
       let n = r .count in
       let ks = set (r .analytes) n analyte in
@@ -64,7 +64,7 @@ module _ (r : Lines) (analyte value stamp : ℕ) (a : r .count < length (r .anal
       same-run (lineIn ks vs ts) (lineIn (r .analytes) (r .values) (r .stamps)) 0 n
       (λ j g h. rw (getD-set-other (r .analytes) n j analyte 0 (λ e. omega arith), getD-set-other (r .values) n j value 0 (λ e. omega arith), getD-set-other (r .stamps) n j stamp 0 (λ e. omega arith)))
       in
-      rw (add-one, run-snoc, zero-add, here, before)
+      rw (run-split (lineIn ks vs ts) 0 n 1, zero-add, here, before)
 
   -- A result was found: its line.
   pub result-shown : {f : Found} (x : Copy) → f ≡ Held x → x .kind ≡ RESULT → x .value ≡ value → x .stamp ≡ stamp

@@ -15,10 +15,14 @@ use Rattle.lists.proofs.Truths.{bool?}
 use Rattle.lists.proofs.Running.{run-on, run-off}
 use Rattle.lists.proofs.Standing.{wrote-nil, wrote-cons, wrote-join, wrote-length}
 use Rattle.number.specs.Number.{form}
+use Rattle.plan.specs.Plan.{Plan}
+use Rattle.store.specs.State.{State}
 use Rattle.page.specs.declared.lines.Lines.{Lines}
-use Rattle.page.specs.Page.{Line, lineBytes, linesBytes, pageBytes, begins}
+use Rattle.page.specs.Page.{analytes, lastSample, Line, linesOf, lineBytes, linesBytes, pageBytes, mostPageBytes, begins}
 use Rattle.page.specs.Workers.{line, lineIn, linesIn}
 use Rattle.page.proofs.PageBytes.{begins-rest}
+use Rattle.page.proofs.PageLines.{lines-few}
+use Rattle.page.proofs.PageLength.{page-length}
 use Rattle.page.proofs.Gathering.{lines-counted}
 
 -- ---- a line
@@ -83,6 +87,12 @@ pub page-wrote : (sample : ℕ) (r : Lines) {b c : List ℕ} {mid : ℕ} {d : Li
     → Wrote c mid (form (r .count)) late d → Wrote d late (linesBytes (linesIn r)) next e → Wrote b 0 (pageBytes sample (linesIn r)) next e
 unfolding pageBytes
 page-wrote sample r p q w = rw lines-counted (wrote-join p (wrote-join q w))
+
+-- The lines of a page of a sample that is not too large are at most 32, and its bytes at most 357.
+pub page-room : (p : Plan) (s : State) (sample : ℕ) (r : Lines) → linesIn r ≡ linesOf p s sample → sample ≤ lastSample
+    → (r .count ≤ analytes) × (length (pageBytes sample (linesIn r)) ≤ mostPageBytes)
+page-room p s sample r e h =
+    (omega (arith, lines-counted r, ap length e, lines-few p s sample 0 analytes), rw e (page-length p s sample h))
 
 -- ---- the page laid into a buffer
 

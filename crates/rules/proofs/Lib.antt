@@ -3,3 +3,5 @@ pub mod Resting
 pub mod Reaching
 pub mod Copying
 pub mod Noding
+pub mod Sorting
+pub mod Judging

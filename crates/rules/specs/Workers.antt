@@ -4,13 +4,15 @@ use mathlib.Core.Bool.{Bool}
 use mathlib.Core.List.{List, []}
 use Prim.Native.Nat.{ℕ, _+_, _*_, _<_, _≤_}
 use lib.ListN.{length, getD}
+use Rattle.lists.specs.Runs.{run}
 use Rattle.plan.specs.Sizes.{mostNodes}
 use Rattle.plan.specs.PlanTable.{planOf}
 use Rattle.store.specs.declared.Copy.{Copy}
 use Rattle.store.specs.declared.Store.{Store}
+use Rattle.store.specs.Copies.{member}
 use Rattle.store.specs.Layout.{width, places, stateOf}
 use Rattle.store.specs.StoreRules.{copyTest, placeTest, nodeTest}
-use Rattle.store.specs.Workers.{RisesIn}
+use Rattle.store.specs.Workers.{numberIn, RisesIn}
 
 -- A store of these columns. No rule of a node reads its searches, so there are none.
 abbrev pub holding : ℕ → ℕ → List ℕ → List ℕ → List ℕ → List ℕ → List ℕ → Store
@@ -43,3 +45,17 @@ pub record Ordered (counts keys : List ℕ) (n : ℕ) : Type 0 where
 -- All nodes from n on are such.
 abbrev pub OrderedFrom : List ℕ → List ℕ → ℕ → Type 0
 OrderedFrom counts keys n = (m : ℕ) → n ≤ m → m < mostNodes → Ordered counts keys m
+
+-- The first so many numbers of a column.
+abbrev pub firsts : ℕ → List ℕ → List ℕ
+firsts held column = run 0 held (numberIn column)
+
+-- The first so many numbers of a column are those of a list, and they rise.
+pub record Sorted (numbers : List ℕ) (held : ℕ) (column : List ℕ) : Type 0 where
+  pub long : length column ≡ places
+  pub rises : RisesIn column 0 held
+  pub same : (v : ℕ) → member v (firsts held column) ≡ member v numbers
+
+-- Every node has room for its copies.
+abbrev pub Fitting : List ℕ → Type 0
+Fitting counts = (n : ℕ) → n < mostNodes → getD counts n 0 ≤ width

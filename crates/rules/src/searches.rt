@@ -9,6 +9,7 @@ ghost use Rattle.store.specs.State.{slotCount, idle};
 ghost use Rattle.store.specs.StoreRules.{slotTest};
 use crate::paths;
 use store::Slot;
+use store::Store;
 
 // "idle slots all zero"
 fn rests(slot: Slot) -> bool
@@ -37,11 +38,11 @@ fn slot_good(plan: u32, slot: Slot) -> bool
 }
 
 // All slots.
-pub fn slots_good(plan: u32, slots: [Slot; 8]) -> bool
+pub fn slots_good(plan: u32, slots: [Slot; Store::SLOTS]) -> bool
     ensures { λ r. ⌜ r ≡ allBelow slotCount (λ i. slotTest (planOf plan) (getD slots i idle)) ⌝ }
 {
     let mut i = 0;
-    while i < 8 {
+    while i < Store::SLOTS {
         if !slot_good(plan, slots[i]) {
             return false;
         }

@@ -1,0 +1,2 @@
+pub mod DecodeWays
+pub mod ScheduleLaws

@@ -1,3 +1,4 @@
 pub mod Schedule
 pub mod Running
 pub mod Promises
+pub mod Workers

@@ -1,1 +1,4 @@
 pub mod Descending
+pub mod Idling
+pub mod Slotting
+pub mod Ending

@@ -1,15 +1,19 @@
 -- What the workers of searches and looks promise, and what they ask of the columns that they are lent.
+use mathlib.Core.Path.{_≡_}
+use mathlib.Core.Bool.{true}
+use mathlib.Core.Logic.{_≢_}
 use mathlib.Core.List.{List}
 use Prim.Native.Nat.{ℕ, _<_, _≤_}
-use lib.ListN.{set}
+use lib.ListN.{getD, set}
 use Rattle.plan.specs.Sizes.{mostNodes}
 use Rattle.plan.specs.Plan.{path}
 use Rattle.plan.specs.PlanTable.{planOf, plans}
 use Rattle.store.specs.declared.Slot.{Slot}
 use Rattle.store.specs.declared.Store.{Store}
 use Rattle.store.specs.Copies.{foundOf}
-use Rattle.store.specs.State.{line, current}
+use Rattle.store.specs.State.{slotCount, idle, line, current}
 use Rattle.store.specs.Layout.{stateOf}
+use Rattle.store.specs.StoreRules.{goodStore}
 use Rattle.store.specs.Workers.{Ordered}
 use Rattle.steps.specs.Searches.{visitsOn}
 use Rattle.searches.specs.declared.lines.Seen.{Seen}
@@ -37,3 +41,9 @@ slotted i q z =
       stamps = z .stamps;
       slots = set (z .slots) i q;
     }
+
+-- A search runs in slot i of a good store.
+pub record Runs (z : Store) (i : ℕ) : Type 0 where
+  pub good : goodStore z ≡ true
+  pub slot : i < slotCount
+  pub runs : getD (z .slots) i idle .running ≢ 0

@@ -3,9 +3,9 @@ ghost use mathlib.Core.Path.{_≡_};
 ghost use Rattle.store.specs.Workers.{holding};
 ghost use Rattle.searches.specs.Workers.{Lookable, seenIn};
 use plan::Hop;
-use store::columns;
 use store::Found;
 use store::Store;
+use store::columns;
 
 // What a look saw: the line's first copy on its path, or nothing, and the nodes visited.
 pub struct Seen {
@@ -30,7 +30,8 @@ pub fn look_down<'a>(
     let mut visits = 0;
     let copy = loop {
         visits += 1;
-        let Found::Held(copy) = columns::look_at(counts, keys, kinds, values, stamps, node, key) else {
+        let Found::Held(copy) = columns::look_at(counts, keys, kinds, values, stamps, node, key)
+        else {
             let Hop::To(to) = plan::next(plan, node, key) else {
                 return Seen {
                     found: Found::Nothing,

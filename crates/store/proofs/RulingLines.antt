@@ -1,12 +1,13 @@
 -- "Down a path, a key's stamps strictly fall", said of any two copies of a key and said of each copy and the first one in reach below
 -- it: the two are one, where keys rise in each node and copies stand on their keys' paths. Assumes nothing.
 use mathlib.Core.Path.{_≡_, refl, sym, ap, _∙_, subst}
-use mathlib.Core.Logic.{_⊎_, ⊎-elim, inl, inr}
+use mathlib.Core.Logic.{_⊎_, ⊎-elim}
 use mathlib.Core.List.{List, [], _∷_}
 use mathlib.Core.Option.{Option, none, some}
 use Prim.Native.Nat.{ℕ, zero, suc, _<_, _≤_}
 use native.Mathlib.Omega.{arith}
 use lib.ListN.{length, getD}
+use Rattle.lists.proofs.Options.{option?, not-none-and-some}
 use Rattle.plan.specs.declared.Hop.{Hop}
 use Rattle.plan.specs.declared.Hop.the-variants.{To, Ends}
 use Rattle.plan.specs.Plan.{Plan, size, next, walk, pathFrom, Reach}
@@ -21,18 +22,10 @@ use Rattle.store.specs.StateRules.{HeldAt, OnPath}
 use Rattle.store.specs.Workers.{below, Rises}
 use Rattle.store.proofs.Seeking.{find-rising, find-some}
 
--- Something was found or nothing was.
-pub some? : {A : Type 0} (o : Option A) → (o ≡ none) ⊎ ((x : A) × (o ≡ some x))
-some? none = inl refl
-some? (some x) = inr (x, refl)
-
-pub not-both-some : {A : Type 0} {o : Option A} {x : A} → o ≡ none → o ≡ some x → ⊥
-not-both-some p q = let z : _≡_ {A = ℕ} 0 1 = cc in omega arith
-
 -- The first copy that a line has in some nodes is its copy in one of them.
 first-at : (l : ℕ → Option Copy) (ns : List ℕ) (y : Copy) → firstOn l ns ≡ some y → (i : ℕ) × (i < length ns) × (l (getD ns i 0) ≡ some y)
 unfolding firstOn
-first-at l [] y e = absurd (not-both-some refl e)
+first-at l [] y e = absurd (not-none-and-some refl e)
 first-at l (n ∷ ns) y e =
     ⊎-elim (λ (q : l n ≡ none).
     let w = first-at l ns y (rw q at e) in
@@ -40,7 +33,7 @@ first-at l (n ∷ ns) y e =
     (λ (w : (x : Copy) × (l n ≡ some x)).
     let q : some (w .0) ≡ some y = rw (w .1) at e in
     (0, omega arith, w .1 ∙ q))
-    (some? (l n))
+    (option? (l n))
 
 -- Of two nodes that one leads to, the lower number leads to the higher.
 lower-leads : (hop : ℕ → Hop) (most : ℕ) → ((n t : ℕ) → hop n ≡ To t → (n < t) × (t < most))

@@ -7,11 +7,9 @@ use mathlib.Core.Option.{Option, none, some}
 use Prim.Native.Nat.{ℕ, _<_, _≤_}
 use native.Mathlib.Omega.{arith}
 use lib.Dec.{eqb}
-use lib.ListN.{length}
 use borrow.Author.Tests.{eqb-true}
 use Rattle.lists.proofs.Options.{not-none-and-some, one-some}
-use Rattle.plan.specs.declared.Hop.the-variants.{To}
-use Rattle.plan.specs.Plan.{Plan, next}
+use Rattle.plan.specs.Plan.{Plan}
 use Rattle.plan.specs.PlanRules.{PlanRules}
 use Rattle.store.specs.declared.Copy.{Copy}
 use Rattle.store.specs.Answers.{DONE}
@@ -23,7 +21,7 @@ use Rattle.steps.specs.Entries.{entered as enteredInto, entry}
 use Rattle.steps.specs.Carries.{bit}
 use Rattle.steps.proofs.WaysOut.{EntryWay, entry-way}
 use Rattle.steps.proofs.WaysOut.EntryWay.{at-last-clock, root-full, enters as copy-enters}
-use Rattle.steps.proofs.LineSteps.{LineStep, LineThrough, entered-line, entry-line, carry-line, start-line, step-line, cancel-line}
+use Rattle.steps.proofs.LineSteps.{LineThrough, entered-line, entry-line, carry-line, start-line, step-line, cancel-line}
 use Rattle.steps.proofs.LineSteps.LineStep.{same}
 use Rattle.steps.proofs.LinesKept.{Came, came, clock-grows}
 use Rattle.steps.proofs.LinesKept.Came.{stood, moved, entered as came-in}

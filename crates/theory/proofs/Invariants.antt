@@ -1,8 +1,7 @@
 -- The paper's structure, kept by every event and so by every sequence: its invariants 1 to 4, from any state that meets the state rules,
 -- with the copies that it holds as the history. Assumes nothing.
 use mathlib.Core.Path.{_≡_, refl, sym, ap, _∙_, subst}
-use mathlib.Core.Bool.{true}
-use mathlib.Core.Logic.{_≢_, _⊎_, inl, inr}
+use mathlib.Core.Logic.{_⊎_, inl, inr}
 use mathlib.Core.List.{
   List,
   [],
@@ -23,7 +22,7 @@ use mathlib.Core.Option.{Option, none, some}
 use Prim.Native.Nat.{ℕ, zero, suc, _<_, _≤_}
 use native.Mathlib.Omega.{arith}
 use native.Mathlib.Decide.{ℕ-discrete}
-use lib.ListN.{length, replicate}
+use lib.ListN.{replicate}
 use Rattle.lists.proofs.Options.{option?, not-none-and-some, one-some}
 use Rattle.lists.proofs.Orders.{Order, order?}
 use Rattle.lists.proofs.Orders.Order.{less, equal, more}
@@ -35,26 +34,16 @@ use Rattle.plan.specs.PlanRules.{PlanRules}
 use Rattle.plan.proofs.NextLaws.{next-down}
 use Rattle.plan.proofs.PathLaws.{reach-on, root-in-plan, path-on}
 use Rattle.store.specs.declared.Copy.{Copy}
-use Rattle.store.specs.Copies.{noCopy, keyOf, stampOf}
-use Rattle.store.specs.State.{State, nodeAt, copyAt, line, inReach, current, fresh}
-use Rattle.store.specs.StateRules.{HeldAt, StateRules}
-use Rattle.store.specs.Calls.{Effect}
+use Rattle.store.specs.Copies.{noCopy, stampOf}
+use Rattle.store.specs.State.{State, nodeAt, line, inReach, current, fresh}
+use Rattle.store.specs.StateRules.{StateRules}
 use Rattle.store.proofs.Lifting.{fresh-rules}
 use Rattle.steps.specs.Carries.{bit}
 use Rattle.steps.proofs.RulesOnLines.{line-rules, line-key, line-held, held-line}
 use Rattle.steps.proofs.LineSteps.{LineThrough}
 use Rattle.steps.proofs.LineSteps.LineStep.{same, enters, carries}
-use Rattle.theory.specs.Events.{Event, effect, after, run, entryOf, optionList, entered, ofLine, carriesLine}
-use Rattle.theory.specs.Paper.{
-  ContentsInReach,
-  History,
-  held,
-  InHistory,
-  HUnique,
-  HClock,
-  Logical,
-  Multicopy,
-}
+use Rattle.theory.specs.Events.{Event, effect, after, run, entryOf, optionList, entered, held, ofLine, carriesLine}
+use Rattle.theory.specs.Paper.{ContentsInReach, History, InHistory, HUnique, Logical, Multicopy}
 use Rattle.theory.proofs.EventSteps.{
   event-keeps,
   event-line,
@@ -67,11 +56,11 @@ use Rattle.theory.proofs.EventSteps.{
 use Rattle.theory.proofs.InReach.{edgesets-apart, in-reach-held, in-reach-newest}
 
 -- What is found is in the history exactly when it has the key and is a member.
-in-history : (h : History) (k : ℕ) (o : Option Copy) → ((x : Copy) → o ≡ some x → (x .key ≡ k) × List·Memᴰ x h) → InHistory h k o
+pub in-history : (h : History) (k : ℕ) (o : Option Copy) → ((x : Copy) → o ≡ some x → (x .key ≡ k) × List·Memᴰ x h) → InHistory h k o
 in-history h k none f = tt
 in-history h k (some x) f = f x refl
 
-history-in : (h : History) (k : ℕ) (o : Option Copy) (x : Copy) → InHistory h k o → o ≡ some x → (x .key ≡ k) × List·Memᴰ x h
+pub history-in : (h : History) (k : ℕ) (o : Option Copy) (x : Copy) → InHistory h k o → o ≡ some x → (x .key ≡ k) × List·Memᴰ x h
 history-in h k none x i e = absurd (not-none-and-some refl e)
 history-in h k (some y) x i e =
     subst (λ (z : Copy). (z .key ≡ k) × List·Memᴰ z h) (one-some refl e) i

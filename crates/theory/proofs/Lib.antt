@@ -3,3 +3,7 @@ pub mod InReach
 pub mod Invariants
 pub mod Updates
 pub mod Searching
+pub mod Recency
+pub mod Looks
+pub mod Bound
+pub mod Reached

@@ -1,9 +1,9 @@
 -- A search in a slot, event by event: what is not its own leaves it, its own step ends it or takes it to the key's next node; and what is
 -- in reach of the node where it stands never gets older. Assumes nothing.
 use mathlib.Core.Path.{_≡_, refl, sym, ap, _∙_, subst}
-use mathlib.Core.Bool.{Bool, true, false, not, _&&_, _||_}
+use mathlib.Core.Bool.{Bool, true, false, not, _&&_}
 use mathlib.Core.Logic.{_≢_, _⊎_, inl, inr}
-use mathlib.Core.List.{List, [], _∷_, _++_}
+use mathlib.Core.List.{List, [], _∷_}
 use mathlib.Core.Option.{Option, none, some}
 use Prim.Native.Nat.{ℕ, suc, _+_, _<_, _≤_}
 use native.Mathlib.Omega.{arith}
@@ -23,14 +23,14 @@ use Rattle.plan.proofs.NextLaws.{next-down}
 use Rattle.store.specs.declared.Answer.{Answer}
 use Rattle.store.specs.declared.Copy.{Copy}
 use Rattle.store.specs.declared.Slot.{Slot}
-use Rattle.store.specs.Answers.{DONE, GOING, answer}
+use Rattle.store.specs.Answers.{DONE, GOING, SLOTS, answer}
 use Rattle.store.specs.Copies.{RESULT, WITHDRAWN, stampOf}
 use Rattle.store.specs.State.{State, slotAt, slotCount, idle, line, orElse, inReach, current}
 use Rattle.store.specs.StateRules.{OnPath, StateRules}
 use Rattle.store.specs.Calls.{Effect}
 use Rattle.store.proofs.RulingLines.{reach-ends, reach-goes}
 use Rattle.steps.specs.Carries.{bit}
-use Rattle.steps.specs.Searches.{running, withSlot, ended, visited, withRunning, stepStep, startStep}
+use Rattle.steps.specs.Searches.{running, withSlot, ended, visited, withRunning, stepStep}
 use Rattle.steps.proofs.WaysOut.{StartWay, start-way, RunningWay, Visit, step-way, Freed, cancel-way}
 use Rattle.steps.proofs.WaysOut.StartWay.{all-running, starts as taken}
 use Rattle.steps.proofs.WaysOut.RunningWay.{no-slot, slot-idle, slot-runs}
@@ -38,13 +38,13 @@ use Rattle.steps.proofs.WaysOut.Visit.{finds, never, goes}
 use Rattle.steps.proofs.WaysOut.Freed.{freed}
 use Rattle.steps.proofs.LineSteps.{slot-set, slot-other, entry-slots, carry-slots}
 use Rattle.steps.proofs.OnPaths.{on-path-in-plan}
-use Rattle.theory.specs.Events.{Event, effect, after, answerOf, run, goesOnThrough, goesOn, isOwnStep, ownSteps, cancelsSlot, notCancelled}
+use Rattle.theory.specs.Events.{Event, effect, after, answerOf, run, goesOnThrough, goesOn, isOwnStep, ownSteps, cancelsSlot, notCancelled, EndsIn}
 use Rattle.theory.specs.Events.Event.{enters, withdraws, carries, starts, steps, cancels, asks}
-use Rattle.theory.proofs.EventSteps.{event-keeps, run-keeps}
+use Rattle.theory.proofs.EventSteps.{event-keeps}
 use Rattle.theory.proofs.Invariants.{reach-increases}
 
 -- A slot that runs is one of the slots.
-slot-there : (s : State) (i : ℕ) → slotAt s i .running ≢ 0 → i < length (s .slots)
+pub slot-there : (s : State) (i : ℕ) → slotAt s i .running ≢ 0 → i < length (s .slots)
 slot-there s i r = go (decLt i (length (s .slots)))
   where
     go : Dec (i < length (s .slots)) → i < length (s .slots)
@@ -128,12 +128,12 @@ module _ (p : Plan) (s : State) (i : ℕ) where
   goes-on-if (starts k) a b = refl
   goes-on-if asks a b = refl
 
-  own-goes-on : goesOnThrough p i (steps i) s ≡ (eqb (answerOf p (steps i) s .number) GOING)
+  pub own-goes-on : goesOnThrough p i (steps i) s ≡ (eqb (answerOf p (steps i) s .number) GOING)
   unfolding goesOnThrough
   own-goes-on = rw (eq-eqb i i refl)
 
   -- A step of a running search is a visit of the node where it stands.
-  own-visit : (k n v : ℕ) → slotAt s i ≡ running k n v → stepStep i p s ≡ visited (line s k n) (next p n k) i (running k n v) s
+  pub own-visit : (k n v : ℕ) → slotAt s i ≡ running k n v → stepStep i p s ≡ visited (line s k n) (next p n k) i (running k n v) s
   unfolding stepStep withRunning
   own-visit k n v e =
       let r : slotAt s i .running ≢ 0 = λ z. let one = ap (λ (q : Slot). q .running) e in omega arith in
@@ -276,15 +276,7 @@ module _ (p : Plan) (rules : PlanRules p) (k t₀ i : ℕ) where
       (goes-through s good v r e (and-left (goesOnThrough p i e s) (goesOn p i es (after p e s)) t))
       (and-right (goesOnThrough p i e s) (goesOn p i es (after p e s)) t))
 
-  -- A sequence with as many steps of its own as are left on the path, in which it is not cancelled, ends it.
-  pub record EndsIn (es : List Event) (s : State) : Type 0 where
-    pub first : List Event
-    pub rest : List Event
-    pub parts : es ≡ first ++ steps i ∷ rest
-    pub until : goesOn p i first s ≡ true
-    pub done : answerOf p (steps i) (run p first s) .number ≡ DONE
-
-  later : (e : Event) (es : List Event) (s : State) → goesOnThrough p i e s ≡ true → EndsIn es (after p e s) → EndsIn (e ∷ es) s
+  later : (e : Event) (es : List Event) (s : State) → goesOnThrough p i e s ≡ true → EndsIn p i es (after p e s) → EndsIn p i (e ∷ es) s
   unfolding goesOn run
   later e es s t w =
       record {
@@ -295,8 +287,9 @@ module _ (p : Plan) (rules : PlanRules p) (k t₀ i : ℕ) where
         done = w .done;
       }
 
+  -- A sequence with as many steps of its own as are left on the path, in which it is not cancelled, ends it.
   pub ends-in : (es : List Event) (s : State) → StateRules p s → (v : ℕ) → Searches p k t₀ i v s → notCancelled i es ≡ true
-      → length (path p k) ≤ ownSteps i es + v → EndsIn es s
+      → length (path p k) ≤ ownSteps i es + v → EndsIn p i es s
   unfolding notCancelled ownSteps goesOn run
   ends-in [] s good v r c h = absurd (omega (arith, in-time s good v r))
   ends-in (e ∷ es) s good v r c h =
@@ -311,15 +304,15 @@ module _ (p : Plan) (rules : PlanRules p) (k t₀ i : ℕ) where
 
       go : (isOwnStep i e ≡ true) ⊎ (isOwnStep i e ≡ false)
           → ((v : ℕ) → Searches p k t₀ i v (after p e s) → notCancelled i es ≡ true → length (path p k) ≤ ownSteps i es + v
-              → EndsIn es (after p e s))
-          → EndsIn (e ∷ es) s
+          → EndsIn p i es (after p e s))
+          → EndsIn p i (e ∷ es) s
       go (inl a) ih = own (own-step s good v r)
         where
           is : e ≡ steps i
           is = own-event i e a
 
           own : Finishes p k t₀ i v s ⊎ (Searches p k t₀ i (suc v) (after p (steps i) s) × (answerOf p (steps i) s .number ≡ GOING))
-              → EndsIn (e ∷ es) s
+              → EndsIn p i (e ∷ es) s
           own (inl f) =
               record {
                 first = [];
@@ -340,18 +333,22 @@ module _ (p : Plan) (rules : PlanRules p) (k t₀ i : ℕ) where
           (ih v (others-pass s good v r e a b) left (let none-own : bit (isOwnStep i e) ≡ 0 = ap bit a in omega arith))
 
 -- A search that has just been started stands at the root after 0 visits.
-pub just-started : (p : Plan) → PlanRules p → (s : State) → StateRules p s → (k i : ℕ) → answerOf p (starts k) s ≡ answer DONE i 0 0 0
-    → Searches p k (stampOf (current p s k)) i 0 (after p (starts k) s)
+pub started-slot : (p : Plan) (s : State) (k i : ℕ) → answerOf p (starts k) s ≡ answer DONE i 0 0 0
+    → slotAt (after p (starts k) s) i ≡ running k 0 0
 unfolding effect
-just-started p rules s good k i h =
-    record {
-      node = 0;
-      at = go (start-way k p s) h;
-      recent = reach-increases p rules s good (starts k) 0 k (root-in-plan p rules k);
-    }
+started-slot p s k i h = go (start-way k p s) h
   where
     go : {o : Effect} → StartWay k s o → o .answer ≡ answer DONE i 0 0 0 → slotAt (o .after) i ≡ running k 0 0
-    go (all-running f) e = let z : _≡_ {A = ℕ} 8 0 = ap (λ (a : Answer). a .number) e in absurd (omega arith)
+    go (all-running f) e = let z : SLOTS ≡ DONE = ap (λ (a : Answer). a .number) e in absurd (omega arith)
     go (taken j f g l) e =
         let its : j ≡ i = ap (λ (a : Answer). a .a) e in
         subst (λ (n : ℕ). slotAt (withSlot j (running k 0 0) s) n ≡ running k 0 0) its (slot-set j (running k 0 0) s f)
+
+pub just-started : (p : Plan) → PlanRules p → (s : State) → StateRules p s → (k i : ℕ) → answerOf p (starts k) s ≡ answer DONE i 0 0 0
+    → Searches p k (stampOf (current p s k)) i 0 (after p (starts k) s)
+just-started p rules s good k i h =
+    record {
+      node = 0;
+      at = started-slot p s k i h;
+      recent = reach-increases p rules s good (starts k) 0 k (root-in-plan p rules k);
+    }

@@ -1,24 +1,23 @@
 -- What an event does to the logical contents, a line's current result: an accepted entry sets its own line's to its copy and leaves every
 -- other; every other event, a carry too, leaves them all; and a refusal leaves the state. Assumes nothing.
 use mathlib.Core.Path.{_≡_, refl, ap, _∙_}
-use mathlib.Core.Bool.{true, false}
 use mathlib.Core.Logic.{_≢_, _⊎_, inl, inr}
-use mathlib.Core.List.{List, [], _∷_, _++_, append-nil, List·Memᴰ, List·Memᴰ·append-cases, Memᴰ·append-left, Memᴰ·append-right}
+use mathlib.Core.List.{List, _++_, List·Memᴰ, List·Memᴰ·append-cases, Memᴰ·append-left, Memᴰ·append-right}
 use mathlib.Core.Option.{Option, none, some}
 use Prim.Native.Nat.{ℕ, _≤_}
 use native.Mathlib.Omega.{arith}
 use native.Mathlib.Decide.{ℕ-discrete}
 use borrow.Author.Tests.{eq-eqb, ne-eqb}
-use Rattle.lists.proofs.Options.{option?, not-none-and-some, one-some}
+use Rattle.lists.proofs.Options.{not-none-and-some, one-some}
 use Rattle.plan.specs.Plan.{Plan}
 use Rattle.plan.specs.PlanRules.{PlanRules}
 use Rattle.store.specs.declared.Copy.{Copy}
 use Rattle.store.specs.Copies.{stampOf}
 use Rattle.store.specs.State.{State, current}
 use Rattle.store.specs.StateRules.{StateRules}
-use Rattle.theory.specs.Events.{Event, effect, after, answerOf, run, entryOf, optionList, entered}
+use Rattle.theory.specs.Events.{Event, after, answerOf, entryOf, optionList, held}
 use Rattle.theory.specs.Events.Event.{carries}
-use Rattle.theory.specs.Paper.{History, InHistory, held, Logical, Multicopy, upserted}
+use Rattle.theory.specs.Paper.{History, InHistory, Logical, Multicopy, upserted}
 use Rattle.theory.proofs.EventSteps.{event-unaltered, entry-stamp}
 use Rattle.theory.proofs.Invariants.{logical-one, option-member, member-option, multicopy-held, multicopy-event}
 

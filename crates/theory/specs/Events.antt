@@ -1,6 +1,7 @@
 -- Sequences of steps on a state, over any plan, and what is counted over them.
+use mathlib.Core.Path.{_≡_}
 use mathlib.Core.Bool.{Bool, true, false, cond, not, _&&_, _||_}
-use mathlib.Core.List.{List, [], _∷_, _++_}
+use mathlib.Core.List.{List, [], _∷_, _++_, flatten}
 use mathlib.Core.Option.{Option, none, some}
 use Prim.Native.Nat.{ℕ, zero, suc, _+_}
 use lib.Dec.{eqb}
@@ -66,6 +67,10 @@ unfoldable pub entered : Plan → List Event → State → List Copy
 entered p [] s = []
 entered p (e ∷ es) s = optionList (entryOf p e s) ++ entered p es (after p e s)
 
+-- The copies that a state holds. A loaded store counts each of them as an entry, and a fresh one holds none.
+unfoldable pub held : State → List Copy
+held s = flatten (s .nodes)
+
 abbrev pub ofLine : ℕ → Option Copy → Bool
 ofLine k none = false
 ofLine k (some x) = eqb (x .key) k
@@ -74,6 +79,14 @@ ofLine k (some x) = eqb (x .key) k
 unfoldable pub entries : Plan → ℕ → List Event → State → ℕ
 entries p k [] s = 0
 entries p k (e ∷ es) s = bit (ofLine k (entryOf p e s)) + entries p k es (after p e s)
+
+-- The copies of a line among some, and those that a state holds.
+unfoldable pub copiesOf : ℕ → List Copy → ℕ
+copiesOf k [] = 0
+copiesOf k (x ∷ xs) = bit (eqb (x .key) k) + copiesOf k xs
+
+abbrev pub heldOf : ℕ → State → ℕ
+heldOf k s = copiesOf k (held s)
 
 -- "A carry carries a line exactly when the node had its copy before and lacks it after."
 unfoldable pub carriesLine : Plan → ℕ → Event → State → Bool
@@ -89,6 +102,14 @@ carriesLine p k asks s = false
 unfoldable pub carried : Plan → ℕ → List Event → State → ℕ
 carried p k [] s = 0
 carried p k (e ∷ es) s = bit (carriesLine p k e s) + carried p k es (after p e s)
+
+-- What a line's copies down a path are worth: each the edges left below its node.
+unfoldable pub worthOn : (ℕ → Option Copy) → List ℕ → ℕ
+worthOn l [] = 0
+worthOn l (n ∷ ns) = cond (isSome (l n)) (length ns) 0 + worthOn l ns
+
+abbrev pub worth : Plan → ℕ → State → ℕ
+worth p k s = worthOn (line s k) (path p k)
 
 -- The search in a slot goes on through an event: it is not cancelled, and a step of its own does not end it.
 unfoldable pub goesOnThrough : Plan → ℕ → Event → State → Bool
@@ -131,6 +152,14 @@ cancelsSlot i asks = false
 unfoldable pub notCancelled : ℕ → List Event → Bool
 notCancelled i [] = true
 notCancelled i (e ∷ es) = not (cancelsSlot i e) && notCancelled i es
+
+-- The search in a slot ends in a sequence: by a step of its own that says DONE, having gone on until then.
+pub record EndsIn (p : Plan) (i : ℕ) (es : List Event) (s : State) : Type 0 where
+  pub first : List Event
+  pub rest : List Event
+  pub parts : es ≡ first ++ steps i ∷ rest
+  pub until : goesOn p i first s ≡ true
+  pub done : answerOf p (steps i) (run p first s) .number ≡ DONE
 
 -- The sequence that reaches demand 3's bound: enter the line, carry it down its whole path, and again, so many times.
 unfoldable pub edgeFor : List Edge → ℕ → ℕ

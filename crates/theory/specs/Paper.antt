@@ -3,7 +3,7 @@
 use mathlib.Core.Path.{_≡_}
 use mathlib.Core.Bool.{true, cond}
 use mathlib.Core.Logic.{_⊎_}
-use mathlib.Core.List.{List, _∷_, _++_, List·Memᴰ, flatten}
+use mathlib.Core.List.{List, _∷_, _++_, List·Memᴰ}
 use mathlib.Core.Option.{Option, none, some}
 use Prim.Native.Nat.{ℕ, suc, _<_, _≤_}
 use lib.Dec.{eqb}
@@ -15,7 +15,7 @@ use Rattle.store.specs.declared.Copy.{Copy}
 use Rattle.store.specs.Copies.{stampOf}
 use Rattle.store.specs.State.{State, line, inReach, current}
 use Rattle.steps.specs.Searches.{ended}
-use Rattle.theory.specs.Events.{Event, after, answerOf, run, entered, ownSteps}
+use Rattle.theory.specs.Events.{Event, after, answerOf, run, entered, held, ownSteps}
 use Rattle.theory.specs.Events.Event.{starts, steps}
 
 -- Contents: C_n(k), the copy of the key in the node, or nothing.
@@ -42,10 +42,6 @@ pub record InReachEquation (p : Plan) (s : State) (n k : ℕ) : Type 0 where
 -- The upsert history: the copies entered or loaded so far, and for every key the copy "never" of stamp 0.
 abbrev pub History : Type 0
 History = List Copy
-
--- The copies that a state holds: a loaded store's history, each loaded copy as an entry. A fresh store's is empty.
-unfoldable pub held : State → History
-held s = flatten (s .nodes)
 
 -- (k, (v, t)) is in H: a copy of the key entered or loaded, or never, at stamp 0.
 abbrev pub InHistory : History → ℕ → Option Copy → Type 0

@@ -69,8 +69,21 @@ module _ {A : Type 0} {R : A → ℕ → Type 0} where
       Given (got y end) = R y end
       Given (fault number at) = Unit
 
+  pub gives-all : ((x : A) (next : ℕ) → R x next) → (m : Got A) → Gives R m
+  gives-all h m = record { each = λ x next e. h x next }
+
   pub gives-check : (test : Bool) (number at : ℕ) (rest : Got A) → (test ≡ true → Gives R rest) → Gives R (cond test rest (fault number at))
   gives-check test number at rest h = record { each = λ x next e. let p = passed test number at rest e in h (p .0) .each x next (p .1) }
+
+  pub gives-fault : (number at : ℕ) → Gives R (fault number at)
+  gives-fault number at = record { each = λ x next e. absurd (got-or-fault e refl) }
+
+  pub gives-cond : (test : Bool) (m k : Got A) → (test ≡ true → Gives R m) → (test ≡ false → Gives R k) → Gives R (cond test m k)
+  gives-cond true m k h g = h refl
+  gives-cond false m k h g = g refl
+
+pub gives-any : {A : Type 0} (m : Got A) → Gives (λ x next. Unit {0}) m
+gives-any m = record { each = λ x next e. tt }
 
 pub gives-bind : {A B : Type 0} {R : A → ℕ → Type 0} {S : B → ℕ → Type 0} (m : Got A) (f : A → ℕ → Got B) → Gives R m
     → ((x : A) (next : ℕ) → R x next → Gives S (f x next)) → Gives S (bind m f)

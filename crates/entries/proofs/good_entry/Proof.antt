@@ -31,7 +31,8 @@ bare-requires c κs = search needs
 returns : tie.Need-returns
 returns c =
     let s = c .before .before in
-    entry-at-last (S s) (s .pre) (s .args .kind) (s .args .key) (s .args .value) (c .bare .result) (c .bare .ensures) (c .before .if1 .taken)
+    let late = c .before .if1 .taken in
+    entry-at-last (S s) (s .pre) (s .args .kind) (s .args .key) (s .args .value) (c .bare .result) (c .bare .ensures) (omega arith)
 
 cast-stamp : tie.Need-cast-stamp
 cast-stamp c = search needs

@@ -1,5 +1,5 @@
 -- `image::reading::read_copies` meets its contract. Assumes nothing.
-use Prim.Native.Nat.{_+_, _-_, _≤_}
+use Prim.Native.Nat.{_-_, _≤_}
 use borrow.Author.Tests.{not-true, not-false}
 use Rattle.wire.specs.declared.Num.{Num}
 use Rattle.image.specs.Loading.{copiesAt}

@@ -79,11 +79,12 @@ loop-again c =
     let s = l .before in
     let t = c .before .to .given .0 .0 in
     let to = sym (c .before .before .before .next .ensures) ∙ c .before .to .given .1 in
-    let d = next-down (planOf (s .args .plan)) (rules s) (l .loop .node) (s .args .key) t to in
-    (d .1,
-    omega arith,
-    l .loop .inv .2
-    ∙ seen-on (lent s) (rules s) (s .args .key) (l .loop .node) (l .loop .visits) (l .loop .inv .0) t (sym (c .before .before .before .before .before .before .look-at .ensures) ∙ c .before .before .before .before .enum-told .given .1) to)
+    let d = next-down (planOf (s .args .plan)) (rules s) (l .loop .node) (s .args .key) t to in (
+      d .1,
+      omega arith,
+      l .loop .inv .2
+          ∙ seen-on (lent s) (rules s) (s .args .key) (l .loop .node) (l .loop .visits) (l .loop .inv .0) t (sym (c .before .before .before .before .before .before .look-at .ensures) ∙ c .before .before .before .before .enum-told .given .1) to,
+    )
 
 returns-2 : tie.Need-returns-2 Inv-loop μ-loop
 returns-2 c =

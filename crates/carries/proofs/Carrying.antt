@@ -1,0 +1,277 @@
+-- A carry on a good store: from the two lists of places to the store of the state after it. Assumes nothing.
+use mathlib.Core.Path.{_≡_, refl, sym, ap, ap₂, _∙_}
+use mathlib.Core.Bool.{true}
+use mathlib.Core.List.{List, [], _∷_, _++_, map}
+use Prim.Native.Nat.{ℕ, _+_, _-_, _*_, _<_, _≤_}
+use native.Mathlib.Omega.{arith}
+use lib.ListN.{length, getD, set, take, replicate, length-map, length-set}
+use lib.Seq.{sets, set-comm, length-take-le, getD-set-other}
+use Rattle.lists.specs.Runs.{run}
+use Rattle.lists.proofs.Running.{map-run}
+use Rattle.plan.specs.declared.Edge.{Edge}
+use Rattle.plan.specs.Sizes.{mostNodes}
+use Rattle.plan.specs.Plan.{Plan, size, capacityOf, edgeOf}
+use Rattle.plan.specs.PlanRules.{PlanRules, IsEdge}
+use Rattle.plan.specs.PlanTable.{planOf}
+use Rattle.store.specs.declared.Answer.{Answer}
+use Rattle.store.specs.declared.Copy.{Copy}
+use Rattle.store.specs.declared.Store.{Store}
+use Rattle.store.specs.Answers.{DONE, answer}
+use Rattle.store.specs.Copies.{noCopy, keyOf}
+use Rattle.store.specs.State.{State, nodeAt}
+use Rattle.store.specs.StateRules.{StateRules}
+use Rattle.store.specs.Layout.{width, places, nodeIn, copyOf, countOf, nodeOf, stateOf, column, storeOf}
+use Rattle.store.specs.StoreRules.{goodStore}
+use Rattle.store.specs.Calls.{onStore}
+use Rattle.store.specs.Workers.{numberIn, itself}
+use Rattle.store.proofs.Laying.{OneNode, set-one, node-laid, node-grown, counts-written, store-is, state-node, state-count, length-nodes, state-clock, state-slots}
+use Rattle.store.proofs.Lifting.{plan-good, state-good, good-back, on-way}
+use Rattle.store.proofs.GoodNodes.{count-fits, node-rises}
+use Rattle.steps.specs.Carries.{Merged, merge, countHeld, mergeAlong, carriedTo, carriedOut, carryStep}
+use Rattle.steps.proofs.Merges.{merging, stay-short, target-long}
+use Rattle.steps.proofs.CarryLaws.{carry-done}
+use Rattle.carries.specs.declared.decision.Merge.{Merge}
+use Rattle.carries.specs.Decisions.{span, Within, Ready, Decided}
+use Rattle.carries.specs.Writings.{gather, Movable, carriedColumn}
+use Rattle.carries.proofs.Passing.{span-length}
+use Rattle.carries.proofs.Mapping.{mapped, merge-map, count-map}
+use Rattle.carries.proofs.InPlace.{together, movable}
+
+-- A node's copies are the copies at its places.
+at-places : (z : Store) (n : ℕ) → nodeOf z n ≡ map (copyOf z) (span (width * n) (width * n + countOf z n))
+unfolding nodeIn
+at-places z n =
+    let c : width * n + countOf z n - width * n ≡ countOf z n = omega arith in
+    rw c (sym (map-run (copyOf z) itself (width * n) (countOf z n)))
+
+-- The numbers of a column at some places are those of the copies there.
+gathered : (part : Copy → ℕ) (copies : ℕ → Copy) (c : List ℕ) → ((j : ℕ) → numberIn c j ≡ part (copies j)) → (list : List ℕ)
+    → gather c list ≡ map part (map copies list)
+gathered part copies c of [] = refl
+gathered part copies c of (j ∷ list) = ap₂ (λ (x : ℕ) (l : List ℕ). x ∷ l) (of j) (gathered part copies c of list)
+
+-- Two nodes are written: t then holds ys, and n, which held more copies by k, holds xs.
+module _ (ns : List (List Copy)) (n t : ℕ) (xs ys : List Copy) (n-there : n < length ns) (t-there : t < length ns) (apart : n ≡ t → ⊥) where
+  first : OneNode t ys ns (set ns t ys)
+  first = set-one ns t ys t-there
+
+  second : OneNode n xs (set ns t ys) (set (set ns n xs) t ys)
+  second = rw (set-comm ns n t xs ys apart) (set-one (set ns t ys) n xs (rw length-set n-there))
+
+  column-written : (part : Copy → ℕ) → part noCopy ≡ 0 → (k : ℕ) → n < mostNodes → t < mostNodes → length (getD ns n []) ≤ length xs + k → length xs + k ≤ width
+      → length (getD ns t []) ≤ length ys → length ys ≤ width
+      → sets (sets (column part ns) (width * t) (map part ys)) (width * n) (map part xs ++ replicate k 0) ≡ column part (set (set ns n xs) t ys)
+  column-written part zero k few fewer over fits grows room =
+      ap₂ (λ (c : List ℕ) (x : ℕ). sets c (width * n) (map part xs ++ replicate k x)) (node-grown first part fewer grows room) (sym zero)
+      ∙ node-laid second part k few (rw (getD-set-other ns t n ys [] apart) over) fits
+
+  both-counts : run 0 mostNodes (λ m. length (getD (set (set ns n xs) t ys) m []))
+      ≡ set (set (run 0 mostNodes (λ m. length (getD ns m []))) n (length xs)) t (length ys)
+  both-counts =
+      counts-written (set-one (set ns n xs) t ys (rw length-set t-there))
+      ∙ ap (λ (l : List ℕ). set l t (length ys)) (counts-written (set-one ns n xs n-there))
+
+-- What a carry comes to, by the counts before and after it.
+out-is : (n : ℕ) (e : Edge) (m : Merged Copy) (s : State) (had held kept got left : ℕ) → length (nodeAt s n) ≡ had
+    → length (nodeAt s (e .target)) ≡ held → length (m .stay) ≡ kept → length (m .target) ≡ got → countHeld keyOf e (m .stay) ≡ left
+    → carriedOut n e m s ≡ record { answer = answer DONE (had - kept) (had - kept - (got - held)) left 0; after = carriedTo n (e .target) m s }
+unfolding carriedOut
+out-is n e m s had held kept got left a b c f g = rw (a, b, c, f, g)
+
+-- The edge i of node n of a good store's plan.
+module _ (z : Store) (good : goodStore z ≡ true) (n i : ℕ) (d : IsEdge (planOf (z .plan)) n i) (e : Edge) (e-is : e ≡ edgeOf (planOf (z .plan)) n i) where
+  abbrev p : Plan
+  p = planOf (z .plan)
+
+  abbrev s : State
+  s = stateOf z
+
+  abbrev t : ℕ
+  t = e .target
+
+  -- "a target has a greater number than its node and exists"
+  pub target-below : n < t
+  target-below = rw e-is (plan-good z good .target-greater-and-exists n i d .0)
+
+  target-there : t < size p
+  target-there = rw e-is (plan-good z good .target-greater-and-exists n i d .1)
+
+  pub target-few : t < mostNodes
+  target-few = omega (arith, target-there, plan-good z good .two-to-eight-nodes)
+
+  pub node-few : n < mostNodes
+  node-few = omega (arith, target-below, target-few)
+
+  node-there : n < size p
+  node-there = d .node
+
+  module _ (capacity : ℕ) (capacity-is : capacity ≡ capacityOf p t) where
+    capacity-few : capacity ≤ width
+    capacity-few = rw capacity-is (plan-good z good .capacity-1-to-64 t target-there .1)
+
+    held-within : countOf z t ≤ capacity
+    held-within = omega (arith, capacity-is, state-good z good .counts-within-capacity t target-there, state-count z t target-there)
+
+    -- Its two nodes can be merged.
+    pub ready : Ready (z .keys) capacity (width * n) (width * n + countOf z n) (width * t) (width * t + countOf z t)
+    ready =
+        let few = node-few in
+        let fewer = target-few in
+        let a = count-fits z good n few in
+        let b = held-within in
+        let c = capacity-few in
+        record {
+          node-within = (omega arith, omega arith, omega arith);
+          target-within = (omega arith, omega arith, omega arith);
+          few = c;
+          node-rises = node-rises z good n (width * n) (width * n + countOf z n) few refl refl;
+          target-rises = node-rises z good t (width * t) (width * t + countOf z t) fewer refl refl;
+        }
+
+    -- The merge of their places, and of their copies.
+    abbrev places-merged : Merged ℕ
+    places-merged = merge (numberIn (z .keys)) capacity e (span (width * n) (width * n + countOf z n)) (span (width * t) (width * t + countOf z t))
+
+    abbrev copies-merged : Merged Copy
+    copies-merged = mapped (copyOf z) places-merged
+
+    copied : mergeAlong p n e s ≡ copies-merged
+    unfolding mergeAlong
+    copied =
+        rw (state-node z n node-there, state-node z t target-there, at-places z n, at-places z t, ← capacity-is)
+        (merge-map keyOf (copyOf z) capacity e (span (width * n) (width * n + countOf z n)) (span (width * t) (width * t + countOf z t)))
+
+    module _ {stay target : List ℕ} {m : Merge} (decided : Decided places-merged stay target m) where
+      kept-is : m .kept ≡ length (places-merged .stay)
+      kept-is =
+          sym (length-take-le (m .kept) stay (omega (arith, decided .stays .long, decided .stays .counted))) ∙ ap length (decided .stays .listed)
+
+      got-is : m .got ≡ length (places-merged .target)
+      got-is =
+          sym (length-take-le (m .got) target (omega (arith, decided .gets .long, decided .gets .counted))) ∙ ap length (decided .gets .listed)
+
+      -- The counts are the lengths of the lists.
+      pub kept-listed : m .kept ≡ length (take (m .kept) stay)
+      kept-listed = kept-is ∙ ap length (sym (decided .stays .listed))
+
+      pub got-listed : m .got ≡ length (take (m .got) target)
+      got-listed = got-is ∙ ap length (sym (decided .gets .listed))
+
+      -- The node's count falls, the target's rises, by no more.
+      pub counts-go : (m .kept ≤ countOf z n) × (countOf z t ≤ m .got) × (m .got - countOf z t ≤ countOf z n - m .kept)
+      counts-go =
+          let xs = span (width * n) (width * n + countOf z n) in
+          let ys = span (width * t) (width * t + countOf z t) in
+          let w = merging (numberIn (z .keys)) capacity e xs ys in
+          let a = span-length (width * n) (width * n + countOf z n) in
+          let b = span-length (width * t) (width * t + countOf z t) in
+          let k = kept-is in
+          let g = got-is in
+          let short = stay-short (numberIn (z .keys)) capacity e w in
+          let long = target-long (numberIn (z .keys)) capacity e w in
+          let sum = together (numberIn (z .keys)) capacity e w in
+          (omega arith, omega arith, omega arith)
+
+      -- The columns can be written in place.
+      pub column-movable : Movable (take (m .kept) stay) (take (m .got) target) (width * n) (countOf z n) (width * t)
+      column-movable =
+          rw (decided .stays .listed, decided .gets .listed)
+          (movable (numberIn (z .keys)) capacity e (width * n) (countOf z n) (width * t) (countOf z t)
+          (omega (arith, target-below, count-fits z good n node-few)) (omega (arith, got-is, decided .gets .counted, target-few)))
+
+      pub stays-within : Within (take (m .kept) stay) places
+      stays-within j h = omega (arith, column-movable .low j h, target-few)
+
+      -- The copies that then stay, and those that the target has.
+      abbrev xs : List Copy
+      xs = map (copyOf z) (places-merged .stay)
+
+      abbrev ys : List Copy
+      ys = map (copyOf z) (places-merged .target)
+
+      stay-count : length xs ≡ m .kept
+      stay-count = length-map (places-merged .stay) (copyOf z) ∙ sym kept-is
+
+      target-count : length ys ≡ m .got
+      target-count = length-map (places-merged .target) (copyOf z) ∙ sym got-is
+
+      node-apart : n ≡ t → ⊥
+      node-apart q = omega (arith, target-below)
+
+      -- One column after the carry.
+      column-after : (part : Copy → ℕ) (c : List ℕ) → part noCopy ≡ 0 → c ≡ column part (s .nodes) → ((j : ℕ) → numberIn c j ≡ part (copyOf z j))
+          → (r : List ℕ) → r ≡ carriedColumn c (take (m .kept) stay) (take (m .got) target) (width * n) (countOf z n) (width * t)
+          → r ≡ column part (set (set (s .nodes) n xs) t ys)
+      unfolding carriedColumn
+      column-after part c zero c-is of r r-is =
+          let go = counts-go in
+          let a = stay-count in
+          let b = target-count in
+          let l = length-nodes z in
+          let there = target-there in
+          let here = node-there in
+          r-is
+          ∙ rw (
+            ← kept-listed,
+            decided .stays .listed,
+            decided .gets .listed,
+            gathered part (copyOf z) c of (places-merged .stay),
+            gathered part (copyOf z) c of (places-merged .target),
+            c-is,
+          )
+          (column-written (s .nodes) n t xs ys (omega arith) (omega arith) node-apart part zero (countOf z n - m .kept) node-few target-few
+          (omega (arith, state-count z n here)) (omega (arith, count-fits z good n node-few)) (omega (arith, state-count z t there))
+          (omega (arith, decided .gets .counted)))
+
+      -- The store after the carry, and its answer.
+      pub carry-is : (a : Answer) (left : ℕ) (keys kinds values stamps : List ℕ)
+          → a ≡ answer DONE (countOf z n - m .kept) (countOf z n - m .kept - (m .got - countOf z t)) left 0
+          → left ≡ countHeld (numberIn (z .keys)) e (take (m .kept) stay)
+          → keys ≡ carriedColumn (z .keys) (take (m .kept) stay) (take (m .got) target) (width * n) (countOf z n) (width * t)
+          → kinds ≡ carriedColumn (z .kinds) (take (m .kept) stay) (take (m .got) target) (width * n) (countOf z n) (width * t)
+          → values ≡ carriedColumn (z .values) (take (m .kept) stay) (take (m .got) target) (width * n) (countOf z n) (width * t)
+          → stamps ≡ carriedColumn (z .stamps) (take (m .kept) stay) (take (m .got) target) (width * n) (countOf z n) (width * t)
+          → record {
+            answer = a;
+            store = record {
+              plan = z .plan;
+              clock = z .clock;
+              counts = set (set (z .counts) n (m .kept)) t (m .got);
+              keys = keys;
+              kinds = kinds;
+              values = values;
+              stamps = stamps;
+              slots = z .slots;
+            };
+          } ≡ onStore (carryStep n i) z
+      unfolding carriedTo storeOf
+      carry-is a left keys kinds values stamps a-is left-is keys-is kinds-is values-is stamps-is =
+          on-way (carryStep n i) z good a (carriedTo n t copies-merged s) _
+          (carry-done p (plan-good z good) s (state-good z good) n i d
+          ∙ ap (λ (f : Edge). carriedOut n f (mergeAlong p n f s) s) (sym e-is)
+          ∙ ap (λ (f : Merged Copy). carriedOut n e f s) copied
+          ∙ out-is n e copies-merged s (countOf z n) (countOf z t) (m .kept) (m .got) left (state-count z n node-there) (state-count z t target-there) stay-count
+          target-count counted
+          ∙ ap (λ (x : Answer). record { answer = x; after = carriedTo n t copies-merged s }) (sym a-is))
+          (store-is (z .plan) (carriedTo n t copies-merged s) _ refl (sym (state-clock z)) counts
+          (column-after (λ (x : Copy). x .key) (z .keys) refl (back (λ (y : Store). y .keys)) (λ j. refl) keys keys-is)
+          (column-after (λ (x : Copy). x .kind) (z .kinds) refl (back (λ (y : Store). y .kinds)) (λ j. refl) kinds kinds-is)
+          (column-after (λ (x : Copy). x .value) (z .values) refl (back (λ (y : Store). y .values)) (λ j. refl) values values-is)
+          (column-after (λ (x : Copy). x .stamp) (z .stamps) refl (back (λ (y : Store). y .stamps)) (λ j. refl) stamps stamps-is)
+          (sym (state-slots z)))
+        where
+          -- What the store has is what the store of its state has.
+          back : (f : Store → List ℕ) → f z ≡ f (storeOf (z .plan) (stateOf z))
+          back f = ap f (sym (good-back z good))
+
+          counted : countHeld keyOf e xs ≡ left
+          counted = count-map keyOf (copyOf z) e (places-merged .stay) ∙ sym (left-is ∙ ap (countHeld (numberIn (z .keys)) e) (decided .stays .listed))
+
+          counts : set (set (z .counts) n (m .kept)) t (m .got) ≡ run 0 mostNodes (λ k. length (getD (set (set (s .nodes) n xs) t ys) k []))
+          counts =
+              let l = length-nodes z in
+              let there = target-there in
+              let here = node-there in
+              ap (λ (l : List ℕ). set (set l n (m .kept)) t (m .got)) (back (λ (y : Store). y .counts))
+              ∙ ap₂ (λ (j k : ℕ). set (set (run 0 mostNodes (λ l. length (nodeAt s l))) n j) t k) (sym stay-count) (sym target-count)
+              ∙ (sym (both-counts (s .nodes) n t xs ys (omega arith) (omega arith) node-apart))

@@ -1,0 +1,55 @@
+// The schedule, lent as a list of step records. These few functions are proved by hand, statement by statement.
+ghost use mathlib.Core.Path.{_≡_};
+ghost use Prim.Native.Nat.{_≤_, _<_};
+ghost use lib.ListN.{length, getD};
+ghost use Rattle.schedule.specs.Schedule.{mostSteps};
+ghost use Rattle.schedule.specs.Running.{noStep};
+ghost use Rattle.schedule.specs.Promises.{Decodes};
+ghost use Rattle.records.specs.Filling.{filled};
+use schedule::decoding;
+use schedule::decoding::Decoded;
+use schedule::Step;
+use store::Answer;
+
+// The record at a place; outside the list the record of zeros, whose step number is unknown.
+fn record_at(list: &[Step], place: usize) -> Step
+    ensures { λ r. ⌜ r ≡ getD (now (list .entry)) place noStep ⌝ }
+{
+    if place < list.len() {
+        return list[place];
+    }
+    Step {
+        number: 0,
+        x: 0,
+        y: 0,
+    }
+}
+
+// A decoded record.
+fn step_in(d: Decoded, i: usize) -> Step
+    requires { ⌜ i < mostSteps ⌝ }
+    ensures { λ r. ⌜ r ≡ getD (d .steps) i noStep ⌝ }
+{
+    d.steps[i]
+}
+
+// Lays the first decoded records down at the beginning of the list.
+fn fill(list: &mut [Step], d: Decoded, n: usize)
+    requires { ⌜ (n ≤ mostSteps) × (n ≤ length (now list)) ⌝ }
+    ensures { λ _. ⌜ now (list .exit) ≡ filled (d .steps) n (now (list .entry)) ⌝ }
+{
+    let mut i: usize = 0;
+    while i < n {
+        list[i] = step_in(d, i);
+        i = i + 1;
+    }
+}
+
+// Decoding into a lent list: a refusal leaves every record, an accepted schedule writes exactly its own.
+pub fn decode(bytes: &[u8], list: &mut [Step]) -> Answer
+    ensures { λ r. ⌜ Decodes (now (bytes .entry)) (now (list .entry)) r (now (list .exit)) ⌝ }
+{
+    let d = decoding::decode_into(bytes, list.len());
+    fill(list, d, d.count);
+    d.answer
+}
