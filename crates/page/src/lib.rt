@@ -7,6 +7,8 @@ ghost use Rattle.store.specs.Layout.{stateOf};
 ghost use Rattle.store.specs.Workers.{holding};
 ghost use Rattle.searches.specs.Workers.{Lookable};
 ghost use Rattle.page.specs.Page.{lastSample, mostPageBytes, pageOf};
+ghost use Rattle.page.specs.Promises.{Pages, Serves};
+use store::Answer;
 use store::Store;
 
 mod lines; // lines.rt: the lines of a page
@@ -19,7 +21,7 @@ pub const LAST_SAMPLE: u32 = 134217727;
 // "At most 357 bytes."
 pub const LONGEST: usize = 357;
 
-// The sample's page as it is now, into a scratch that has room for the longest.
+// The sample's page as it is now, into a scratch that has room for the longest. Gives its length.
 fn write_now<'a>(
     scratch: &mut [u8],
     plan: u32,
@@ -35,4 +37,42 @@ fn write_now<'a>(
 {
     let lines = lines::gather(plan, counts, keys, kinds, values, stamps, sample);
     writing::write_page(scratch, sample, lines)
+}
+
+// The page of a sample into the buffer: BADSTORE, SAMPLE, SMALL with the bytes needed, or DONE with the bytes written.
+pub fn page(store: Store, sample: u32, buffer: &mut [u8]) -> Answer
+    ensures { λ r. ⌜ Pages store sample (now (buffer .entry)) r (now (buffer .exit)) ⌝ }
+{
+    if !rules::good_store(store) {
+        return Answer::bare(Answer::BADSTORE);
+    }
+    if LAST_SAMPLE < sample {
+        return Answer::bare(Answer::SAMPLE);
+    }
+    let mut scratch = [0; LONGEST];
+    let n = write_now(&mut scratch, store.plan, &store.counts, &store.keys, &store.kinds, &store.values, &store.stamps, sample);
+    if buffer.len() < n {
+        return Answer::of(Answer::SMALL, n as u64, 0, 0, 0);
+    }
+    writing::lay(buffer, &scratch[..n]);
+    Answer::of(Answer::DONE, n as u64, 0, 0, 0)
+}
+
+// "If the kept bytes begin with the sample's page as it is now, exactly that beginning is returned; otherwise, and for a bad store or
+// sample, the whole notice."
+pub fn serve<'a>(store: Store, sample: u32, kept: &'a [u8], notice: &'a [u8]) -> &'a [u8]
+    ensures { λ r. ⌜ Serves store sample (kept .entry) (notice .entry) r ⌝ }
+{
+    if !rules::good_store(store) {
+        return notice;
+    }
+    if LAST_SAMPLE < sample {
+        return notice;
+    }
+    let mut scratch = [0; LONGEST];
+    let n = write_now(&mut scratch, store.plan, &store.counts, &store.keys, &store.kinds, &store.values, &store.stamps, sample);
+    if writing::starts_with(kept, &scratch[..n]) {
+        return &kept[..n];
+    }
+    notice
 }

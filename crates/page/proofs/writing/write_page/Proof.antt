@@ -5,16 +5,16 @@ use Rattle.page.proofs.writing.write_page.Statement.{statement}
 use Rattle.page.proofs.writing.write_page.Tie as tie
 
 write-at-requires : tie.Need-write-at-requires
-write-at-requires c κs = let a = c .before .before .args in omega (arith, page-long (a .sample) (a .t3))
+write-at-requires c κs = let a = c .before .before .args in omega (arith, page-long (a .sample) (a .lines))
 
 cast-write-at : tie.Need-cast-write-at
 cast-write-at c = search needs
 
 write-at-requires-2 : tie.Need-write-at-requires-2
-write-at-requires-2 c κs = let a = c .before .before .before .before .before .before .before .args in omega (arith, page-long (a .sample) (a .t3))
+write-at-requires-2 c κs = let a = c .before .before .before .before .before .before .before .args in omega (arith, page-long (a .sample) (a .lines))
 
 write-lines-requires : tie.Need-write-lines-requires
-write-lines-requires c κs = let a = c .before .before .before .before .before .before .before .before .before .before .before .args in (search needs, omega (arith, page-long (a .sample) (a .t3)))
+write-lines-requires c κs = let a = c .before .before .before .before .before .before .before .before .before .before .before .args in (search needs, omega (arith, page-long (a .sample) (a .lines)))
 
 same-length : tie.Need-same-length
 same-length c = search needs
@@ -25,7 +25,7 @@ returns c =
     let second = third .before .before .before .before in
     let first = second .before .before .before .before .before in
     let a = first .before .before .before .args in
-    page-wrote (a .sample) (a .t3) (first .write-at .ensures) (second .write-at2 .ensures) (third .write-lines .ensures)
+    page-wrote (a .sample) (a .lines) (first .write-at .ensures) (second .write-at2 .ensures) (third .write-lines .ensures)
 
 pub write-page-spec : {M : Type 1} → statement M
 write-page-spec =
