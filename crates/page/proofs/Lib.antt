@@ -5,3 +5,4 @@ pub mod PageLength
 pub mod LongestPage
 pub mod Gathering
 pub mod PageWriting
+pub mod PageWays
