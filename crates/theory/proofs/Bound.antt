@@ -15,8 +15,8 @@ use Rattle.plan.specs.Plan.{Plan, next, path, edgesOn, IsPath, Reach}
 use Rattle.plan.specs.Plan.IsPath.{last, more}
 use Rattle.plan.specs.Plan.Reach.{here, there}
 use Rattle.plan.specs.PlanRules.{PlanRules}
-use Rattle.plan.proofs.NextLaws.{not-both-hops, one-target, next-down}
-use Rattle.plan.proofs.PathLaws.{path-is, root-in-plan}
+use Rattle.plan.proofs.NextLaws.{not-both-hops, one-target, next-down, root-in-plan}
+use Rattle.plan.proofs.PathLaws.{path-is}
 use Rattle.store.specs.declared.Copy.{Copy}
 use Rattle.store.specs.Copies.{keyOf, find, isSome}
 use Rattle.store.specs.State.{State, nodeAt, line, fresh}
@@ -153,7 +153,7 @@ module _ (p : Plan) (rules : PlanRules p) (k : ℕ) where
   down n t e = next-down p rules n k t e .0
 
   is-path : IsPath (λ n. next p n k) 0 (path p k)
-  is-path = path-is p rules k 0 (root-in-plan p rules k)
+  is-path = path-is p rules k 0 (root-in-plan p rules)
 
   -- What a line's copies are worth is at most the edges of the path, for each copy held.
   pub worth-held : (s : State) → worth p k s ≤ edgesOn p k * heldOf k s

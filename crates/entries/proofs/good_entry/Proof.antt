@@ -85,8 +85,9 @@ inserted-requires : tie.Need-inserted-requires
 inserted-requires c κs =
     let s = c .before .before .before .before .before .before .before .before .before in
     let w = c .before .before .before .before in
-    let m = c .before .before .capacity in (
-      at-most (S s) (s .pre) (s .args .key) (w .seek .result) (w .seek .ensures),
+    let m = c .before .before .capacity in
+    let a = at-most (S s) (s .pre) (s .args .key) (w .seek .result) (w .seek .ensures) in (
+      omega arith,
       has-place (S s) (s .pre) (m .result) (m .ensures) (c .before .if4 .taken),
       c .before .before .before .before .before .before .before .before .if1 .left,
     )
