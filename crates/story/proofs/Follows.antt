@@ -2,24 +2,22 @@
 use mathlib.Core.Path.{_≡_, refl, sym, ap, _∙_, subst}
 use mathlib.Core.Bool.{Bool, true, false, cond, not, _&&_}
 use mathlib.Core.Logic.{_⊎_, inl, inr}
-use mathlib.Core.List.{List, [], _∷_, _++_}
+use mathlib.Core.List.{List, [], _∷_}
 use mathlib.Core.Option.{Option, none, some}
-use Prim.Native.Nat.{ℕ, _≤_}
+use Prim.Native.Nat.{ℕ}
 use native.Mathlib.Omega.{arith}
 use lib.Dec.{eqb}
 use lib.ListN.{getD}
-use Rattle.lists.proofs.Truths.{bool?, not-both, and-left, and-right, both-le}
+use Rattle.lists.proofs.Truths.{bool?, not-both, and-right, both-le}
 use Rattle.lists.proofs.Options.{option?, not-none-and-some, one-some}
 use Rattle.plan.specs.Plan.{Plan}
 use Rattle.plan.specs.PlanTable.{planOf, plans}
 use Rattle.plan.proofs.TableLaws.{plans-three}
-use Rattle.store.specs.declared.Answer.{Answer}
 use Rattle.store.specs.declared.Outcome.{Outcome}
 use Rattle.store.specs.declared.Store.{Store}
-use Rattle.store.specs.Answers.{DONE, PLAN, bare}
 use Rattle.store.specs.Copies.{isSome}
 use Rattle.store.specs.State.{State}
-use Rattle.store.specs.Layout.{stateOf, storeOf, freshStore}
+use Rattle.store.specs.Layout.{stateOf, storeOf}
 use Rattle.store.specs.StoreRules.{planNumberTest, goodStore}
 use Rattle.store.specs.Calls.{Effect, onStore}
 use Rattle.store.specs.Promises.{freshOutcome}
