@@ -1,6 +1,6 @@
 -- Laws of runs: their length and elements, when a list is one, and tests at each of some numbers in a row. Assumes nothing.
 use mathlib.Core.Path.{_≡_, refl, sym, ap, _∙_}
-use mathlib.Core.Bool.{Bool, true, false}
+use mathlib.Core.Bool.{Bool, true, false, _&&_}
 use mathlib.Core.Logic.{⊎-elim}
 use mathlib.Core.List.{List, [], _∷_, _++_, map}
 use Prim.Native.Nat.{ℕ, zero, suc, _+_, _-_, _<_, _≤_}
@@ -131,3 +131,21 @@ module _ {A : Type 0} (f : ℕ → A) (i n : ℕ) where
   pub run-off : n ≤ i → run i (n - i) f ≡ []
   unfolding run
   run-off h = let s : n - i ≡ 0 = omega arith in rw s
+
+-- Two tests that are the same at each of the numbers are the same for all of them,
+pub same-all : (f g : ℕ → Bool) (i n : ℕ) → ((j : ℕ) → f j ≡ g j) → allFrom i n f ≡ allFrom i n g
+unfolding allFrom
+same-all f g i zero h = refl
+same-all f g i (suc n) h = rw (h i, same-all f g (suc i) n h)
+
+-- and a test of two parts holds for all of them exactly when each part does.
+pub all-and : (f g : ℕ → Bool) (i n : ℕ) → allFrom i n (λ j. f j && g j) ≡ (allFrom i n f && allFrom i n g)
+unfolding allFrom
+all-and f g i zero = refl
+all-and f g i (suc n) = rw (all-and f g (suc i) n) (go (f i) (g i) (allFrom (suc i) n f) (allFrom (suc i) n g))
+  where
+    go : (a b c d : Bool) → (a && b) && (c && d) ≡ (a && c) && (b && d)
+    go false b c d = refl
+    go true b true d = refl
+    go true true false d = refl
+    go true false false d = refl

@@ -1,6 +1,6 @@
 -- `rules::nodes::kind_good` meets its contract. Assumes nothing.
 use mathlib.Core.Path.{sym}
-use Rattle.rules.proofs.Copying.{kind-result, kind-strange, kind-withdrawn}
+use Rattle.rules.proofs.Marking.{kind-result, kind-strange, kind-withdrawn}
 use Rattle.rules.proofs.nodes.kind_good.Statement.{statement}
 use Rattle.rules.proofs.nodes.kind_good.Tie as tie
 
