@@ -1,11 +1,11 @@
 -- The tests of a copy's own numbers and of a used place, way out by way out. Assumes nothing.
 use mathlib.Core.Path.{_≡_}
-use mathlib.Core.Bool.{true, false, and-false, _&&_, _||_}
+use mathlib.Core.Bool.{true, false, and-false}
 use mathlib.Core.List.{List}
 use Prim.Native.Nat.{ℕ, suc, _+_, _<_, _≤_}
 use native.Mathlib.Omega.{arith}
 use native.Mathlib.Numerals.{add-one}
-use lib.Dec.{leb, ltb, eqb}
+use lib.Dec.{ltb, eqb}
 use borrow.Author.Tests.{eq-eqb, ne-eqb, le-leb, lt-leb}
 use Rattle.store.specs.declared.Copy.{Copy}
 use Rattle.store.specs.declared.Store.{Store}

@@ -1,24 +1,24 @@
 -- The test of the paths of copies, way out by way out; it reads neither clock nor kinds nor values; and with the test of a node's own
 -- numbers it is the test of the node. Assumes nothing.
 use mathlib.Core.Path.{_≡_, refl, sym, ap, _∙_}
-use mathlib.Core.Bool.{Bool, true, false, and-true, and-false, _&&_, _||_}
+use mathlib.Core.Bool.{Bool, true, false, and-true, and-false, _&&_}
 use mathlib.Core.List.{List, [], _∷_, map}
 use mathlib.Core.Option.{Option, none, some, Option·map}
-use Prim.Native.Nat.{ℕ, suc, _+_, _-_, _*_, _<_, _≤_}
+use Prim.Native.Nat.{ℕ, _+_, _-_, _*_, _<_}
 use native.Mathlib.Omega.{arith}
 use native.Mathlib.Decide.{decLt}
 use lib.Dec.{leb, ltb}
 use lib.ListN.{getD}
-use Rattle.lists.specs.Runs.{run, allFrom, allBelow}
+use Rattle.lists.specs.Runs.{allFrom, allBelow}
 use Rattle.lists.proofs.Running.{map-run, same-all, all-and}
 use Rattle.plan.specs.Sizes.{mostNodes}
 use Rattle.plan.specs.declared.Hop.{Hop}
-use Rattle.plan.specs.Plan.{Plan, size, capacityOf, next, walk, path}
+use Rattle.plan.specs.Plan.{size, capacityOf, next, walk, path}
 use Rattle.plan.specs.PlanTable.{planOf}
 use Rattle.store.specs.declared.Copy.{Copy}
 use Rattle.store.specs.declared.Store.{Store}
 use Rattle.store.specs.Copies.{copy, keyOf, find, stampOf, member}
-use Rattle.store.specs.State.{State, nodeAt, line, orElse, firstOn, inReach}
+use Rattle.store.specs.State.{line, orElse, firstOn, inReach}
 use Rattle.store.specs.Layout.{width, copyIn, nodeIn, copyOf, countOf, nodeOf, stateOf}
 use Rattle.store.specs.StoreRules.{kindTest, copyTest, placeTest, unusedTest, nodeTest}
 use Rattle.store.specs.Workers.{numberIn}

@@ -1,5 +1,5 @@
 -- The test of a node's own numbers, way out by way out, and that a look in a node that passes can go by halves. Assumes nothing.
-use mathlib.Core.Path.{_≡_, refl, sym, ap, _∙_}
+use mathlib.Core.Path.{_≡_, sym, ap, _∙_}
 use mathlib.Core.Bool.{Bool, true, false, and-false, _&&_}
 use mathlib.Core.Logic.{⊎-elim}
 use mathlib.Core.List.{[]}
@@ -7,7 +7,7 @@ use Prim.Native.Nat.{ℕ, suc, _+_, _-_, _*_, _<_, _≤_}
 use native.Mathlib.Omega.{arith}
 use native.Mathlib.Decide.{decLt}
 use lib.Dec.{leb, ltb}
-use lib.ListN.{getD, List·getD-eq-default}
+use lib.ListN.{List·getD-eq-default}
 use lib.Seq.{slice}
 use borrow.Author.Tests.{le-leb, lt-leb, leb-true, ltb-true}
 use Rattle.lists.specs.Runs.{allFrom, allBelow}

@@ -73,7 +73,13 @@ fn used_good<'a>(
         let kind = kinds[i];
         let value = values[i];
         let stamp = stamps[i];
-        if !mark_good(clock, Copy { key: key, kind: kind, value: value, stamp: stamp }) {
+        let x = Copy {
+            key: key,
+            kind: kind,
+            value: value,
+            stamp: stamp,
+        };
+        if !mark_good(clock, x) {
             return false;
         }
         i += 1;

@@ -61,16 +61,16 @@ pub fn stands_at<'a>(
     ensures { λ r. ⌜ r ≡ standsAt node (path (planOf plan) key) above ⌝ }
 {
     let mut left = plan::nodes(plan);
-    let mut hop = Hop::To(0);
+    let mut step = Hop::To(0);
     let mut over = above;
     while 0 < left {
-        let Hop::To(at) = hop else {
+        let Hop::To(at) = step else {
             return false;
         };
         if over == 0 {
             return node == at;
         }
-        hop = arrays::next_in(edges, lows, highs, targets, at, key);
+        step = arrays::next_in(edges, lows, highs, targets, at, key);
         over -= 1;
         left -= 1;
     }
@@ -131,7 +131,19 @@ fn copy_placed<'a>(
     if !on_path(plan, edges, lows, highs, targets, key, node) {
         return false;
     }
-    stamp_below(plan, edges, lows, highs, targets, counts, keys, stamps, node, key) < stamps[i]
+    stamp_below(
+        plan,
+        edges,
+        lows,
+        highs,
+        targets,
+        counts,
+        keys,
+        stamps,
+        node,
+        key,
+    )
+        < stamps[i]
 }
 
 // The copies of a node.
@@ -153,7 +165,18 @@ fn node_placed<'a>(
     let end = Store::WIDTH * n + counts[n] as usize;
     let mut i = Store::WIDTH * n;
     while i < end {
-        if !copy_placed(plan, edges, lows, highs, targets, counts, keys, stamps, node, i) {
+        if !copy_placed(
+            plan,
+            edges,
+            lows,
+            highs,
+            targets,
+            counts,
+            keys,
+            stamps,
+            node,
+            i,
+        ) {
             return false;
         }
         i += 1;
@@ -177,7 +200,17 @@ pub fn nodes_placed<'a>(
 {
     let mut node = 0;
     while node < Store::NODES as u32 {
-        if !node_placed(plan, edges, lows, highs, targets, counts, keys, stamps, node) {
+        if !node_placed(
+            plan,
+            edges,
+            lows,
+            highs,
+            targets,
+            counts,
+            keys,
+            stamps,
+            node,
+        ) {
             return false;
         }
         node += 1;

@@ -1,3 +1,4 @@
+-- `rules::good` meets its contract: the test of all store rules, of the store that is lent. Assumes nothing.
 use mathlib.Core.Path.{_≡_, sym, _∙_}
 use native.Mathlib.Omega.{arith}
 use lib.ListN.{length}
@@ -20,11 +21,6 @@ use Rattle.rules.proofs.Judging.{
 use borrow.Author.Needs.{needs}
 use Rattle.rules.proofs.good.Statement.{statement}
 use Rattle.rules.proofs.good.Tie as tie
-use Rattle.rules.proofs.good.Reads as reads
-use Rattle.rules.proofs.good.Lts as lts
-use Rattle.rules.proofs.nodes.nodes_tidy.Reads as nodes-tidy-reads
-use Rattle.rules.proofs.on_their_paths.Reads as on-their-paths-reads
-use Rattle.rules.proofs.stamps.stamps_differ.Reads as stamps-differ-reads
 
 -- The store of what is lent and given.
 abbrev asked : tie.Start → Store
@@ -45,7 +41,7 @@ eight : (s : tie.Start) → length (s .args .slots) ≡ slotCount
 eight s = search needs
 
 returns : tie.Need-returns
-returns c = sym (number-fails (asked (c .before)) (number-low (c .before .args .plan) (c .if1 .taken)))
+returns c = sym (number-fails (asked (c .before)) (number-low (c .before .args .plan) (omega arith)))
 
 cast-if2 : tie.Need-cast-if2
 cast-if2 c = search needs
@@ -53,12 +49,12 @@ cast-if2 c = search needs
 returns-2 : tie.Need-returns-2
 returns-2 c =
     let s = c .before .before in
-    sym (number-fails (asked s) (number-high (s .args .plan) (c .if2 .taken)))
+    sym (number-fails (asked s) (number-high (s .args .plan) (omega arith)))
 
 returns-3 : tie.Need-returns-3
 returns-3 c =
     let s = c .before .before .before in
-    sym (clock-fails (asked s) (clock-low (s .args .clock) (c .if3 .taken)))
+    sym (clock-fails (asked s) (clock-low (s .args .clock) (omega arith)))
 
 nodes-tidy-requires : tie.Need-nodes-tidy-requires
 nodes-tidy-requires c κs =

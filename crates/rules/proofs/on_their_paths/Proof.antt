@@ -1,3 +1,4 @@
+-- `rules::on_their_paths` meets its contract. Assumes nothing.
 use mathlib.Core.Path.{sym, _∙_}
 use mathlib.Core.List.{[]}
 use borrow.Author.Tests.{not-true, not-false}
@@ -6,14 +7,6 @@ use Rattle.rules.proofs.Judging.{slots-fail, placed-decides}
 use borrow.Author.Needs.{needs}
 use Rattle.rules.proofs.on_their_paths.Statement.{statement}
 use Rattle.rules.proofs.on_their_paths.Tie as tie
-use Rattle.rules.proofs.on_their_paths.Reads as reads
-use Rattle.rules.proofs.on_their_paths.Lts as lts
-use Rattle.plan.proofs.edge_counts_of.Reads as edge-counts-of-reads
-use Rattle.plan.proofs.highest_of.Reads as highest-of-reads
-use Rattle.plan.proofs.lowest_of.Reads as lowest-of-reads
-use Rattle.plan.proofs.targets_of.Reads as targets-of-reads
-use Rattle.rules.proofs.paths.nodes_placed.Reads as nodes-placed-reads
-use Rattle.rules.proofs.searches.slots_good.Reads as slots-good-reads
 
 -- The store of what is lent and given, as far as the tests read it.
 abbrev asked : tie.Start → Store

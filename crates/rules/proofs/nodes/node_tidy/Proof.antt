@@ -1,3 +1,4 @@
+-- `rules::nodes::node_tidy` meets its contract. Assumes nothing.
 use mathlib.Core.Path.{refl, sym, _∙_}
 use Prim.Native.Nat.{_+_, _*_}
 use native.Mathlib.Omega.{arith}
@@ -12,11 +13,6 @@ use Rattle.rules.proofs.Tidying.{capacity-fits, node-over, node-used, n
 use borrow.Author.Needs.{needs}
 use Rattle.rules.proofs.nodes.node_tidy.Statement.{statement}
 use Rattle.rules.proofs.nodes.node_tidy.Tie as tie
-use Rattle.rules.proofs.nodes.node_tidy.Reads as reads
-use Rattle.rules.proofs.nodes.node_tidy.Lts as lts
-use Rattle.plan.proofs.capacity.Reads as capacity-reads
-use Rattle.rules.proofs.nodes.unused_good.Reads as unused-good-reads
-use Rattle.rules.proofs.nodes.used_good.Reads as used-good-reads
 
 -- The store of the columns lent.
 abbrev lent : tie.Start → Store

@@ -1,3 +1,5 @@
+-- `rules::nodes::nodes_tidy` meets its contract. The loop's invariant: all nodes pass if those from this one on do. The measure is their number.
+-- Assumes nothing.
 use mathlib.Core.Path.{_≡_, refl, sym, _∙_}
 use Prim.Native.Nat.{_-_, _≤_}
 use native.Mathlib.Omega.{arith}
@@ -10,9 +12,6 @@ use Rattle.store.specs.declared.Store.{Store}
 use Rattle.rules.specs.Workers.{holding, tidyTest}
 use Rattle.rules.proofs.nodes.nodes_tidy.Statement.{statement}
 use Rattle.rules.proofs.nodes.nodes_tidy.Tie as tie
-use Rattle.rules.proofs.nodes.nodes_tidy.Reads as reads
-use Rattle.rules.proofs.nodes.nodes_tidy.Lts as lts
-use Rattle.rules.proofs.nodes.node_tidy.Reads as node-tidy-reads
 
 abbrev Inv-loop : tie.InvT-loop
 Inv-loop plan clock counts keys kinds values stamps node₀ node =

@@ -1,3 +1,5 @@
+-- `rules::nodes::used_good` meets its contract. The loop's invariant: all places pass if those from i on do. The measure is their number.
+-- Assumes nothing.
 use mathlib.Core.Path.{_≡_, refl, sym, _∙_}
 use mathlib.Core.List.{[]}
 use Prim.Native.Nat.{_-_, _≤_}
@@ -11,10 +13,6 @@ use Rattle.rules.specs.Workers.{holding, usedTest}
 use Rattle.rules.proofs.Marking.{used-order, used-mark}
 use Rattle.rules.proofs.nodes.used_good.Statement.{statement}
 use Rattle.rules.proofs.nodes.used_good.Tie as tie
-use Rattle.rules.proofs.nodes.used_good.Reads as reads
-use Rattle.rules.proofs.nodes.used_good.Lts as lts
-use Rattle.rules.proofs.nodes.key_rises.Reads as key-rises-reads
-use Rattle.rules.proofs.nodes.mark_good.Reads as mark-good-reads
 
 abbrev Inv-loop : tie.InvT-loop
 Inv-loop clock keys kinds values stamps from end i₀ i =
@@ -91,11 +89,12 @@ loop-again : tie.Need-loop-again Inv-loop μ-loop
 loop-again c =
     let l = c .before .before .before .before .before .before .before .before .before in
     let s = l .before in
-    let mark = c .before .mark-good in
-    (omega arith,
-    l .loop .inv .1
-    ∙ all-turn (usedTest (lent s) (s .args .end)) (l .loop .i) (s .args .end) (omega (arith, c .before .before .before .before .before .before .before .before .loop-test))
-    (used-mark (lent s) (s .args .end) (l .loop .i) (sym (c .before .before .before .before .before .before .before .key-rises .ensures) ∙ not-false (c .before .before .before .before .before .before .before .key-rises .result) (c .before .before .before .before .before .before .if1 .left)) ∙ sym (mark .ensures) ∙ not-false (mark .result) (c .if2 .left)))
+    let mark = c .before .mark-good in (
+      omega arith,
+      l .loop .inv .1
+          ∙ all-turn (usedTest (lent s) (s .args .end)) (l .loop .i) (s .args .end) (omega (arith, c .before .before .before .before .before .before .before .before .loop-test))
+          (used-mark (lent s) (s .args .end) (l .loop .i) (sym (c .before .before .before .before .before .before .before .key-rises .ensures) ∙ not-false (c .before .before .before .before .before .before .before .key-rises .result) (c .before .before .before .before .before .before .if1 .left)) ∙ sym (mark .ensures) ∙ not-false (mark .result) (c .if2 .left)),
+    )
 
 returns-3 : tie.Need-returns-3 Inv-loop μ-loop
 returns-3 c =

@@ -1,3 +1,4 @@
+-- `rules::paths::copy_placed` meets its contract. Assumes nothing.
 use mathlib.Core.Path.{sym, _∙_}
 use borrow.Author.Tests.{not-true, not-false}
 use Rattle.store.specs.declared.Store.{Store}
@@ -6,10 +7,6 @@ use Rattle.rules.proofs.Placing.{placed-off, placed-falls}
 use borrow.Author.Needs.{needs}
 use Rattle.rules.proofs.paths.copy_placed.Statement.{statement}
 use Rattle.rules.proofs.paths.copy_placed.Tie as tie
-use Rattle.rules.proofs.paths.copy_placed.Reads as reads
-use Rattle.rules.proofs.paths.copy_placed.Lts as lts
-use Rattle.rules.proofs.paths.on_path.Reads as on-path-reads
-use Rattle.rules.proofs.paths.stamp_below.Reads as stamp-below-reads
 
 -- The store of the columns lent.
 abbrev lent : tie.Start → Store

@@ -1,3 +1,5 @@
+-- `rules::paths::node_placed` meets its contract. The loop's invariant: all copies pass if those from i on do. The measure is their number.
+-- Assumes nothing.
 use mathlib.Core.Path.{_≡_, refl, sym, _∙_}
 use Prim.Native.Nat.{_+_, _-_, _*_, _≤_}
 use native.Mathlib.Omega.{arith}
@@ -12,9 +14,6 @@ use Rattle.rules.specs.Workers.{keyed, placedTest, pathsTest}
 use Rattle.rules.proofs.Placing.{paths-within}
 use Rattle.rules.proofs.paths.node_placed.Statement.{statement}
 use Rattle.rules.proofs.paths.node_placed.Tie as tie
-use Rattle.rules.proofs.paths.node_placed.Reads as reads
-use Rattle.rules.proofs.paths.node_placed.Lts as lts
-use Rattle.rules.proofs.paths.copy_placed.Reads as copy-placed-reads
 
 abbrev Inv-loop : tie.InvT-loop
 Inv-loop plan edges lows highs targets counts keys stamps node n end i₀ i =

@@ -1,3 +1,5 @@
+-- `rules::paths::nodes_placed` meets its contract. The loop's invariant: all nodes pass if those from this one on do. The measure is their
+-- number. Assumes nothing.
 use mathlib.Core.Path.{_≡_, refl, sym, _∙_}
 use Prim.Native.Nat.{_-_, _≤_}
 use native.Mathlib.Omega.{arith}
@@ -10,9 +12,6 @@ use Rattle.store.specs.declared.Store.{Store}
 use Rattle.rules.specs.Workers.{keyed, pathsTest}
 use Rattle.rules.proofs.paths.nodes_placed.Statement.{statement}
 use Rattle.rules.proofs.paths.nodes_placed.Tie as tie
-use Rattle.rules.proofs.paths.nodes_placed.Reads as reads
-use Rattle.rules.proofs.paths.nodes_placed.Lts as lts
-use Rattle.rules.proofs.paths.node_placed.Reads as node-placed-reads
 
 abbrev Inv-loop : tie.InvT-loop
 Inv-loop plan edges lows highs targets counts keys stamps node₀ node =

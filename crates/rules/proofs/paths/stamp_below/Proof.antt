@@ -1,3 +1,5 @@
+-- `rules::paths::stamp_below` meets its contract. The loop's invariant: the next step leads to a node of the plan, and the stamp in reach is
+-- the one in reach from there. The measure is how many nodes may come. Assumes nothing.
 use mathlib.Core.Path.{_≡_, sym, ap, _∙_}
 use mathlib.Core.Logic.{⊎-elim}
 use Prim.Native.Nat.{_+_, _-_, _*_, _<_}
@@ -29,11 +31,6 @@ use Rattle.rules.proofs.Reaching.{
 }
 use Rattle.rules.proofs.paths.stamp_below.Statement.{statement}
 use Rattle.rules.proofs.paths.stamp_below.Tie as tie
-use Rattle.rules.proofs.paths.stamp_below.Reads as reads
-use Rattle.rules.proofs.paths.stamp_below.Lts as lts
-use Rattle.plan.proofs.arrays.next_in.Reads as next-in-reads
-use Rattle.plan.proofs.nodes.Reads as nodes-reads
-use Rattle.store.proofs.columns.seek.Reads as seek-reads
 
 abbrev Inv-loop : tie.InvT-loop
 Inv-loop plan edges lows highs targets counts keys stamps node key left₀ hop₀ left hop =
@@ -54,10 +51,11 @@ loop-holds c =
     let s = c .before .before in
     let a = s .args in
     let rules = number-rules (a .plan) (s .pre .0) in
-    let e = next-here (s .pre .1) (a .node) (a .key) (c .next-in .result) (c .next-in .ensures) in
-    (leads-on (planOf (a .plan)) rules (a .node) (a .key) (c .next-in .result) e,
-    ap (λ (h : Hop). stampOf (inReach (planOf (a .plan)) (stateOf (keyed (a .plan) (a .counts .now) (a .keys .now) (a .stamps .now))) (a .key) h)) (sym e)
-    ∙ reach-starts (a .plan) (a .counts .now) (a .keys .now) (a .stamps .now) (a .key) (c .before .nodes .result) (c .next-in .result) (c .before .nodes .ensures))
+    let e = next-here (s .pre .1) (a .node) (a .key) (c .next-in .result) (c .next-in .ensures) in (
+      leads-on (planOf (a .plan)) rules (a .node) (a .key) (c .next-in .result) e,
+      ap (λ (h : Hop). stampOf (inReach (planOf (a .plan)) (stateOf (keyed (a .plan) (a .counts .now) (a .keys .now) (a .stamps .now))) (a .key) h)) (sym e)
+          ∙ reach-starts (a .plan) (a .counts .now) (a .keys .now) (a .stamps .now) (a .key) (c .before .nodes .result) (c .next-in .result) (c .before .nodes .ensures),
+    )
 
 enum-known-hop : tie.Need-enum-known-hop Inv-loop μ-loop
 enum-known-hop c = search needs
@@ -194,11 +192,12 @@ loop-again c =
     let at = k .before .hop .given in
     let seek = c .before .before .seek in
     let rules = number-rules (a .plan) (s .pre .0) in
-    let e = next-here (s .pre .1) (at .0 .0) (a .key) (c .next-in2 .result) (c .next-in2 .ensures) in
-    (leads-on (planOf (a .plan)) rules (at .0 .0) (a .key) (c .next-in2 .result) e,
-    l .loop .inv .1
-    ∙ reach-on (a .plan) (a .counts .now) (a .keys .now) (a .stamps .now) (a .key) (l .loop .left) (l .loop .hop) (at .0 .0) (omega (arith, k .before .before .before .loop-test)) (at .1) (h .0) (h .2) (seek .result) (seek .ensures) (apart (c .before))
-    ∙ ap (stampOn (a .plan) (a .counts .now) (a .keys .now) (a .stamps .now) (a .key) (l .loop .left - 1)) (sym e))
+    let e = next-here (s .pre .1) (at .0 .0) (a .key) (c .next-in2 .result) (c .next-in2 .ensures) in (
+      leads-on (planOf (a .plan)) rules (at .0 .0) (a .key) (c .next-in2 .result) e,
+      l .loop .inv .1
+          ∙ reach-on (a .plan) (a .counts .now) (a .keys .now) (a .stamps .now) (a .key) (l .loop .left) (l .loop .hop) (at .0 .0) (omega (arith, k .before .before .before .loop-test)) (at .1) (h .0) (h .2) (seek .result) (seek .ensures) (apart (c .before))
+          ∙ ap (stampOn (a .plan) (a .counts .now) (a .keys .now) (a .stamps .now) (a .key) (l .loop .left - 1)) (sym e),
+    )
 
 returns-3 : tie.Need-returns-3 Inv-loop μ-loop
 returns-3 c =
