@@ -1,4 +1,4 @@
--- `rules::nodes::node_good` meets its contract. Assumes nothing.
+-- `rules::nodes::node_tidy` meets its contract. Assumes nothing.
 use mathlib.Core.Path.{refl, sym, _∙_}
 use Prim.Native.Nat.{_+_, _*_}
 use native.Mathlib.Omega.{arith}
@@ -9,10 +9,10 @@ use Rattle.store.specs.declared.Store.{Store}
 use Rattle.store.specs.Layout.{width}
 use Rattle.rules.specs.Workers.{holding}
 use Rattle.rules.proofs.Reaching.{number-rules}
-use Rattle.rules.proofs.Noding.{capacity-fits, node-over, node-used, node-unused}
+use Rattle.rules.proofs.Tidying.{capacity-fits, node-over, node-used, node-unused}
 use borrow.Author.Needs.{needs}
-use Rattle.rules.proofs.nodes.node_good.Statement.{statement}
-use Rattle.rules.proofs.nodes.node_good.Tie as tie
+use Rattle.rules.proofs.nodes.node_tidy.Statement.{statement}
+use Rattle.rules.proofs.nodes.node_tidy.Tie as tie
 
 -- The store of the columns lent.
 abbrev lent : tie.Start → Store
@@ -52,7 +52,7 @@ used-good-requires c κs =
     let n = a .node in
     let cap = c .before .capacity .ensures in
     let fits = capacity-fits (planOf (a .plan)) (number-rules (a .plan) (s .pre .1)) n in
-    (omega arith, refl, s .pre .1, s .pre .2, s .pre .4)
+    omega arith
 
 returns-2 : tie.Need-returns-2
 returns-2 c =
@@ -73,7 +73,7 @@ unused-good-requires c κs =
     let n = a .node in
     let cap = c .before .before .before .capacity .ensures in
     let fits = capacity-fits (planOf (a .plan)) (number-rules (a .plan) (s .pre .1)) n in
-    let size = s .pre .3 in
+    let size = s .pre .2 in
     (omega arith, omega arith, size .keys-512, size .kinds-512, size .values-512, size .stamps-512)
 
 returns-3 : tie.Need-returns-3
@@ -87,8 +87,8 @@ returns-3 c =
     c .unused-good .ensures
     ∙ sym (node-unused (lent s) n (width * n) (width * n + getD (a .counts .now) n 0) refl refl (omega arith) (sym (used .ensures) ∙ not-false (used .result) (c .before .if2 .left)))
 
-pub node-good-spec : {M : Type 1} → statement M
-node-good-spec =
+pub node-tidy-spec : {M : Type 1} → statement M
+node-tidy-spec =
     tie.close
     (tie.spec
     mul-count

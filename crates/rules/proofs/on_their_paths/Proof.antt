@@ -1,23 +1,24 @@
--- `rules::parts_good` meets its contract. Assumes nothing.
+-- `rules::on_their_paths` meets its contract. Assumes nothing.
 use mathlib.Core.Path.{sym, _∙_}
+use mathlib.Core.List.{[]}
 use borrow.Author.Tests.{not-true, not-false}
 use Rattle.store.specs.declared.Store.{Store}
-use Rattle.rules.proofs.Judging.{slots-fail, nodes-decide}
+use Rattle.rules.proofs.Judging.{slots-fail, placed-decides}
 use borrow.Author.Needs.{needs}
-use Rattle.rules.proofs.parts_good.Statement.{statement}
-use Rattle.rules.proofs.parts_good.Tie as tie
+use Rattle.rules.proofs.on_their_paths.Statement.{statement}
+use Rattle.rules.proofs.on_their_paths.Tie as tie
 
--- The store of what is lent and given.
+-- The store of what is lent and given, as far as the tests read it.
 abbrev asked : tie.Start → Store
 asked s =
     let a = s .args in
     record {
       plan = a .plan;
-      clock = a .clock;
+      clock = 0;
       counts = a .counts .now;
       keys = a .keys .now;
-      kinds = a .kinds .now;
-      values = a .values .now;
+      kinds = [];
+      values = [];
       stamps = a .stamps .now;
       slots = a .slots;
     }
@@ -42,16 +43,16 @@ returns c =
     let slots = c .before .slots-good in
     slots-fail (asked (c .before .before .before .before .before .before .before .before .before .before)) (sym (slots .ensures) ∙ not-true (slots .result) (c .if1 .taken))
 
-nodes-good-requires : tie.Need-nodes-good-requires
-nodes-good-requires c κs = search needs
+nodes-placed-requires : tie.Need-nodes-placed-requires
+nodes-placed-requires c κs = search needs
 
 returns-2 : tie.Need-returns-2
 returns-2 c =
     let slots = c .before .before .before .before .before .before .slots-good in
-    c .nodes-good .ensures ∙ nodes-decide (asked (c .before .before .before .before .before .before .before .before .before .before .before .before .before .before .before)) (sym (slots .ensures) ∙ not-false (slots .result) (c .before .before .before .before .before .if1 .left))
+    c .nodes-placed .ensures ∙ placed-decides (asked (c .before .before .before .before .before .before .before .before .before .before .before .before .before .before .before)) (sym (slots .ensures) ∙ not-false (slots .result) (c .before .before .before .before .before .if1 .left))
 
-pub parts-good-spec : {M : Type 1} → statement M
-parts-good-spec =
+pub on-their-paths-spec : {M : Type 1} → statement M
+on-their-paths-spec =
     tie.close
     (tie.spec
     edge-counts-of-requires
@@ -60,5 +61,5 @@ parts-good-spec =
     targets-of-requires
     slots-good-requires
     returns
-    nodes-good-requires
+    nodes-placed-requires
     returns-2)
