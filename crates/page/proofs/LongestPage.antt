@@ -27,9 +27,8 @@ use Rattle.store.specs.StoreRules.{
   slotTest,
   goodStore,
 }
-use Rattle.page.specs.Page.{analytes, lastSample, keyFor, linesFrom, lineBytes, linesBytes, pageBytes}
+use Rattle.page.specs.Page.{analytes, lastSample, keyFor, linesFrom, lineBytes, linesBytes, pageBytes, mostPageBytes}
 use Rattle.page.specs.Promises.{pageNow}
-use Rattle.page.proofs.PageLength.{mostPageBytes}
 
 -- The copies of the last sample's 32 lines, with the largest values and stamps just below the clock's last value.
 unfoldable pub longestCopies : List Copy

@@ -13,12 +13,8 @@ use Rattle.plan.specs.Plan.{Plan}
 use Rattle.store.specs.declared.Copy.{Copy}
 use Rattle.store.specs.Copies.{RESULT}
 use Rattle.store.specs.State.{State, current}
-use Rattle.page.specs.Page.{analytes, lastSample, keyFor, Line, shown, linesFrom, linesOf, lineBytes, linesBytes, pageBytes, pageOf}
+use Rattle.page.specs.Page.{analytes, lastSample, keyFor, Line, shown, linesFrom, linesOf, lineBytes, linesBytes, pageBytes, mostPageBytes, pageOf}
 use Rattle.page.proofs.PageLines.{lines-few}
-
--- The longest page: 4 bytes for the sample, 1 for the line count, 11 for each of 32 lines.
-abbrev pub mostPageBytes : ℕ
-mostPageBytes = 357
 
 one-byte : (v : ℕ) → v < 128 → length (form v) ≤ 1
 one-byte v h = form-width v 1 (omega arith) (omega arith) .1 h
