@@ -8,3 +8,5 @@ pub mod NodeWays
 pub mod HeadWays
 pub mod ImageLengths
 pub mod WriteWays
+pub mod SaveWays
+pub mod LoadEnds

@@ -26,27 +26,27 @@ use Rattle.image.specs.Loading.{valueAt, copyAt, copiesAt, nodeAt, nodes
 abbrev pub acceptedLoad : Store → Outcome
 acceptedLoad z = record { answer = answer DONE (copiesHeld (z .counts)) 0 0 0; store = z }
 
-module _ (s : List ℕ) where
+module _ (s : List ℕ) (g : Got Store) where
   -- Reading stops at a fault.
-  pub load-stops : {number at : ℕ} → imageAt s ≡ fault number at → loadOutcome s ≡ refusedLoad number at
-  unfolding loadOutcome finished
-  load-stops e = rw e
+  pub finish-stops : {number at : ℕ} → g ≡ fault number at → finished s g ≡ refusedLoad number at
+  unfolding finished
+  finish-stops e = rw e
 
-  module _ {z : Store} {end : ℕ} (e : imageAt s ≡ got z end) where
+  module _ {z : Store} {end : ℕ} (e : g ≡ got z end) where
     -- Bytes after the image.
-    pub load-trails : end < length s → loadOutcome s ≡ refusedLoad TRAIL end
-    unfolding loadOutcome finished
-    load-trails h = rw (e, lt-ltb end (length s) h)
+    pub finish-trails : end < length s → finished s g ≡ refusedLoad TRAIL end
+    unfolding finished
+    finish-trails h = rw (e, lt-ltb end (length s) h)
 
     module _ (h : length s ≤ end) where
       -- A store rule is broken.
-      pub load-breaks : goodStore z ≡ false → loadOutcome s ≡ refusedLoad RULE (length s)
-      unfolding loadOutcome finished
-      load-breaks g = rw (e, le-ltb end (length s) h, g)
+      pub finish-breaks : goodStore z ≡ false → finished s g ≡ refusedLoad RULE (length s)
+      unfolding finished
+      finish-breaks bad = rw (e, le-ltb end (length s) h, bad)
 
-      pub load-accepts : goodStore z ≡ true → loadOutcome s ≡ acceptedLoad z
-      unfolding loadOutcome finished
-      load-accepts g = rw (e, le-ltb end (length s) h, g)
+      pub finish-accepts : goodStore z ≡ true → finished s g ≡ acceptedLoad z
+      unfolding finished
+      finish-accepts good = rw (e, le-ltb end (length s) h, good)
 
 -- Loading goes one of these ways.
 pub data LoadWay (s : List ℕ) : Type 0 where
@@ -56,15 +56,16 @@ pub data LoadWay (s : List ℕ) : Type 0 where
   accepts : {z : Store} {end : ℕ} → imageAt s ≡ got z end → length s ≤ end → goodStore z ≡ true → loadOutcome s ≡ acceptedLoad z → LoadWay s
 
 pub load-way : (s : List ℕ) → LoadWay s
+unfolding loadOutcome
 load-way s = go (imageAt s) refl
   where
     ends : (z : Store) (end : ℕ) → imageAt s ≡ got z end → Dec (end < length s) → (goodStore z ≡ true) ⊎ (goodStore z ≡ false) → LoadWay s
-    ends z end e (yes h) g = trails (load-trails s e h)
-    ends z end e (no h) (inl g) = accepts e (omega arith) g (load-accepts s e (omega arith) g)
-    ends z end e (no h) (inr g) = breaks (load-breaks s e (omega arith) g)
+    ends z end e (yes h) g = trails (finish-trails s (imageAt s) e h)
+    ends z end e (no h) (inl g) = accepts e (omega arith) g (finish-accepts s (imageAt s) e (omega arith) g)
+    ends z end e (no h) (inr g) = breaks (finish-breaks s (imageAt s) e (omega arith) g)
 
     go : (m : Got Store) → imageAt s ≡ m → LoadWay s
-    go (fault number at) e = stops e (load-stops s e)
+    go (fault number at) e = stops e (finish-stops s (imageAt s) e)
     go (got z end) e = ends z end e (decLt end (length s)) (bool? (goodStore z))
 
 -- ---- the numbers that loading answers

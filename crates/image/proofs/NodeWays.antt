@@ -51,12 +51,12 @@ pub record Laid (g : Got (List Copy)) (value : List Copy → ℕ) (before : Colu
   pub number : r .value ≡ value copies
   pub lies : after ≡ laid before from copies
 
-ending-got : {A : Type 0} (g : Got A) (f : A → ℕ) {v next : ℕ} → ending f g ≡ got v next → (x : A) × (g ≡ got x next) × (v ≡ f x)
+pub ending-got : {A : Type 0} (g : Got A) (f : A → ℕ) {v next : ℕ} → ending f g ≡ got v next → (x : A) × (g ≡ got x next) × (v ≡ f x)
 unfolding bind
 ending-got (got x end) f {next = next} e = let n : end ≡ next = cc in (x, ap (got x) n, cc)
 ending-got (fault number at) f e = absurd (got-or-fault e refl)
 
-ending-fault : {A : Type 0} (g : Got A) (f : A → ℕ) {number at : ℕ} → ending f g ≡ fault number at → g ≡ fault number at
+pub ending-fault : {A : Type 0} (g : Got A) (f : A → ℕ) {number at : ℕ} → ending f g ≡ fault number at → g ≡ fault number at
 unfolding bind
 ending-fault (got x end) f e = absurd (got-or-fault refl e)
 ending-fault (fault number at) f e = cc

@@ -34,7 +34,7 @@ use Rattle.image.specs.Loading.{loaded, imageAt, copiesHeld, loadOutcome
 use Rattle.image.specs.Promises.{saveBuffer}
 use Rattle.image.proofs.ImageParts.{Small, small-none}
 use Rattle.image.proofs.ImageReads.{store-read, image-gives}
-use Rattle.image.proofs.LoadWays.{load-accepts, LoadWay, stops, trails, breaks, accepts, load-way, load-accepted}
+use Rattle.image.proofs.LoadWays.{finish-accepts, LoadWay, stops, trails, breaks, accepts, load-way, load-accepted}
 
 -- ---- all slots idle
 
@@ -83,9 +83,9 @@ idled-good z good = rules-good (idled z) (idled-rules z (good-rules z good))
 module _ (z : Store) (good : goodStore z ≡ true) (declared : Declared z) where
   -- A saved store loads as itself with all slots idle.
   pub saved-loads : loadOutcome (image z) ≡ record { answer = answer DONE (copiesHeld (z .counts)) 0 0 0; store = idled z }
-  unfolding idled
+  unfolding idled loadOutcome
   saved-loads =
-      load-accepts (image z) (store-read z (good-rules z good) declared (stands-itself (image z))) (omega arith) (idled-good z good)
+      finish-accepts (image z) (imageAt (image z)) (store-read z (good-rules z good) declared (stands-itself (image z))) (omega arith) (idled-good z good)
 
   -- So it does from the buffer it was saved into.
   pub buffer-loads : (before : List ℕ) → length (image z) ≤ length before
