@@ -93,10 +93,9 @@ module _ (z : Store) (good : goodStore z ≡ true) where
   has-place most e h = omega (arith, plan-good z good .capacity-1-to-64 0 (root-there z good))
 
   -- "CLOCK: entry at clock 4294967295"
-  pub entry-at-last : (kind k v : ℕ) (a : Answer) → a ≡ bare CLOCK → lastClock ≤ z .clock
-      → record { answer = a; store = z } ≡ onStore (entry kind k v) z
+  pub entry-at-last : (kind k v : ℕ) → lastClock ≤ z .clock → record { answer = bare CLOCK; store = z } ≡ onStore (entry kind k v) z
   unfolding stateOf
-  entry-at-last kind k v a e h = rw e (on-refusal (entry kind k v) z good CLOCK (at-last kind k v p s h))
+  entry-at-last kind k v h = on-refusal (entry kind k v) z good CLOCK (at-last kind k v p s h)
 
   -- The place of the key among the root's.
   module _ (k at : ℕ) (place : at ≡ placeIn (z .keys) 0 (countOf z 0) k) where
@@ -216,8 +215,8 @@ module _ (z : Store) (good : goodStore z ≡ true) where
               done a r e (q ∙ with-store (has-place most capacity h)) (room-free keyOf (capacityOf p 0) root k (omega (arith, root-count)))
 
           -- "FULL: root full and lacks the key"
-          pub entry-full : (a : Answer) → a ≡ bare FULL → most ≤ countOf z 0 → record { answer = a; store = z } ≡ onStore (entry kind k v) z
+          pub entry-full : most ≤ countOf z 0 → record { answer = bare FULL; store = z } ≡ onStore (entry kind k v) z
           unfolding stateOf
-          entry-full a e h =
-              let full = room-none keyOf (capacityOf p 0) root k missing (omega (arith, root-count)) in
-              rw e (on-refusal (entry kind k v) z good FULL (no-room kind k v p s early full))
+          entry-full h =
+              on-refusal (entry kind k v) z good FULL
+              (no-room kind k v p s early (room-none keyOf (capacityOf p 0) root k missing (omega (arith, root-count))))

@@ -3,12 +3,14 @@ ghost use mathlib.Core.Path.{_≡_};
 ghost use mathlib.Core.Bool.{true};
 ghost use Prim.Native.Nat.{_<_, _≤_};
 ghost use Rattle.steps.specs.Entries.{entry as entryStep};
+ghost use Rattle.steps.specs.Promises.{Enters, Withdraws};
 ghost use Rattle.store.specs.Calls.{onStore};
 ghost use Rattle.store.specs.Layout.{width};
 ghost use Rattle.store.specs.State.{lastClock};
 ghost use Rattle.store.specs.StoreRules.{goodStore};
 ghost use Rattle.entries.specs.Columns.{overCopy, withCopy};
 use store::Answer;
+use store::Copy;
 use store::Outcome;
 use store::Store;
 use store::columns;
@@ -41,16 +43,13 @@ fn inserted(mut store: Store, at: usize, end: usize, key: u32, kind: u32, value:
     store
 }
 
-// An entry on a good store: CLOCK before FULL, and neither alters the store.
+// An entry on a good store: CLOCK before FULL.
 fn good_entry(store: Store, kind: u32, key: u32, value: u32) -> Outcome
     requires { ⌜ goodStore store ≡ true ⌝ }
     ensures { λ r. ⌜ r ≡ onStore (entryStep kind key value) store ⌝ }
 {
     if Store::LAST_CLOCK <= store.clock {
-        return Outcome {
-            answer: Answer::bare(Answer::CLOCK),
-            store: store,
-        };
+        return Outcome::refused(Answer::CLOCK, store);
     }
     let stamp = store.clock as u64;
     let end = store.counts[0] as usize;
@@ -69,8 +68,39 @@ fn good_entry(store: Store, kind: u32, key: u32, value: u32) -> Outcome
             store: inserted(store, at, end, key, kind, value),
         };
     }
-    Outcome {
-        answer: Answer::bare(Answer::FULL),
-        store: store,
+    Outcome::refused(Answer::FULL, store)
+}
+
+// An entry on any store.
+fn entry(store: Store, kind: u32, key: u32, value: u32) -> Outcome
+    ensures { λ r. ⌜ r ≡ onStore (entryStep kind key value) store ⌝ }
+{
+    let slots = store.slots;
+    if !rules::good(
+        store.plan,
+        store.clock,
+        &store.counts,
+        &store.keys,
+        &store.kinds,
+        &store.values,
+        &store.stamps,
+        slots,
+    ) {
+        return Outcome::refused(Answer::BADSTORE, store);
     }
+    good_entry(store, kind, key, value)
+}
+
+// Enter: the line gets a result.
+pub fn enter(store: Store, key: u32, value: u32) -> Outcome
+    ensures { λ r. ⌜ Enters store key value r ⌝ }
+{
+    entry(store, Copy::RESULT, key, value)
+}
+
+// Withdraw: the line gets a withdrawn copy, which holds 0.
+pub fn withdraw(store: Store, key: u32) -> Outcome
+    ensures { λ r. ⌜ Withdraws store key r ⌝ }
+{
+    entry(store, Copy::WITHDRAWN, key, 0)
 }

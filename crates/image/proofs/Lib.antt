@@ -7,3 +7,4 @@ pub mod ReadWays
 pub mod NodeWays
 pub mod HeadWays
 pub mod ImageLengths
+pub mod WriteWays

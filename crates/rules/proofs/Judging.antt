@@ -1,15 +1,15 @@
 -- The test of all store rules, way out by way out. Assumes nothing.
 use mathlib.Core.Path.{_≡_, refl, sym, _∙_}
 use mathlib.Core.Bool.{Bool, true, false, and-true, and-false, _&&_}
-use mathlib.Core.List.{List}
 use Prim.Native.Nat.{ℕ, _<_, _≤_}
 use native.Mathlib.Omega.{arith}
-use lib.Dec.{leb, eqb}
+use lib.Dec.{leb}
 use lib.ListN.{length, getD}
 use borrow.Author.Tests.{eq-eqb, le-leb, lt-leb}
-use Rattle.lists.specs.Runs.{allFrom, allBelow}
+use Rattle.lists.specs.Runs.{allBelow}
+use Rattle.lists.proofs.Truths.{not-both, and-left, and-right, and-both}
 use Rattle.plan.specs.Sizes.{mostNodes}
-use Rattle.plan.specs.PlanTable.{planOf, plans}
+use Rattle.plan.specs.PlanTable.{planOf}
 use Rattle.plan.proofs.TableLaws.{plans-three}
 use Rattle.store.specs.declared.Store.{Store}
 use Rattle.store.specs.Copies.{different}
@@ -29,6 +29,7 @@ use Rattle.store.specs.StoreRules.{
 }
 use Rattle.rules.specs.Workers.{holding, nodeGood, Sized, Fitting}
 use Rattle.rules.proofs.Noding.{nodes-ordered}
+use Rattle.rules.proofs.Sorting.{refuted}
 
 -- The plan's number.
 module _ (plan : ℕ) where
@@ -87,25 +88,34 @@ module _ (z : Store) where
   unfolding goodStore
   clock-fails h = rw (h, and-false (shapeTest z && planNumberTest (z .plan)))
 
-  pub slots-fail : slotsGood ≡ false → goodStore z ≡ false
-  unfolding goodStore
-  slots-fail h =
-      rw (
-        h,
-        and-false
-        (shapeTest z && planNumberTest (z .plan) && clockTest (z .clock) && allBelow mostNodes (nodeGood z) && different (stampsFrom (z .counts) (z .stamps) 0 mostNodes)),
-      )
+  -- The searches and the nodes.
+  abbrev pub partsGood : Bool
+  partsGood = slotsGood && allBelow mostNodes (nodeGood unsearched)
 
-  pub nodes-fail : allBelow mostNodes (nodeGood unsearched) ≡ false → goodStore z ≡ false
+  pub slots-fail : slotsGood ≡ false → false ≡ partsGood
+  slots-fail h = rw h
+
+  pub nodes-decide : slotsGood ≡ true → allBelow mostNodes (nodeGood unsearched) ≡ partsGood
+  nodes-decide h = rw h
+
+  pub parts-fail : partsGood ≡ false → goodStore z ≡ false
   unfolding goodStore
-  nodes-fail h = rw (no-search ∙ h, and-false (shapeTest z && planNumberTest (z .plan) && clockTest (z .clock)))
+  parts-fail h =
+      refuted (goodStore z) (λ t.
+      let slots : slotsGood ≡ true = search (and-left, and-right) depth 8 in
+      let nodes : allBelow mostNodes (nodeGood z) ≡ true = search (and-left, and-right) depth 8 in
+      not-both (and-both slots (sym no-search ∙ nodes)) h)
 
   pub stamps-decide : Sized (z .counts) (z .keys) (z .kinds) (z .values) (z .stamps) → length (z .slots) ≡ slotCount
-      → planNumberTest (z .plan) ≡ true → clockTest (z .clock) ≡ true → slotsGood ≡ true → allBelow mostNodes (nodeGood unsearched) ≡ true
+      → planNumberTest (z .plan) ≡ true → clockTest (z .clock) ≡ true → partsGood ≡ true
       → goodStore z ≡ different (stampsFrom (z .counts) (z .stamps) 0 mostNodes)
   unfolding goodStore
-  stamps-decide s l number clock slots nodes = rw (shaped s l, number, clock, no-search ∙ nodes, slots, and-true (different (stampsFrom (z .counts) (z .stamps) 0 mostNodes)))
+  stamps-decide s l number clock parts =
+      let slots = and-left slotsGood (allBelow mostNodes (nodeGood unsearched)) parts in
+      let nodes = no-search ∙ and-right slotsGood (allBelow mostNodes (nodeGood unsearched)) parts in
+      rw (shaped s l, number, clock, nodes, slots, and-true (different (stampsFrom (z .counts) (z .stamps) 0 mostNodes)))
 
-  -- Where all nodes pass, each has room for its copies.
-  pub nodes-fit : planNumberTest (z .plan) ≡ true → allBelow mostNodes (nodeGood z) ≡ true → Fitting (z .counts)
-  nodes-fit number nodes n h = nodes-ordered z number 0 (omega arith) nodes n (omega arith) h .fits
+  -- Where the parts pass, each node has room for its copies.
+  pub parts-fit : planNumberTest (z .plan) ≡ true → partsGood ≡ true → Fitting (z .counts)
+  parts-fit number parts n h =
+      nodes-ordered unsearched number 0 (omega arith) (and-right slotsGood (allBelow mostNodes (nodeGood unsearched)) parts) n (omega arith) h .fits

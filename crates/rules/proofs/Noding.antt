@@ -1,6 +1,6 @@
 -- The tests of unused places and of nodes, way out by way out, and that a look in a node that passes can go by halves. Assumes nothing.
-use mathlib.Core.Path.{_≡_, refl, sym, ap, _∙_}
-use mathlib.Core.Bool.{Bool, true, false, and-false, _&&_, _||_}
+use mathlib.Core.Path.{_≡_, sym, ap, _∙_}
+use mathlib.Core.Bool.{Bool, true, false, and-false, _&&_}
 use mathlib.Core.Logic.{⊎-elim}
 use Prim.Native.Nat.{ℕ, suc, _+_, _-_, _*_, _<_, _≤_}
 use native.Mathlib.Omega.{arith}
@@ -17,9 +17,9 @@ use Rattle.plan.specs.Plan.{Node, Plan, noNode, size, capacityOf}
 use Rattle.plan.specs.PlanRules.{PlanRules}
 use Rattle.plan.specs.PlanTable.{planOf}
 use Rattle.store.specs.declared.Store.{Store}
-use Rattle.store.specs.Layout.{width, copyOf, countOf}
+use Rattle.store.specs.Layout.{width, countOf}
 use Rattle.store.specs.StoreRules.{planNumberTest, placeTest, allZero, unusedTest, nodeTest}
-use Rattle.rules.specs.Workers.{copyGood, placeGood, nodeGood, Ordered, OrderedFrom}
+use Rattle.rules.specs.Workers.{placeGood, nodeGood, Ordered, OrderedFrom}
 use Rattle.rules.proofs.Reaching.{number-rules}
 
 -- Four tests.

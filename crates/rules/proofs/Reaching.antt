@@ -1,11 +1,10 @@
 -- The stamp in reach from a key's next step, walked down node by node. Assumes nothing.
-use mathlib.Core.Path.{_≡_, refl, sym, ap, _∙_}
+use mathlib.Core.Path.{_≡_, refl, sym, _∙_}
 use mathlib.Core.Bool.{true}
 use mathlib.Core.List.{List}
 use mathlib.Core.Option.{Option, none, some}
-use Prim.Native.Nat.{ℕ, suc, _+_, _-_, _*_, _<_, _≤_}
+use Prim.Native.Nat.{ℕ, _+_, _-_, _*_, _<_, _≤_}
 use native.Mathlib.Omega.{arith}
-use lib.Dec.{leb}
 use lib.ListN.{getD}
 use Rattle.lists.specs.Runs.{run}
 use Rattle.lists.proofs.Truths.{both-le}
@@ -17,7 +16,6 @@ use Rattle.plan.specs.PlanTable.{planOf, plans}
 use Rattle.plan.proofs.NextLaws.{next-down}
 use Rattle.plan.proofs.TableLaws.{table-rules}
 use Rattle.store.specs.declared.Copy.{Copy}
-use Rattle.store.specs.declared.Found.{Found}
 use Rattle.store.specs.declared.Found.the-variants.{Held, Nothing}
 use Rattle.store.specs.declared.Store.{Store}
 use Rattle.store.specs.Copies.{keyOf, find, foundOf, stampOf}

@@ -7,6 +7,8 @@ use lib.ListN.{length, getD}
 use Rattle.lists.specs.Runs.{run}
 use Rattle.plan.specs.Sizes.{mostNodes}
 use Rattle.plan.specs.PlanTable.{planOf}
+use Rattle.plan.specs.PlanArrays.{Grid, countsRow, gridOf}
+use Rattle.plan.specs.declared.Edge.{Edge}
 use Rattle.store.specs.declared.Copy.{Copy}
 use Rattle.store.specs.declared.Store.{Store}
 use Rattle.store.specs.Copies.{member}
@@ -28,6 +30,13 @@ placeGood z n i = placeTest (planOf (z .plan)) (stateOf z) z n i
 
 abbrev pub nodeGood : Store → ℕ → Bool
 nodeGood z n = nodeTest (planOf (z .plan)) (stateOf z) z n
+
+-- Arrays that are the plan's, taken once and lent.
+pub record PlanArrays (plan : ℕ) (edges : List ℕ) (lows highs targets : Grid) : Type 0 where
+  pub edges-of : edges ≡ countsRow (planOf plan)
+  pub lows-of : lows ≡ gridOf (λ (e : Edge). e .lowest) (planOf plan)
+  pub highs-of : highs ≡ gridOf (λ (e : Edge). e .highest) (planOf plan)
+  pub targets-of : targets ≡ gridOf (λ (e : Edge). e .target) (planOf plan)
 
 -- The columns are as long as a store's.
 pub record Sized (counts keys kinds values stamps : List ℕ) : Type 0 where

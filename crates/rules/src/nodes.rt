@@ -14,13 +14,14 @@ ghost use Rattle.store.specs.Copies.{keyOf, find, foundOf, stampOf};
 ghost use Rattle.store.specs.State.{inReach};
 ghost use Rattle.store.specs.Layout.{width, places, nodeIn, stateOf};
 ghost use Rattle.store.specs.StoreRules.{planNumberTest, kindTest, allZero};
-ghost use Rattle.rules.specs.Workers.{holding, copyGood, placeGood, nodeGood, Sized, Ordered, OrderedFrom};
+ghost use Rattle.rules.specs.Workers.{holding, copyGood, placeGood, nodeGood, PlanArrays, Sized, Ordered, OrderedFrom};
 use crate::paths;
 use plan::Hop;
-use store::columns;
+use plan::arrays;
 use store::Copy;
 use store::Found;
 use store::Store;
+use store::columns;
 
 // Kind 1, or kind 0 and value 0.
 fn kind_good(x: Copy) -> bool
@@ -57,6 +58,10 @@ fn look_at<'a>(
 // The stamp of the key's first copy below a node, down its path; 0 where there is none.
 fn stamp_below<'a>(
     plan: u32,
+    edges: &'a [u32; plan::MOST_NODES],
+    lows: &'a [[u32; plan::MOST_EDGES]; plan::MOST_NODES],
+    highs: &'a [[u32; plan::MOST_EDGES]; plan::MOST_NODES],
+    targets: &'a [[u32; plan::MOST_EDGES]; plan::MOST_NODES],
     counts: &'a [u32; Store::NODES],
     keys: &'a [u32; Store::PLACES],
     kinds: &'a [u32; Store::PLACES],
@@ -65,11 +70,11 @@ fn stamp_below<'a>(
     node: u32,
     key: u32,
 ) -> u32
-    requires { ⌜ (planNumberTest plan ≡ true) × OrderedFrom (now counts) (now keys) (suc node) ⌝ }
+    requires { ⌜ (planNumberTest plan ≡ true) × PlanArrays plan (now edges) (now lows) (now highs) (now targets) × OrderedFrom (now counts) (now keys) (suc node) ⌝ }
     ensures { λ r. ⌜ r ≡ stampOf (inReach (planOf plan) (stateOf (holding plan 0 (now (counts .entry)) (now (keys .entry)) (now (kinds .entry)) (now (values .entry)) (now (stamps .entry)))) key (nextOf (planOf plan) node key)) ⌝ }
 {
     let mut left = plan::nodes(plan);
-    let mut hop = plan::next(plan, node, key);
+    let mut hop = arrays::next_in(edges, lows, highs, targets, node, key);
     while 0 < left {
         let Hop::To(at) = hop else {
             return 0;
@@ -77,7 +82,7 @@ fn stamp_below<'a>(
         if let Found::Held(x) = look_at(counts, keys, kinds, values, stamps, at, key) {
             return x.stamp;
         }
-        hop = plan::next(plan, at, key);
+        hop = arrays::next_in(edges, lows, highs, targets, at, key);
         left -= 1;
     }
     0
@@ -87,6 +92,10 @@ fn stamp_below<'a>(
 fn copy_good<'a>(
     plan: u32,
     clock: u32,
+    edges: &'a [u32; plan::MOST_NODES],
+    lows: &'a [[u32; plan::MOST_EDGES]; plan::MOST_NODES],
+    highs: &'a [[u32; plan::MOST_EDGES]; plan::MOST_NODES],
+    targets: &'a [[u32; plan::MOST_EDGES]; plan::MOST_NODES],
     counts: &'a [u32; Store::NODES],
     keys: &'a [u32; Store::PLACES],
     kinds: &'a [u32; Store::PLACES],
@@ -95,7 +104,7 @@ fn copy_good<'a>(
     node: u32,
     x: Copy,
 ) -> bool
-    requires { ⌜ (planNumberTest plan ≡ true) × OrderedFrom (now counts) (now keys) (suc node) ⌝ }
+    requires { ⌜ (planNumberTest plan ≡ true) × PlanArrays plan (now edges) (now lows) (now highs) (now targets) × OrderedFrom (now counts) (now keys) (suc node) ⌝ }
     ensures { λ r. ⌜ r ≡ copyGood (holding plan clock (now (counts .entry)) (now (keys .entry)) (now (kinds .entry)) (now (values .entry)) (now (stamps .entry))) node x ⌝ }
 {
     if !kind_good(x) {
@@ -107,10 +116,24 @@ fn copy_good<'a>(
     if clock <= x.stamp {
         return false;
     }
-    if !paths::on_path(plan, x.key, node) {
+    if !paths::on_path(plan, edges, lows, highs, targets, x.key, node) {
         return false;
     }
-    stamp_below(plan, counts, keys, kinds, values, stamps, node, x.key) < x.stamp
+    stamp_below(
+        plan,
+        edges,
+        lows,
+        highs,
+        targets,
+        counts,
+        keys,
+        kinds,
+        values,
+        stamps,
+        node,
+        x.key,
+    )
+        < x.stamp
 }
 
 // "keys strictly rising in a node": the key at a used place is below the next one's, if there is one.
@@ -128,6 +151,10 @@ fn key_rises(keys: &[u32; Store::PLACES], i: usize, end: usize) -> bool
 fn place_good<'a>(
     plan: u32,
     clock: u32,
+    edges: &'a [u32; plan::MOST_NODES],
+    lows: &'a [[u32; plan::MOST_EDGES]; plan::MOST_NODES],
+    highs: &'a [[u32; plan::MOST_EDGES]; plan::MOST_NODES],
+    targets: &'a [[u32; plan::MOST_EDGES]; plan::MOST_NODES],
     counts: &'a [u32; Store::NODES],
     keys: &'a [u32; Store::PLACES],
     kinds: &'a [u32; Store::PLACES],
@@ -137,25 +164,47 @@ fn place_good<'a>(
     i: usize,
     end: usize,
 ) -> bool
-    requires { ⌜ (i < end) × (end ≤ places) × (end ≡ width * node + getD (now counts) node 0) × (planNumberTest plan ≡ true) × OrderedFrom (now counts) (now keys) (suc node) ⌝ }
+    requires { ⌜ (i < end) × (end ≤ places) × (end ≡ width * node + getD (now counts) node 0) × (planNumberTest plan ≡ true) × PlanArrays plan (now edges) (now lows) (now highs) (now targets) × OrderedFrom (now counts) (now keys) (suc node) ⌝ }
     ensures { λ r. ⌜ r ≡ placeGood (holding plan clock (now (counts .entry)) (now (keys .entry)) (now (kinds .entry)) (now (values .entry)) (now (stamps .entry))) node i ⌝ }
 {
     if !key_rises(keys, i, end) {
         return false;
     }
+    let key = keys[i];
+    let kind = kinds[i];
+    let value = values[i];
+    let stamp = stamps[i];
     let x = Copy {
-        key: keys[i],
-        kind: kinds[i],
-        value: values[i],
-        stamp: stamps[i],
+        key: key,
+        kind: kind,
+        value: value,
+        stamp: stamp,
     };
-    copy_good(plan, clock, counts, keys, kinds, values, stamps, node, x)
+    copy_good(
+        plan,
+        clock,
+        edges,
+        lows,
+        highs,
+        targets,
+        counts,
+        keys,
+        kinds,
+        values,
+        stamps,
+        node,
+        x,
+    )
 }
 
 // The used places of a node, from..end.
 fn used_good<'a>(
     plan: u32,
     clock: u32,
+    edges: &'a [u32; plan::MOST_NODES],
+    lows: &'a [[u32; plan::MOST_EDGES]; plan::MOST_NODES],
+    highs: &'a [[u32; plan::MOST_EDGES]; plan::MOST_NODES],
+    targets: &'a [[u32; plan::MOST_EDGES]; plan::MOST_NODES],
     counts: &'a [u32; Store::NODES],
     keys: &'a [u32; Store::PLACES],
     kinds: &'a [u32; Store::PLACES],
@@ -165,12 +214,27 @@ fn used_good<'a>(
     from: usize,
     end: usize,
 ) -> bool
-    requires { ⌜ (end ≤ places) × (end ≡ width * node + getD (now counts) node 0) × (planNumberTest plan ≡ true) × OrderedFrom (now counts) (now keys) (suc node) ⌝ }
+    requires { ⌜ (end ≤ places) × (end ≡ width * node + getD (now counts) node 0) × (planNumberTest plan ≡ true) × PlanArrays plan (now edges) (now lows) (now highs) (now targets) × OrderedFrom (now counts) (now keys) (suc node) ⌝ }
     ensures { λ r. ⌜ r ≡ allFrom from (end - from) (placeGood (holding plan clock (now (counts .entry)) (now (keys .entry)) (now (kinds .entry)) (now (values .entry)) (now (stamps .entry))) node) ⌝ }
 {
     let mut i = from;
     while i < end {
-        if !place_good(plan, clock, counts, keys, kinds, values, stamps, node, i, end) {
+        if !place_good(
+            plan,
+            clock,
+            edges,
+            lows,
+            highs,
+            targets,
+            counts,
+            keys,
+            kinds,
+            values,
+            stamps,
+            node,
+            i,
+            end,
+        ) {
             return false;
         }
         i += 1;
@@ -206,6 +270,10 @@ fn unused_good<'a>(
 fn node_good<'a>(
     plan: u32,
     clock: u32,
+    edges: &'a [u32; plan::MOST_NODES],
+    lows: &'a [[u32; plan::MOST_EDGES]; plan::MOST_NODES],
+    highs: &'a [[u32; plan::MOST_EDGES]; plan::MOST_NODES],
+    targets: &'a [[u32; plan::MOST_EDGES]; plan::MOST_NODES],
     counts: &'a [u32; Store::NODES],
     keys: &'a [u32; Store::PLACES],
     kinds: &'a [u32; Store::PLACES],
@@ -213,7 +281,7 @@ fn node_good<'a>(
     stamps: &'a [u32; Store::PLACES],
     node: u32,
 ) -> bool
-    requires { ⌜ (node < mostNodes) × (planNumberTest plan ≡ true) × Sized (now counts) (now keys) (now kinds) (now values) (now stamps) × OrderedFrom (now counts) (now keys) (suc node) ⌝ }
+    requires { ⌜ (node < mostNodes) × (planNumberTest plan ≡ true) × PlanArrays plan (now edges) (now lows) (now highs) (now targets) × Sized (now counts) (now keys) (now kinds) (now values) (now stamps) × OrderedFrom (now counts) (now keys) (suc node) ⌝ }
     ensures { λ r. ⌜ r ≡ nodeGood (holding plan clock (now (counts .entry)) (now (keys .entry)) (now (kinds .entry)) (now (values .entry)) (now (stamps .entry))) node ⌝ }
 {
     let n = node as usize;
@@ -223,7 +291,22 @@ fn node_good<'a>(
     }
     let from = Store::WIDTH * n;
     let end = from + count as usize;
-    if !used_good(plan, clock, counts, keys, kinds, values, stamps, node, from, end) {
+    if !used_good(
+        plan,
+        clock,
+        edges,
+        lows,
+        highs,
+        targets,
+        counts,
+        keys,
+        kinds,
+        values,
+        stamps,
+        node,
+        from,
+        end,
+    ) {
         return false;
     }
     unused_good(keys, kinds, values, stamps, end, from + Store::WIDTH)
@@ -233,19 +316,36 @@ fn node_good<'a>(
 pub fn nodes_good<'a>(
     plan: u32,
     clock: u32,
+    edges: &'a [u32; plan::MOST_NODES],
+    lows: &'a [[u32; plan::MOST_EDGES]; plan::MOST_NODES],
+    highs: &'a [[u32; plan::MOST_EDGES]; plan::MOST_NODES],
+    targets: &'a [[u32; plan::MOST_EDGES]; plan::MOST_NODES],
     counts: &'a [u32; Store::NODES],
     keys: &'a [u32; Store::PLACES],
     kinds: &'a [u32; Store::PLACES],
     values: &'a [u32; Store::PLACES],
     stamps: &'a [u32; Store::PLACES],
 ) -> bool
-    requires { ⌜ (planNumberTest plan ≡ true) × Sized (now counts) (now keys) (now kinds) (now values) (now stamps) ⌝ }
+    requires { ⌜ (planNumberTest plan ≡ true) × PlanArrays plan (now edges) (now lows) (now highs) (now targets) × Sized (now counts) (now keys) (now kinds) (now values) (now stamps) ⌝ }
     ensures { λ r. ⌜ r ≡ allBelow mostNodes (nodeGood (holding plan clock (now (counts .entry)) (now (keys .entry)) (now (kinds .entry)) (now (values .entry)) (now (stamps .entry)))) ⌝ }
 {
     let mut node = Store::NODES as u32;
     while 0 < node {
         node -= 1;
-        if !node_good(plan, clock, counts, keys, kinds, values, stamps, node) {
+        if !node_good(
+            plan,
+            clock,
+            edges,
+            lows,
+            highs,
+            targets,
+            counts,
+            keys,
+            kinds,
+            values,
+            stamps,
+            node,
+        ) {
             return false;
         }
     }

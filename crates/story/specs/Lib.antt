@@ -1,1 +1,2 @@
 pub mod PublicCalls
+pub mod Following

@@ -1,4 +1,4 @@
-use mathlib.Core.Path.{_≡_}
+use mathlib.Core.Path.{_≡_, _∙_}
 use mathlib.Core.Logic.{⊎-elim}
 use Prim.Native.Nat.{_<_}
 use native.Mathlib.Omega.{arith}
@@ -25,14 +25,14 @@ lacks : (c : tie.Joined2) → let s = c .before .before .before .before .before 
     c .before .seek .result < countOf (S s) 0 → getD (S s .keys) (c .before .seek .result) 0 ≡ s .args .key → ⊥
 lacks c h e = ⊎-elim (λ w. w .2 .left e) (λ w. omega (arith, w .left, h)) (c .if2 .came)
 
-bare-requires : tie.Need-bare-requires
-bare-requires c κs = search needs
+refused-requires : tie.Need-refused-requires
+refused-requires c κs = search needs
 
 returns : tie.Need-returns
 returns c =
     let s = c .before .before in
     let late = c .before .if1 .taken in
-    entry-at-last (S s) (s .pre) (s .args .kind) (s .args .key) (s .args .value) (c .bare .result) (c .bare .ensures) (omega arith)
+    c .refused .ensures ∙ entry-at-last (S s) (s .pre) (s .args .kind) (s .args .key) (s .args .value) (omega arith)
 
 cast-stamp : tie.Need-cast-stamp
 cast-stamp c = search needs
@@ -85,8 +85,9 @@ inserted-requires : tie.Need-inserted-requires
 inserted-requires c κs =
     let s = c .before .before .before .before .before .before .before .before .before in
     let w = c .before .before .before .before in
-    let m = c .before .before .capacity in (
-      at-most (S s) (s .pre) (s .args .key) (w .seek .result) (w .seek .ensures),
+    let m = c .before .before .capacity in
+    let a = at-most (S s) (s .pre) (s .args .key) (w .seek .result) (w .seek .ensures) in (
+      omega arith,
       has-place (S s) (s .pre) (m .result) (m .ensures) (c .before .if4 .taken),
       c .before .before .before .before .before .before .before .before .if1 .left,
     )
@@ -100,22 +101,23 @@ returns-3 c =
     (lacks (c .before .before .before .before)) (m .result) (m .ensures) (c .before .of2 .result) (c .inserted .result) (c .before .of2 .ensures) (c .inserted .ensures)
     (c .before .before .if4 .taken)
 
-bare-requires-2 : tie.Need-bare-requires-2
-bare-requires-2 c κs = search needs
+refused-requires-2 : tie.Need-refused-requires-2
+refused-requires-2 c κs = search needs
 
 returns-4 : tie.Need-returns-4
 returns-4 c =
     let s = c .before .before .before .before .before .before .before .before .before in
     let w = c .before .before .before .before in
     let m = c .before .before .capacity in
-    entry-full (S s) (s .pre) (s .args .key) (w .seek .result) (w .seek .ensures) (s .args .kind) (s .args .value) (c .before .before .before .before .before .before .before .before .if1 .left)
-    (lacks (c .before .before .before)) (m .result) (m .ensures) (c .bare2 .result) (c .bare2 .ensures) (c .before .if4 .left)
+    c .refused2 .ensures
+    ∙ entry-full (S s) (s .pre) (s .args .key) (w .seek .result) (w .seek .ensures) (s .args .kind) (s .args .value) (c .before .before .before .before .before .before .before .before .if1 .left)
+    (lacks (c .before .before .before)) (m .result) (m .ensures) (c .before .if4 .left)
 
 pub good-entry-spec : {M : Type 1} → statement M
 good-entry-spec =
     tie.close
     (tie.spec
-    bare-requires
+    refused-requires
     returns
     cast-stamp
     element-copy-out-end
@@ -131,5 +133,5 @@ good-entry-spec =
     of-requires-2
     inserted-requires
     returns-3
-    bare-requires-2
+    refused-requires-2
     returns-4)

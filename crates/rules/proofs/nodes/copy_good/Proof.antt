@@ -1,3 +1,4 @@
+-- `rules::nodes::copy_good` meets its contract. Assumes nothing.
 use mathlib.Core.Path.{sym, _∙_}
 use borrow.Author.Tests.{not-true, not-false}
 use Rattle.store.specs.declared.Store.{Store}
@@ -6,53 +7,40 @@ use Rattle.rules.proofs.Copying.{copy-kind, copy-never, copy-late, copy
 use borrow.Author.Needs.{needs}
 use Rattle.rules.proofs.nodes.copy_good.Statement.{statement}
 use Rattle.rules.proofs.nodes.copy_good.Tie as tie
-use Rattle.rules.proofs.nodes.copy_good.Reads as reads
-use Rattle.rules.proofs.nodes.copy_good.Lts as lts
-use Rattle.rules.proofs.nodes.kind_good.Reads as kind-good-reads
-use Rattle.rules.proofs.nodes.stamp_below.Reads as stamp-below-reads
-use Rattle.rules.proofs.paths.on_path.Reads as on-path-reads
 
 -- The store of the columns lent.
 abbrev lent : tie.Start → Store
 lent s = let a = s .args in holding (a .plan) (a .clock) (a .counts .now) (a .keys .now) (a .kinds .now) (a .values .now) (a .stamps .now)
 
--- src/nodes.rt:101:9
 kind-good-requires : tie.Need-kind-good-requires
 kind-good-requires c κs = search needs
 
--- src/nodes.rt:102:9
 returns : tie.Need-returns
 returns c =
     let s = c .before .before in
     sym (copy-kind (lent s) (s .args .node) (s .args .x) (sym (c .before .kind-good .ensures) ∙ not-true (c .before .kind-good .result) (c .if1 .taken)))
 
--- src/nodes.rt:105:9
 returns-2 : tie.Need-returns-2
 returns-2 c =
     let s = c .before .before .before .before in
     sym (copy-never (lent s) (s .args .node) (s .args .x) (c .if2 .taken))
 
--- src/nodes.rt:108:9
 returns-3 : tie.Need-returns-3
 returns-3 c =
     let s = c .before .before .before .before .before .before in
     sym (copy-late (lent s) (s .args .node) (s .args .x) (c .if3 .taken))
 
--- src/nodes.rt:110:9
 on-path-requires : tie.Need-on-path-requires
 on-path-requires c κs = search needs
 
--- src/nodes.rt:111:9
 returns-4 : tie.Need-returns-4
 returns-4 c =
     let s = c .before .before .before .before .before .before .before .before in
     sym (copy-off (lent s) (s .args .node) (s .args .x) (sym (c .before .on-path .ensures) ∙ not-true (c .before .on-path .result) (c .if4 .taken)))
 
--- src/nodes.rt:113:5
 stamp-below-requires : tie.Need-stamp-below-requires
 stamp-below-requires c κs = search needs
 
--- src/nodes.rt:87:1
 returns-5 : tie.Need-returns-5
 returns-5 c =
     let s = c .before .before .before .before .before .before .before .before .before .before in

@@ -1,3 +1,4 @@
+-- `rules::nodes::node_good` meets its contract. Assumes nothing.
 use mathlib.Core.Path.{refl, sym, _∙_}
 use Prim.Native.Nat.{_+_, _*_}
 use native.Mathlib.Omega.{arith}
@@ -12,29 +13,20 @@ use Rattle.rules.proofs.Noding.{capacity-fits, node-over, node-used, no
 use borrow.Author.Needs.{needs}
 use Rattle.rules.proofs.nodes.node_good.Statement.{statement}
 use Rattle.rules.proofs.nodes.node_good.Tie as tie
-use Rattle.rules.proofs.nodes.node_good.Reads as reads
-use Rattle.rules.proofs.nodes.node_good.Lts as lts
-use Rattle.plan.proofs.capacity.Reads as capacity-reads
-use Rattle.rules.proofs.nodes.unused_good.Reads as unused-good-reads
-use Rattle.rules.proofs.nodes.used_good.Reads as used-good-reads
 
 -- The store of the columns lent.
 abbrev lent : tie.Start → Store
 lent s = let a = s .args in holding (a .plan) (a .clock) (a .counts .now) (a .keys .now) (a .kinds .now) (a .values .now) (a .stamps .now)
 
--- src/nodes.rt:220:17
 mul-count : tie.Need-mul-count
 mul-count c = search needs
 
--- src/nodes.rt:220:17
 element-copy-out-count : tie.Need-element-copy-out-count
 element-copy-out-count c = search needs
 
--- src/nodes.rt:221:8
 capacity-requires : tie.Need-capacity-requires
 capacity-requires c κs = search needs
 
--- src/nodes.rt:222:9
 returns : tie.Need-returns
 returns c =
     let s = c .before .before .before in
@@ -44,19 +36,15 @@ returns c =
     let fits = capacity-fits (planOf (a .plan)) (number-rules (a .plan) (s .pre .1)) n in
     sym (node-over (lent s) n (omega arith))
 
--- src/nodes.rt:224:16
 mul-from : tie.Need-mul-from
 mul-from c = search needs
 
--- src/nodes.rt:225:22
 cast-end : tie.Need-cast-end
 cast-end c = search needs
 
--- src/nodes.rt:225:15
 add-end : tie.Need-add-end
 add-end c = search needs
 
--- src/nodes.rt:226:9
 used-good-requires : tie.Need-used-good-requires
 used-good-requires c κs =
     let s = c .before .before .before in
@@ -64,9 +52,8 @@ used-good-requires c κs =
     let n = a .node in
     let cap = c .before .capacity .ensures in
     let fits = capacity-fits (planOf (a .plan)) (number-rules (a .plan) (s .pre .1)) n in
-    (omega arith, refl, s .pre .1, s .pre .3)
+    (omega arith, refl, s .pre .1, s .pre .2, s .pre .4)
 
--- src/nodes.rt:227:9
 returns-2 : tie.Need-returns-2
 returns-2 c =
     let s = c .before .before .before .before .before in
@@ -76,11 +63,9 @@ returns-2 c =
     let fits = capacity-fits (planOf (a .plan)) (number-rules (a .plan) (s .pre .1)) n in
     sym (node-used (lent s) n (width * n) (width * n + getD (a .counts .now) n 0) refl refl (sym (c .before .used-good .ensures) ∙ not-true (c .before .used-good .result) (c .if2 .taken)))
 
--- src/nodes.rt:229:51
 add-unused-good : tie.Need-add-unused-good
 add-unused-good c = search needs
 
--- src/nodes.rt:229:5
 unused-good-requires : tie.Need-unused-good-requires
 unused-good-requires c κs =
     let s = c .before .before .before .before .before in
@@ -88,10 +73,9 @@ unused-good-requires c κs =
     let n = a .node in
     let cap = c .before .before .before .capacity .ensures in
     let fits = capacity-fits (planOf (a .plan)) (number-rules (a .plan) (s .pre .1)) n in
-    let size = s .pre .2 in
+    let size = s .pre .3 in
     (omega arith, omega arith, size .keys-512, size .kinds-512, size .values-512, size .stamps-512)
 
--- src/nodes.rt:206:1
 returns-3 : tie.Need-returns-3
 returns-3 c =
     let s = c .before .before .before .before .before .before in

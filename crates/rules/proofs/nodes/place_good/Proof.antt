@@ -1,3 +1,4 @@
+-- `rules::nodes::place_good` meets its contract. Assumes nothing.
 use mathlib.Core.Path.{sym, _∙_}
 use borrow.Author.Tests.{not-true, not-false}
 use Rattle.store.specs.declared.Store.{Store}
@@ -6,63 +7,47 @@ use Rattle.rules.proofs.Copying.{place-order, place-copy}
 use borrow.Author.Needs.{needs}
 use Rattle.rules.proofs.nodes.place_good.Statement.{statement}
 use Rattle.rules.proofs.nodes.place_good.Tie as tie
-use Rattle.rules.proofs.nodes.place_good.Reads as reads
-use Rattle.rules.proofs.nodes.place_good.Lts as lts
-use Rattle.rules.proofs.nodes.copy_good.Reads as copy-good-reads
-use Rattle.rules.proofs.nodes.key_rises.Reads as key-rises-reads
 
 -- The store of the columns lent.
 abbrev lent : tie.Start → Store
 lent s = let a = s .args in holding (a .plan) (a .clock) (a .counts .now) (a .keys .now) (a .kinds .now) (a .values .now) (a .stamps .now)
 
--- src/nodes.rt:143:9
 key-rises-requires : tie.Need-key-rises-requires
 key-rises-requires c κs = search needs
 
--- src/nodes.rt:144:9
 returns : tie.Need-returns
 returns c =
     let s = c .before .before in
     let rises = c .before .key-rises in
     sym (place-order (lent s) (s .args .node) (s .args .i) (s .args .end) (s .pre .2) (sym (rises .ensures) ∙ not-true (rises .result) (c .if1 .taken)))
 
--- src/nodes.rt:147:14
-mul-t14 : tie.Need-mul-t14
-mul-t14 c = search needs
+mul-key : tie.Need-mul-key
+mul-key c = search needs
 
--- src/nodes.rt:147:14
-element-copy-out-t17 : tie.Need-element-copy-out-t17
-element-copy-out-t17 c = search needs
+element-copy-out-key : tie.Need-element-copy-out-key
+element-copy-out-key c = search needs
 
--- src/nodes.rt:148:15
-mul-t18 : tie.Need-mul-t18
-mul-t18 c = search needs
+mul-kind : tie.Need-mul-kind
+mul-kind c = search needs
 
--- src/nodes.rt:148:15
-element-copy-out-t21 : tie.Need-element-copy-out-t21
-element-copy-out-t21 c = search needs
+element-copy-out-kind : tie.Need-element-copy-out-kind
+element-copy-out-kind c = search needs
 
--- src/nodes.rt:149:16
-mul-t22 : tie.Need-mul-t22
-mul-t22 c = search needs
+mul-value : tie.Need-mul-value
+mul-value c = search needs
 
--- src/nodes.rt:149:16
-element-copy-out-t25 : tie.Need-element-copy-out-t25
-element-copy-out-t25 c = search needs
+element-copy-out-value : tie.Need-element-copy-out-value
+element-copy-out-value c = search needs
 
--- src/nodes.rt:150:16
-mul-t26 : tie.Need-mul-t26
-mul-t26 c = search needs
+mul-stamp : tie.Need-mul-stamp
+mul-stamp c = search needs
 
--- src/nodes.rt:150:16
-element-copy-out-t29 : tie.Need-element-copy-out-t29
-element-copy-out-t29 c = search needs
+element-copy-out-stamp : tie.Need-element-copy-out-stamp
+element-copy-out-stamp c = search needs
 
--- src/nodes.rt:152:5
 copy-good-requires : tie.Need-copy-good-requires
 copy-good-requires c κs = search needs
 
--- src/nodes.rt:128:1
 returns-2 : tie.Need-returns-2
 returns-2 c =
     let s = c .before .before .before .before .before .before .before in
@@ -76,13 +61,13 @@ place-good-spec =
     (tie.spec
     key-rises-requires
     returns
-    mul-t14
-    element-copy-out-t17
-    mul-t18
-    element-copy-out-t21
-    mul-t22
-    element-copy-out-t25
-    mul-t26
-    element-copy-out-t29
+    mul-key
+    element-copy-out-key
+    mul-kind
+    element-copy-out-kind
+    mul-value
+    element-copy-out-value
+    mul-stamp
+    element-copy-out-stamp
     copy-good-requires
     returns-2)

@@ -1,3 +1,5 @@
+-- `rules::nodes::used_good` meets its contract. The loop's invariant: all places pass if those from i on do. The measure is their number.
+-- Assumes nothing.
 use mathlib.Core.Path.{_≡_, refl, sym, _∙_}
 use Prim.Native.Nat.{_-_, _≤_}
 use native.Mathlib.Omega.{arith}
@@ -9,30 +11,24 @@ use Rattle.store.specs.declared.Store.{Store}
 use Rattle.rules.specs.Workers.{holding, placeGood}
 use Rattle.rules.proofs.nodes.used_good.Statement.{statement}
 use Rattle.rules.proofs.nodes.used_good.Tie as tie
-use Rattle.rules.proofs.nodes.used_good.Reads as reads
-use Rattle.rules.proofs.nodes.used_good.Lts as lts
-use Rattle.rules.proofs.nodes.place_good.Reads as place-good-reads
 
 abbrev Inv-loop : tie.InvT-loop
-Inv-loop plan clock counts keys kinds values stamps node from end i₀ i =
+Inv-loop plan clock edges lows highs targets counts keys kinds values stamps node from end i₀ i =
     (from ≤ i) × (allFrom from (end - from) (placeGood (holding plan clock counts keys kinds values stamps) node) ≡ allFrom i (end - i) (placeGood (holding plan clock counts keys kinds values stamps) node))
 
 abbrev μ-loop : tie.MeasureT-loop
-μ-loop plan clock counts keys kinds values stamps node from end i₀ i = end - i
+μ-loop plan clock edges lows highs targets counts keys kinds values stamps node from end i₀ i = end - i
 
 -- The store of the columns lent.
 abbrev lent : tie.Start Inv-loop μ-loop → Store
 lent s = let a = s .args in holding (a .plan) (a .clock) (a .counts .now) (a .keys .now) (a .kinds .now) (a .values .now) (a .stamps .now)
 
--- src/nodes.rt:172:5
 loop-holds : tie.Need-loop-holds Inv-loop μ-loop
 loop-holds c = (search needs, refl)
 
--- src/nodes.rt:173:13
 place-good-requires : tie.Need-place-good-requires Inv-loop μ-loop
 place-good-requires c κs = search needs
 
--- src/nodes.rt:174:13
 returns : tie.Need-returns Inv-loop μ-loop
 returns c =
     let l = c .before .before .before in
@@ -40,15 +36,12 @@ returns c =
     let place = c .before .place-good in
     sym (l .loop .inv .1 ∙ all-stop (placeGood (lent s) (s .args .node)) (l .loop .i) (s .args .end) (omega arith) (sym (place .ensures) ∙ not-true (place .result) (c .if1 .taken)))
 
--- src/nodes.rt:176:9
 add-i : tie.Need-add-i Inv-loop μ-loop
 add-i c = search needs
 
--- src/nodes.rt:172:5
 loop-less : tie.Need-loop-less Inv-loop μ-loop
 loop-less c = search needs
 
--- src/nodes.rt:172:5
 loop-again : tie.Need-loop-again Inv-loop μ-loop
 loop-again c =
     let l = c .before .before .before in
@@ -56,7 +49,6 @@ loop-again c =
     let place = c .before .place-good in
     (omega arith, l .loop .inv .1 ∙ all-turn (placeGood (lent s) (s .args .node)) (l .loop .i) (s .args .end) (omega arith) (sym (place .ensures) ∙ not-false (place .result) (c .if1 .left)))
 
--- src/nodes.rt:156:1
 returns-2 : tie.Need-returns-2 Inv-loop μ-loop
 returns-2 c =
     let l = c .before in

@@ -1,22 +1,18 @@
+-- `rules::searches::rests` meets its contract. Assumes nothing.
 use Rattle.rules.proofs.Resting.{first-is-not, second-is-not, third-decides}
 use Rattle.rules.proofs.searches.rests.Statement.{statement}
 use Rattle.rules.proofs.searches.rests.Tie as tie
-use Rattle.rules.proofs.searches.rests.Reads as reads
-use Rattle.rules.proofs.searches.rests.Lts as lts
 
--- src/searches.rt:18:9
 returns : tie.Need-returns
 returns c =
     let q = c .before .before .args .slot in
     first-is-not (q .key) (q .node) (q .visits) (c .if1 .taken)
 
--- src/searches.rt:21:9
 returns-2 : tie.Need-returns-2
 returns-2 c =
     let q = c .before .before .before .before .args .slot in
     second-is-not (q .key) (q .node) (q .visits) (c .if2 .taken)
 
--- src/searches.rt:14:1
 returns-3 : tie.Need-returns-3
 returns-3 c =
     let q = c .before .before .before .before .before .args .slot in

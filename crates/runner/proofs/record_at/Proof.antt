@@ -1,4 +1,4 @@
--- `records::record_at` meets its contract: a walk of its MIR, by hand. Where the place is in the list, the slice is looked into, the record is taken out of the row, copied and put back.
+-- `runner::record_at` meets its contract: a walk of its MIR, by hand. Where the place is in the list, the slice is looked into, the record is taken out of the row, copied and put back.
 use mathlib.Core.Path.{_≡_, refl, sym}
 use mathlib.Core.Bool.{Bool, not}
 use Prim.Native.Nat.{ℕ, _<_, _≤_, _^_, _*_}
@@ -41,11 +41,11 @@ use Rattle.schedule.specs.declared.Step.{Step}
 use Rattle.schedule.specs.Running.{noStep}
 use Rattle.schedule.proofs.Step as T
 use Rattle.schedule.proofs.Step.Laws as T′
-use Rattle.records.proofs.record_at.Key.{name as #records·record-at}
-use Rattle.records.proofs.record_at as rec
-use Rattle.records.proofs.record_at.Statement as stated
-use Rattle.records.proofs.record_at.Code as code
-use Rattle.records.proofs.record_at.Code.Mir.{t-4}
+use Rattle.runner.proofs.record_at.Key.{name as #runner·record-at}
+use Rattle.runner.proofs.record_at as rec
+use Rattle.runner.proofs.record_at.Statement as stated
+use Rattle.runner.proofs.record_at.Code as code
+use Rattle.runner.proofs.record_at.Code.Mir.{t-4}
 
 abbrev Arg : Type 0
 Arg = RefT (List Step) × (ℕ × Unit {0})
@@ -126,5 +126,5 @@ pub record-at-spec : {M : Type 1} → stated.statement M
 unfolding code.routine tablesOf
 record-at-spec 𝓤 H 𝓜 𝓖 𝓡 =
     entered 𝓤 H (tripleOf 𝓤 H (𝓖 .A) rec.signature (rec.spec 𝓤 H (𝓖 .A) (𝓜 .mem) (𝓡 .run)))
-    (tables 𝓤 H 𝓜 𝓡 code.env .C) (tables 𝓤 H 𝓜 𝓡 code.env .Λ) #records·record-at code.function (code.unfolded 𝓤 H 𝓜 𝓡)
+    (tables 𝓤 H 𝓜 𝓡 code.env .C) (tables 𝓤 H 𝓜 𝓡 code.env .Λ) #runner·record-at code.function (code.unfolded 𝓤 H 𝓜 𝓡)
     (rec-meets 𝓤 H (𝓖 .A) (givenOf 𝓤 H 𝓜 𝓖) (𝓜 .mem) (𝓡 .run) (tablesOf 𝓤 H 𝓜 (tables 𝓤 H 𝓜 𝓡 code.env)))
