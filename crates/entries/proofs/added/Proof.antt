@@ -1,7 +1,7 @@
 use borrow.Author.Needs.{needs}
 use Rattle.entries.proofs.Entering.{four-opened}
-use Rattle.entries.proofs.inserted.Statement.{statement}
-use Rattle.entries.proofs.inserted.Tie as tie
+use Rattle.entries.proofs.added.Statement.{statement}
+use Rattle.entries.proofs.added.Tie as tie
 
 open-requires : tie.Need-open-requires
 open-requires c κs = search needs
@@ -34,8 +34,8 @@ returns c =
     (c .before .before .before .before .before .before .«open» .ensures) (c .before .before .before .before .open2 .ensures)
     (c .before .before .open3 .ensures) (c .open4 .ensures)
 
-pub inserted-spec : {M : Type 1} → statement M
-inserted-spec =
+pub added-spec : {M : Type 1} → statement M
+added-spec =
     tie.close
     (tie.spec
     open-requires
