@@ -1,4 +1,4 @@
--- Why loading gives what it promises, once the nodes are read: one law for each way out. Assumes nothing.
+-- Why loading gives what it promises: one law for each way out. Assumes nothing.
 use mathlib.Core.Path.{_≡_, refl, sym, ap, _∙_}
 use mathlib.Core.Bool.{true, false}
 use mathlib.Core.List.{List, []}
@@ -7,6 +7,7 @@ use native.Mathlib.Omega.{arith}
 use native.Mathlib.Numerals.{add-one}
 use lib.ListN.{length, getD, drop, replicate, drop-of-length-le}
 use lib.Seq.{drop-cons}
+use borrow.Author.Tests.{lt-ltb, le-ltb}
 use Rattle.lists.proofs.Running.{length-run}
 use Rattle.plan.specs.Sizes.{mostNodes}
 use Rattle.plan.specs.PlanTable.{planTable, plans, planOf}
@@ -22,13 +23,40 @@ use Rattle.store.specs.StoreRules.{planNumberTest, goodStore}
 use Rattle.store.specs.Promises.{freshOutcome}
 use Rattle.store.proofs.Laying.{length-column, store-is, blank-column, blank-counts}
 use Rattle.wire.specs.declared.Num.{Num}
-use Rattle.wire.specs.Reading.{got, fault}
+use Rattle.wire.specs.Reading.{Got, got, fault}
 use Rattle.wire.proofs.Chains.{bind-got, bind-fault, num-got, num-fault}
 use Rattle.image.specs.declared.reading.Head.{Head}
 use Rattle.image.specs.Loading.{nodesAt, loaded, nodesFrom, imageAt, refusedLoad, copiesHeld, finished, loadOutcome}
 use Rattle.image.specs.Workers.{Columns, columns, columnsOf, countsOf, LaysNodes, ReadsHead}
-use Rattle.image.proofs.LoadWays.{finish-stops, finish-trails, finish-breaks, finish-accepts}
 use Rattle.image.proofs.NodeWays.{ending-got, ending-fault}
+
+-- ---- the end of loading
+
+-- What an accepted image gives.
+abbrev pub acceptedLoad : Store → Outcome
+acceptedLoad z = record { answer = answer DONE (copiesHeld (z .counts)) 0 0 0; store = z }
+
+module _ (s : List ℕ) (g : Got Store) where
+  -- Reading stops at a fault.
+  pub finish-stops : {number at : ℕ} → g ≡ fault number at → finished s g ≡ refusedLoad number at
+  unfolding finished
+  finish-stops e = rw e
+
+  module _ {z : Store} {end : ℕ} (e : g ≡ got z end) where
+    -- Bytes after the image.
+    pub finish-trails : end < length s → finished s g ≡ refusedLoad TRAIL end
+    unfolding finished
+    finish-trails h = rw (e, lt-ltb end (length s) h)
+
+    module _ (h : length s ≤ end) where
+      -- A store rule is broken.
+      pub finish-breaks : goodStore z ≡ false → finished s g ≡ refusedLoad RULE (length s)
+      unfolding finished
+      finish-breaks bad = rw (e, le-ltb end (length s) h, bad)
+
+      pub finish-accepts : goodStore z ≡ true → finished s g ≡ acceptedLoad z
+      unfolding finished
+      finish-accepts good = rw (e, le-ltb end (length s) h, good)
 
 -- ---- refuse
 

@@ -29,12 +29,13 @@ use Rattle.store.proofs.Ruling.{good-rules, rules-good}
 use Rattle.store.proofs.Lifting.{fresh-node, fresh-good}
 use Rattle.wire.specs.Reading.{got}
 use Rattle.wire.proofs.Buffers.{done-front}
 use Rattle.image.specs.Image.{image, lastValue, Declared}
 use Rattle.image.specs.Loading.{loaded, imageAt, copiesHeld, loadOutcome, idled}
 use Rattle.image.specs.Promises.{saveBuffer}
-use Rattle.image.proofs.ImageParts.{Small, small-none}
-use Rattle.image.proofs.ImageReads.{store-read, image-gives}
-use Rattle.image.proofs.LoadWays.{finish-accepts, LoadWay, stops, trails, breaks, accepts, load-way, load-accepted}
+use Rattle.trips.proofs.ImageParts.{Small, small-none}
+use Rattle.trips.proofs.ImageReads.{store-read, image-gives}
+use Rattle.image.proofs.LoadEnds.{finish-accepts}
+use Rattle.trips.proofs.LoadWays.{LoadWay, stops, trails, breaks, accepts, load-way, load-accepted}
 
 -- ---- all slots idle
 

@@ -7,7 +7,6 @@ use native.Mathlib.Decide.{decLt}
 use native.Mathlib.Omega.{arith}
 use lib.Dec.{ltb, eqb}
 use lib.ListN.{length}
-use borrow.Author.Tests.{lt-ltb, le-ltb}
 use Rattle.lists.proofs.Truths.{bool?, not-both, or-right}
 use mathlib.Core.Logic.{_⊎_, inl, inr}
 use Rattle.plan.specs.Plan.{Plan}
@@ -19,34 +18,9 @@ use Rattle.store.specs.Copies.{RESULT, member}
 use Rattle.store.specs.StoreRules.{planNumberTest, goodStore}
 use Rattle.wire.specs.Reading.{Got, got, fault, numberAt}
 use Rattle.wire.proofs.Chains.{Faults, faults-got, faults-fault, faults-bind, faults-cond, faults-number}
 use Rattle.image.specs.Image.{formatNumber}
-use Rattle.image.specs.Loading.{valueAt, copyAt, copiesAt, nodeAt, nodesAt, nodesFrom, clockFrom, planFrom, imageAt, refusedLoad, copiesHeld, finished, loadOutcome}
-
--- What an accepted image gives.
-abbrev pub acceptedLoad : Store → Outcome
-acceptedLoad z = record { answer = answer DONE (copiesHeld (z .counts)) 0 0 0; store = z }
-
-module _ (s : List ℕ) (g : Got Store) where
-  -- Reading stops at a fault.
-  pub finish-stops : {number at : ℕ} → g ≡ fault number at → finished s g ≡ refusedLoad number at
-  unfolding finished
-  finish-stops e = rw e
-
-  module _ {z : Store} {end : ℕ} (e : g ≡ got z end) where
-    -- Bytes after the image.
-    pub finish-trails : end < length s → finished s g ≡ refusedLoad TRAIL end
-    unfolding finished
-    finish-trails h = rw (e, lt-ltb end (length s) h)
-
-    module _ (h : length s ≤ end) where
-      -- A store rule is broken.
-      pub finish-breaks : goodStore z ≡ false → finished s g ≡ refusedLoad RULE (length s)
-      unfolding finished
-      finish-breaks bad = rw (e, le-ltb end (length s) h, bad)
-
-      pub finish-accepts : goodStore z ≡ true → finished s g ≡ acceptedLoad z
-      unfolding finished
-      finish-accepts good = rw (e, le-ltb end (length s) h, good)
+use Rattle.image.proofs.LoadEnds.{acceptedLoad, finish-stops, finish-trails, finish-breaks, finish-accepts}
+use Rattle.image.specs.Loading.{valueAt, copyAt, copiesAt, nodeAt, nodesAt, nodesFrom, clockFrom, planFrom, imageAt, refusedLoad, loadOutcome}
 
 -- Loading goes one of these ways.
 pub data LoadWay (s : List ℕ) : Type 0 where

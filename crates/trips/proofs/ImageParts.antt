@@ -21,8 +21,9 @@ use Rattle.store.specs.State.{lastClock}
 use Rattle.store.specs.StateRules.{KindAndValue}
 use Rattle.wire.specs.Reading.{got, numberAt}
 use Rattle.wire.proofs.Chains.{bind-got, check-holds, Gives, gives-got, gives-check, gives-bind, number-back, number-gives}
+use Rattle.image.proofs.NodeWays.{copies-counted}
 use Rattle.image.specs.Image.{lastValue, valueBytes, copyBytes, copiesBytes, nodeBytes, nodesBytes}
 use Rattle.image.specs.Loading.{valueAt, copyAt, copiesAt, nodeAt, nodesAt}
 
 -- Nothing stands: reading goes on at the same offset.
 nothing-stands : {A : Type 0} {s : List ℕ} {at next : ℕ} (x : A) → Stands s at [] next → got x at ≡ got x next
@@ -126,9 +127,8 @@ record CopyStands (s : List ℕ) (at : ℕ) (x : Copy) (next : ℕ) : Type 0 whe
   stands : Stands s at (copyBytes x) next
   small : Small x
 
-record CopiesStand (s : List ℕ) (n at : ℕ) (xs : List Copy) (next : ℕ) : Type 0 where
+record CopiesStand (s : List ℕ) (at : ℕ) (xs : List Copy) (next : ℕ) : Type 0 where
   stands : Stands s at (copiesBytes xs) next
-  long : length xs ≡ n
   small : (i : ℕ) → Small (getD xs i noCopy)
 
 record NodeStands (s : List ℕ) (capacity at : ℕ) (xs : List Copy) (next : ℕ) : Type 0 where
@@ -173,15 +173,14 @@ module _ (s : List ℕ) (bytes : Bytes s) where
         small = record { key = k .small; value = v .1 };
       })
 
-  copies-gives : (n at : ℕ) → Gives (CopiesStand s n at) (copiesAt s n at)
+  copies-gives : (n at : ℕ) → Gives (CopiesStand s at) (copiesAt s n at)
   unfolding copiesAt copiesBytes
-  copies-gives zero at = gives-got (record { stands = stands-nil s at; long = refl; small = λ i. small-none })
+  copies-gives zero at = gives-got (record { stands = stands-nil s at; small = λ i. small-none })
   copies-gives (suc n) at =
       gives-bind _ _ (copy-gives at) λ x a h.
       gives-bind _ _ (copies-gives n a) λ xs b k.
       gives-got (record {
         stands = stands-join (h .stands) (k .stands);
-        long = ap suc (k .long);
         small = each-cons Small noCopy x xs (h .small) (k .small);
       })
 
@@ -193,11 +192,12 @@ module _ (s : List ℕ) (bytes : Bytes s) where
       record {
         each = λ xs next e.
             let k = copies-gives count a .each xs next e in
+            let long = copies-counted s count a .each xs next e in
             let m = ltb-true count (suc capacity) few in
-            let c : Stands s at (form (length xs)) a = rw (k .long) (n .stands) in
+            let c : Stands s at (form (length xs)) a = rw long (n .stands) in
             record {
               stands = stands-join c (k .stands);
-              room = omega (arith, k .long);
+              room = omega arith;
               small = k .small;
             };
       }

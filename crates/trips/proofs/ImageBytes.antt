@@ -16,9 +16,9 @@ use Rattle.store.specs.Copies.{RESULT, noCopy}
 use Rattle.store.specs.Layout.{stateOf}
 use Rattle.store.specs.StoreRules.{StoreRules}
 use Rattle.wire.proofs.ByteStrings.{no-bytes, bytes-join}
 use Rattle.image.specs.Image.{formatNumber, valueBytes, copyBytes, copiesBytes, nodeBytes, nodesBytes, imageOf, image, Declared}
-use Rattle.image.proofs.ImageParts.{kind-small, Writable, WritableNodes, rest-writable}
-use Rattle.image.proofs.ImageReads.{nodes-writable}
+use Rattle.trips.proofs.ImageParts.{kind-small, Writable, WritableNodes, rest-writable}
+use Rattle.trips.proofs.ImageReads.{nodes-writable}
 
 copy-bytes : (x : Copy) → Writable x → Bytes (copyBytes x)
 unfolding copyBytes valueBytes

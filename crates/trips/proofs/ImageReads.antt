@@ -26,9 +26,9 @@ use Rattle.store.specs.StoreRules.{StoreRules, planNumberTest}
 use Rattle.store.proofs.Laying.{length-nodes, state-count, state-copy, state-back, store-back}
 use Rattle.wire.specs.Reading.{got}
 use Rattle.wire.proofs.Chains.{bind-got, check-holds, Gives, gives-got, gives-check, gives-bind, number-back, number-gives}
 use Rattle.image.specs.Image.{formatNumber, nodesBytes, imageOf, image, Declared}
 use Rattle.image.specs.Loading.{loaded, nodesFrom, clockFrom, planFrom, imageAt, idled}
-use Rattle.image.proofs.ImageParts.{Writable, Small, WritableNodes, nodes-back, NodesStand, nodes-gives}
+use Rattle.trips.proofs.ImageParts.{Writable, Small, WritableNodes, nodes-back, NodesStand, nodes-gives}
 
 plan-number : {plan : ℕ} → planNumberTest plan ≡ true → (1 ≤ plan) × (plan ≤ plans)
 unfolding planNumberTest
