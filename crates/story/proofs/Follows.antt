@@ -26,7 +26,7 @@ use Rattle.schedule.specs.declared.Step.{Step}
 use Rattle.schedule.specs.Schedule.{ENTER, WITHDRAW, CARRY, START, STEP, CANCEL}
 use Rattle.schedule.specs.Running.{noStep, unknownStep, stepOf, runOutcome}
 use Rattle.image.specs.Loading.{loadOutcome}
-use Rattle.image.proofs.RoundTrips.{load-good}
+use Rattle.trips.proofs.RoundTrips.{load-good}
 use Rattle.theory.specs.Events.{Event, effect, after, answerOf, run as runEvents}
 use Rattle.theory.specs.Events.Event.{enters, withdraws, carries, starts, steps, cancels, asks}
 use Rattle.theory.proofs.EventSteps.{event-keeps}
@@ -143,24 +143,21 @@ pub record Replaced (c : Call) (y : Store) : Type 0 where
   pub leaves : (z : Store) → storeAfter c z ≡ y
   pub good : goodStore y ≡ true
 
+pub accepted-store : (o : Outcome) (y : Store) → storeIfAccepted o ≡ some y → (o .store ≡ y) × ((z : Store) → replaced o z ≡ y)
+accepted-store o y e = go (accepted (o .answer)) e
+  where
+    go : (b : Bool) → cond b (some (o .store)) none ≡ some y → (o .store ≡ y) × ((z : Store) → cond b (o .store) z ≡ y)
+    go true e = (one-some refl e, λ z. one-some refl e)
+    go false e = absurd (not-none-and-some refl e)
+
 pub replaced-by : (c : Call) (y : Store) → replacement c ≡ some y → Replaced c y
 replaced-by c y e = go (call-way c)
   where
-    accepts : (o : Outcome) → storeIfAccepted o ≡ some y → (o .store ≡ y) × ((z : Store) → replaced o z ≡ y)
-    accepts o e = at (accepted (o .answer)) e
-      where
-        at : (b : Bool) → cond b (some (o .store)) none ≡ some y → (o .store ≡ y) × ((z : Store) → cond b (o .store) z ≡ y)
-        at true e = (one-some refl e, λ z. one-some refl e)
-        at false e = absurd (not-none-and-some refl e)
-
     go : OnEvent c ⊎ OwnOutcome c → Replaced c y
     go (inl w) = absurd (not-none-and-some (w .replaces-none) e)
     go (inr w) =
-        let a = accepts (w .outcome) (sym (w .replaces) ∙ e) in
-        record {
-          leaves = λ z. w .leaves z ∙ a .1 z;
-          good = subst (λ (z : Store). goodStore z ≡ true) (a .0) (w .good);
-        }
+        let a = accepted-store (w .outcome) y (sym (w .replaces) ∙ e) in
+        record { leaves = λ z. w .leaves z ∙ a .1 z; good = subst (λ (z : Store). goodStore z ≡ true) (a .0) (w .good) }
 
 -- An event keeps the rules, as a step.
 effect-keeps : (e : Event) → Keeps (λ p s. effect p e s)
