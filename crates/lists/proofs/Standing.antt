@@ -191,3 +191,12 @@ module _ {A : Type 0} where
   pub no-elements : (l : List A) → length l ≡ 0 → l ≡ []
   no-elements [] h = refl
   no-elements (x ∷ l) h = absurd (omega arith)
+
+  -- Where two runs fit as one, the first fits.
+  pub fits-left : (at : ℕ) (l k : List A) {most : ℕ} → at + length (l ++ k) ≤ most → at + length l ≤ most
+  fits-left at l k h = omega (arith, length-append l k)
+
+  -- And once it is written, the second fits after it.
+  pub fits-right : {b : List A} {at : ℕ} (l k : List A) {next : ℕ} {c : List A} → at + length (l ++ k) ≤ length b → Wrote b at l next c
+      → next + length k ≤ length c
+  fits-right l k h w = let t = w .to in omega (arith, length-append l k, wrote-length w)

@@ -1,6 +1,6 @@
 -- The test of a slot, way out by way out: idle, of no known mark, or running. Assumes nothing.
-use mathlib.Core.Path.{_≡_, refl, sym, _∙_}
-use mathlib.Core.Bool.{Bool, true, false, and-false, _&&_}
+use mathlib.Core.Path.{_≡_}
+use mathlib.Core.Bool.{false, and-false, _&&_}
 use Prim.Native.Nat.{ℕ}
 use lib.Dec.{eqb}
 use borrow.Author.Tests.{eq-eqb, ne-eqb}

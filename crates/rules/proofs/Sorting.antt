@@ -14,19 +14,19 @@ use lib.ListN.{length, getD}
 use borrow.Author.Tests.{eqb-true, eq-eqb}
 use Rattle.lists.specs.Runs.{run}
 use Rattle.lists.proofs.Running.{run-split}
-use Rattle.lists.proofs.Truths.{bool?, not-both, same-test, or-cases, or-left, or-right, and-right}
+use Rattle.lists.proofs.Truths.{bool?, not-both, same-test, or-cases, or-left, or-right}
 use Rattle.plan.specs.Sizes.{mostNodes}
 use Rattle.store.specs.Copies.{member, different}
 use Rattle.store.specs.Layout.{width, places}
 use Rattle.store.specs.StoreRules.{stampsFrom}
 use Rattle.store.specs.Workers.{numberIn, placeIn, RisesIn, opened}
 use Rattle.store.proofs.RulingLists.{member-run, run-member, run-different, different-both, both-different}
-use Rattle.store.proofs.Halving.{place-bounds, half-up, half-down}
+use Rattle.store.proofs.Halving.{half-up, half-down}
 use Rattle.store.proofs.Opening.{length-opened, opened-before, opened-here, opened-after}
 use Rattle.rules.specs.Workers.{firsts, Sorted}
 
 -- A test that cannot hold fails.
-refuted : (b : Bool) → (b ≡ true → ⊥) → b ≡ false
+pub refuted : (b : Bool) → (b ≡ true → ⊥) → b ≡ false
 refuted b h = ⊎-elim (λ (t : b ≡ true). absurd (h t)) (λ (f : b ≡ false). f) (bool? b)
 
 -- Numbers that rise are different.

@@ -1,5 +1,5 @@
 -- A walk down a key's path: what is said of the nodes still to come, turn by turn. Assumes nothing.
-use mathlib.Core.Path.{_≡_, refl, ap}
+use mathlib.Core.Path.{_≡_, refl, _∙_}
 use mathlib.Core.Bool.{true, false}
 use mathlib.Core.List.{List, [], _∷_}
 use Prim.Native.Nat.{ℕ, zero, suc, _-_, _<_, _≤_}
@@ -8,9 +8,19 @@ use lib.Dec.{eqb}
 use borrow.Author.Tests.{eq-eqb, ne-eqb}
 use Rattle.plan.specs.declared.Hop.{Hop}
 use Rattle.plan.specs.declared.Hop.the-variants.{To, Ends}
-use Rattle.plan.specs.Plan.{Plan, size, next, walk, pathFrom, path}
+use Rattle.plan.specs.Plan.{Plan, size, firstEdge, next, walk, pathFrom, path}
+use Rattle.plan.specs.PlanTable.{planOf}
+use Rattle.plan.specs.PlanArrays.{Grid, edgesIn}
+use Rattle.plan.proofs.RowLaws.{next-of}
 use Rattle.store.specs.Copies.{member}
 use Rattle.store.specs.StoreRules.{standsAt}
+use Rattle.rules.specs.Workers.{ArraysOf}
+
+-- A plan's arrays give the key's next step.
+pub next-here : {plan : ℕ} {edges : List ℕ} {lows highs targets : Grid} → ArraysOf plan edges lows highs targets → (n k : ℕ) (h : Hop)
+    → h ≡ firstEdge (edgesIn edges lows highs targets n) k → h ≡ next (planOf plan) n k
+next-here {plan} {edges} {lows} {highs} {targets} a n k h e =
+    e ∙ next-of plan edges lows highs targets (a .edges-of) (a .lows-of) (a .highs-of) (a .targets-of) n k
 
 -- A path is a walk from the root, of at most as many nodes as the plan has.
 pub path-walk : (p : Plan) (k left : ℕ) → left ≡ size p → path p k ≡ walk p k left (To 0)

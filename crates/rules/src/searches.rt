@@ -2,11 +2,9 @@
 ghost use mathlib.Core.Path.{_≡_};
 ghost use mathlib.Core.Bool.{_&&_};
 ghost use lib.Dec.{eqb};
-ghost use lib.ListN.{getD};
-ghost use Rattle.lists.specs.Runs.{allBelow};
 ghost use Rattle.plan.specs.PlanTable.{planOf};
-ghost use Rattle.store.specs.State.{slotCount, idle};
 ghost use Rattle.store.specs.StoreRules.{slotTest};
+ghost use Rattle.rules.specs.Workers.{slotsTest, ArraysOf};
 use crate::paths;
 use store::Slot;
 use store::Store;
@@ -25,7 +23,15 @@ fn rests(slot: Slot) -> bool
 }
 
 // One slot: idle, or "a running search stands on its key's path, its visits equal to the path nodes above it".
-fn slot_good(plan: u32, slot: Slot) -> bool
+fn slot_good<'a>(
+    plan: u32,
+    edges: &'a [u32; plan::MOST_NODES],
+    lows: &'a [[u32; plan::MOST_EDGES]; plan::MOST_NODES],
+    highs: &'a [[u32; plan::MOST_EDGES]; plan::MOST_NODES],
+    targets: &'a [[u32; plan::MOST_EDGES]; plan::MOST_NODES],
+    slot: Slot,
+) -> bool
+    requires { ⌜ ArraysOf plan (now edges) (now lows) (now highs) (now targets) ⌝ }
     ensures { λ r. ⌜ r ≡ slotTest (planOf plan) slot ⌝ }
 {
     if slot.running == 0 {
@@ -34,16 +40,33 @@ fn slot_good(plan: u32, slot: Slot) -> bool
     if slot.running != 1 {
         return false;
     }
-    paths::stands_at(plan, slot.key, slot.node, slot.visits)
+    paths::stands_at(
+        plan,
+        edges,
+        lows,
+        highs,
+        targets,
+        slot.key,
+        slot.node,
+        slot.visits,
+    )
 }
 
 // All slots.
-pub fn slots_good(plan: u32, slots: [Slot; Store::SLOTS]) -> bool
-    ensures { λ r. ⌜ r ≡ allBelow slotCount (λ i. slotTest (planOf plan) (getD slots i idle)) ⌝ }
+pub fn slots_good<'a>(
+    plan: u32,
+    edges: &'a [u32; plan::MOST_NODES],
+    lows: &'a [[u32; plan::MOST_EDGES]; plan::MOST_NODES],
+    highs: &'a [[u32; plan::MOST_EDGES]; plan::MOST_NODES],
+    targets: &'a [[u32; plan::MOST_EDGES]; plan::MOST_NODES],
+    slots: [Slot; Store::SLOTS],
+) -> bool
+    requires { ⌜ ArraysOf plan (now edges) (now lows) (now highs) (now targets) ⌝ }
+    ensures { λ r. ⌜ r ≡ slotsTest plan slots ⌝ }
 {
     let mut i = 0;
     while i < Store::SLOTS {
-        if !slot_good(plan, slots[i]) {
+        if !slot_good(plan, edges, lows, highs, targets, slots[i]) {
             return false;
         }
         i += 1;

@@ -12,8 +12,8 @@ ghost use Rattle.store.specs.Layout.{places};
 ghost use Rattle.store.specs.StoreRules.{stampsFrom};
 ghost use Rattle.store.specs.Workers.{numberIn, RisesIn};
 ghost use Rattle.rules.specs.Workers.{firsts, Sorted, Fitting};
-use store::columns;
 use store::Store;
+use store::columns;
 
 // One stamp goes into the scratch column, which holds so many, if it is not there.
 fn put_stamp(sorted: &mut [u32; Store::PLACES], held: usize, stamp: u32) -> bool

@@ -39,8 +39,8 @@ module _ {A : Type 0} (bytes : A → List ℕ) (all : List A → List ℕ) (none
     pub kept : length buffer ≡ length before
     pub joins : (next : ℕ) (after : List ℕ) → Wrote buffer at (partsFrom i) next after → Wrote before start whole next after
 
-  pub write-begins : {before : List ℕ} {i at : ℕ} → at + length (partsFrom i) ≤ length before → Writes before at (partsFrom i) i at before
-  write-begins h = record { fits = h; kept = refl; joins = λ next after w. w }
+  pub write-begins : (before : List ℕ) (i at : ℕ) → at + length (partsFrom i) ≤ length before → Writes before at (partsFrom i) i at before
+  write-begins before i at h = record { fits = h; kept = refl; joins = λ next after w. w }
 
   module _ {before : List ℕ} {start : ℕ} {whole : List ℕ} {i at : ℕ} {buffer : List ℕ} (w : Writes before start whole i at buffer) where
     -- There is room for the next part.

@@ -1,5 +1,5 @@
 -- `searches::visit` meets its contract. Assumes nothing.
-use mathlib.Core.Path.{_≡_, sym, ap, _∙_}
+use mathlib.Core.Path.{sym, ap, _∙_}
 use mathlib.Core.Option.{none, some}
 use Prim.Native.Nat.{_+_, _<_}
 use native.Mathlib.Omega.{arith}

@@ -1,43 +1,35 @@
-use Rattle.rules.proofs.Copying.{rises-last, rises-next}
+-- `rules::nodes::key_rises` meets its contract. Assumes nothing.
+use native.Mathlib.Omega.{arith}
+use Rattle.rules.proofs.Marking.{rises-last, rises-next}
 use borrow.Author.Needs.{needs}
 use Rattle.rules.proofs.nodes.key_rises.Statement.{statement}
 use Rattle.rules.proofs.nodes.key_rises.Tie as tie
-use Rattle.rules.proofs.nodes.key_rises.Reads as reads
-use Rattle.rules.proofs.nodes.key_rises.Lts as lts
 
--- src/nodes.rt:121:15
 add-if1 : tie.Need-add-if1
 add-if1 c = search needs
 
--- src/nodes.rt:122:9
 returns : tie.Need-returns
-returns c = rises-last (c .before .args .keys .now) (c .before .args .i) (c .before .args .end) (c .if1 .taken)
+returns c = rises-last (c .before .args .keys .now) (c .before .args .end) (c .before .args .i) (omega arith)
 
--- src/nodes.rt:124:5
 mul-result : tie.Need-mul-result
 mul-result c = search needs
 
--- src/nodes.rt:124:5
 element-copy-out-result : tie.Need-element-copy-out-result
 element-copy-out-result c = search needs
 
--- src/nodes.rt:124:20
 add-result : tie.Need-add-result
 add-result c = search needs
 
--- src/nodes.rt:124:15
 mul-result-2 : tie.Need-mul-result-2
 mul-result-2 c = search needs
 
--- src/nodes.rt:124:15
 element-copy-out-result-2 : tie.Need-element-copy-out-result-2
 element-copy-out-result-2 c = search needs
 
--- src/nodes.rt:117:1
 returns-2 : tie.Need-returns-2
 returns-2 c =
     let s = c .before .before .before in
-    rises-next (s .args .keys .now) (s .args .i) (s .args .end) (c .before .before .if1 .left)
+    rises-next (s .args .keys .now) (s .args .end) (s .args .i) (omega arith)
 
 pub key-rises-spec : {M : Type 1} → statement M
 key-rises-spec =

@@ -1,3 +1,4 @@
+-- `rules::nodes::unused_good` meets its contract. Assumes nothing.
 use mathlib.Core.Path.{sym, _∙_}
 use mathlib.Core.Bool.{Bool}
 use mathlib.Core.List.{List}
@@ -5,53 +6,42 @@ use Prim.Native.Nat.{ℕ}
 use lib.Seq.{slice}
 use borrow.Author.Tests.{not-true, not-false}
 use Rattle.store.specs.StoreRules.{allZero}
-use Rattle.rules.proofs.Noding.{first-fails, second-fails, third-fails, fourth-decides}
+use Rattle.rules.proofs.Tidying.{first-fails, second-fails, third-fails, fourth-decides}
 use borrow.Author.Needs.{needs}
 use Rattle.rules.proofs.nodes.unused_good.Statement.{statement}
 use Rattle.rules.proofs.nodes.unused_good.Tie as tie
-use Rattle.rules.proofs.nodes.unused_good.Reads as reads
-use Rattle.rules.proofs.nodes.unused_good.Lts as lts
-use Rattle.store.proofs.columns.all_zero.Reads as all-zero-reads
 
 -- A column is zero from..end.
 abbrev zero : tie.Start → List ℕ → Bool
 zero s col = allZero (slice (s .args .from) (s .args .end) col)
 
--- src/nodes.rt:193:9
 all-zero-requires : tie.Need-all-zero-requires
 all-zero-requires c κs = search needs
 
--- src/nodes.rt:194:9
 returns : tie.Need-returns
 returns c =
     let s = c .before .before in
     first-fails (zero s (s .args .keys .now)) (zero s (s .args .kinds .now)) (zero s (s .args .values .now)) (zero s (s .args .stamps .now)) (sym (c .before .all-zero .ensures) ∙ not-true (c .before .all-zero .result) (c .if1 .taken))
 
--- src/nodes.rt:196:9
 all-zero-requires-2 : tie.Need-all-zero-requires-2
 all-zero-requires-2 c κs = search needs
 
--- src/nodes.rt:197:9
 returns-2 : tie.Need-returns-2
 returns-2 c =
     let s = c .before .before .before .before in
     second-fails (zero s (s .args .keys .now)) (zero s (s .args .kinds .now)) (zero s (s .args .values .now)) (zero s (s .args .stamps .now)) (sym (c .before .all-zero2 .ensures) ∙ not-true (c .before .all-zero2 .result) (c .if2 .taken))
 
--- src/nodes.rt:199:9
 all-zero-requires-3 : tie.Need-all-zero-requires-3
 all-zero-requires-3 c κs = search needs
 
--- src/nodes.rt:200:9
 returns-3 : tie.Need-returns-3
 returns-3 c =
     let s = c .before .before .before .before .before .before in
     third-fails (zero s (s .args .keys .now)) (zero s (s .args .kinds .now)) (zero s (s .args .values .now)) (zero s (s .args .stamps .now)) (sym (c .before .all-zero3 .ensures) ∙ not-true (c .before .all-zero3 .result) (c .if3 .taken))
 
--- src/nodes.rt:202:5
 all-zero-requires-4 : tie.Need-all-zero-requires-4
 all-zero-requires-4 c κs = search needs
 
--- src/nodes.rt:182:1
 returns-4 : tie.Need-returns-4
 returns-4 c =
     let s = c .before .before .before .before .before .before .before in

@@ -1,3 +1,5 @@
+-- `rules::paths::on_path` meets its contract. The loop's invariant: the node stands on the path if it stands among the nodes to come. The
+-- measure is how many may come. Assumes nothing.
 use mathlib.Core.Path.{_≡_, sym, ap, _∙_}
 use Prim.Native.Nat.{_-_}
 use native.Mathlib.Omega.{arith}
@@ -6,66 +8,52 @@ use Rattle.plan.specs.declared.Hop.{Hop}
 use Rattle.plan.specs.Plan.{walk, path}
 use Rattle.plan.specs.PlanTable.{planOf}
 use Rattle.store.specs.Copies.{member}
-use Rattle.rules.proofs.Walking.{path-walk, on-out, on-ends, on-here, on-later}
+use Rattle.rules.proofs.Walking.{next-here, path-walk, on-out, on-ends, on-here, on-later}
 use Rattle.rules.proofs.paths.on_path.Statement.{statement}
 use Rattle.rules.proofs.paths.on_path.Tie as tie
-use Rattle.rules.proofs.paths.on_path.Reads as reads
-use Rattle.rules.proofs.paths.on_path.Lts as lts
-use Rattle.plan.proofs.next.Reads as next-reads
-use Rattle.plan.proofs.nodes.Reads as nodes-reads
 
 abbrev Inv-loop : tie.InvT-loop
-Inv-loop plan key node left₀ hop₀ left hop =
+Inv-loop plan edges lows highs targets key node left₀ hop₀ left hop =
     member node (path (planOf plan) key) ≡ member node (walk (planOf plan) key left hop)
 
 abbrev μ-loop : tie.MeasureT-loop
-μ-loop plan key node left₀ hop₀ left hop = left
+μ-loop plan edges lows highs targets key node left₀ hop₀ left hop = left
 
--- src/paths.rt:13:9
 nodes-requires : tie.Need-nodes-requires Inv-loop μ-loop
 nodes-requires c κs = search needs
 
--- src/paths.rt:15:5
 loop-holds : tie.Need-loop-holds Inv-loop μ-loop
 loop-holds c =
     let s = c .before in
     ap (member (s .args .node)) (path-walk (planOf (s .args .plan)) (s .args .key) (c .nodes .result) (c .nodes .ensures))
 
--- src/paths.rt:16:21
 enum-known-hop : tie.Need-enum-known-hop Inv-loop μ-loop
 enum-known-hop c = search needs
 
--- src/paths.rt:17:13
 enum-told : tie.Need-enum-told Inv-loop μ-loop
 enum-told c = search needs
 
--- src/paths.rt:17:13
 returns : tie.Need-returns Inv-loop μ-loop
 returns c =
     let l = c .before .before .before in
     let s = l .before .before in
     sym (l .loop .inv ∙ on-ends (planOf (s .args .plan)) (s .args .key) (l .loop .left) (l .loop .hop) (s .args .node) (c .enum-told .given .1))
 
--- src/paths.rt:20:13
 returns-2 : tie.Need-returns-2 Inv-loop μ-loop
 returns-2 c =
     let l = c .before .before .before .before .before in
     let s = l .before .before in
     sym (l .loop .inv ∙ on-here (planOf (s .args .plan)) (s .args .key) (l .loop .left) (l .loop .hop) (s .args .node) (c .before .before .hop .given .0 .0) (omega arith) (c .before .before .hop .given .1) (c .if1 .taken))
 
--- src/paths.rt:22:9
-next-requires : tie.Need-next-requires Inv-loop μ-loop
-next-requires c κs = search needs
+next-in-requires : tie.Need-next-in-requires Inv-loop μ-loop
+next-in-requires c κs = search needs
 
--- src/paths.rt:23:9
 sub-left : tie.Need-sub-left Inv-loop μ-loop
 sub-left c = search needs
 
--- src/paths.rt:15:5
 loop-less : tie.Need-loop-less Inv-loop μ-loop
 loop-less c = search needs
 
--- src/paths.rt:15:5
 loop-again : tie.Need-loop-again Inv-loop μ-loop
 loop-again c =
     let l = c .before .before .before .before .before .before in
@@ -73,9 +61,8 @@ loop-again c =
     let at = c .before .before .before .hop .given in
     l .loop .inv
     ∙ on-later (planOf (s .args .plan)) (s .args .key) (l .loop .left) (l .loop .hop) (s .args .node) (at .0 .0) (omega arith) (at .1) (c .before .if1 .left)
-    ∙ ap (λ (h : Hop). member (s .args .node) (walk (planOf (s .args .plan)) (s .args .key) (l .loop .left - 1) h)) (sym (c .next .ensures))
+    ∙ ap (λ (h : Hop). member (s .args .node) (walk (planOf (s .args .plan)) (s .args .key) (l .loop .left - 1) h)) (sym (next-here (s .pre) (at .0 .0) (s .args .key) (c .next-in .result) (c .next-in .ensures)))
 
--- src/paths.rt:10:1
 returns-3 : tie.Need-returns-3 Inv-loop μ-loop
 returns-3 c =
     let l = c .before in
@@ -94,7 +81,7 @@ on-path-spec =
     enum-told
     returns
     returns-2
-    next-requires
+    next-in-requires
     sub-left
     loop-less
     loop-again

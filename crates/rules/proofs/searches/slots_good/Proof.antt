@@ -1,3 +1,5 @@
+-- `rules::searches::slots_good` meets its contract. The loop's invariant: all slots pass if those from i on do. The measure is their number.
+-- Assumes nothing.
 use mathlib.Core.Path.{_≡_, refl, sym, _∙_}
 use mathlib.Core.Bool.{Bool}
 use mathlib.Core.List.{List}
@@ -14,64 +16,52 @@ use Rattle.store.specs.State.{slotCount, idle}
 use Rattle.store.specs.StoreRules.{slotTest}
 use Rattle.rules.proofs.searches.slots_good.Statement.{statement}
 use Rattle.rules.proofs.searches.slots_good.Tie as tie
-use Rattle.rules.proofs.searches.slots_good.Reads as reads
-use Rattle.rules.proofs.searches.slots_good.Lts as lts
-use Rattle.rules.proofs.searches.slot_good.Reads as slot-good-reads
 
 -- The test of each slot.
 abbrev eachSlot : ℕ → List Slot → ℕ → Bool
 eachSlot plan slots i = slotTest (planOf plan) (getD slots i idle)
 
 abbrev Inv-loop : tie.InvT-loop
-Inv-loop plan slots i₀ i =
+Inv-loop plan edges lows highs targets slots i₀ i =
     (i ≤ slotCount) × (allBelow slotCount (eachSlot plan slots) ≡ allFrom i (slotCount - i) (eachSlot plan slots))
 
 abbrev μ-loop : tie.MeasureT-loop
-μ-loop plan slots i₀ i = slotCount - i
+μ-loop plan edges lows highs targets slots i₀ i = slotCount - i
 
--- src/searches.rt:30:5
 loop-holds : tie.Need-loop-holds Inv-loop μ-loop
 loop-holds c = (search needs, refl)
 
--- src/searches.rt:31:29
 mul-slot-good : tie.Need-mul-slot-good Inv-loop μ-loop
 mul-slot-good c = search needs
 
--- src/searches.rt:31:29
 array-copy-out-slot-good : tie.Need-array-copy-out-slot-good Inv-loop μ-loop
 array-copy-out-slot-good c = search needs
 
--- src/searches.rt:31:13
 slot-good-requires : tie.Need-slot-good-requires Inv-loop μ-loop
 slot-good-requires c κs = search needs
 
--- src/searches.rt:32:13
 returns : tie.Need-returns Inv-loop μ-loop
 returns c =
     let l = c .before .before .before .before in
-    let f = eachSlot (l .before .args .plan) (l .before .args .t2) in
+    let f = eachSlot (l .before .args .plan) (l .before .args .t6) in
     sym (l .loop .inv .1 ∙ all-stop f (l .loop .i) slotCount (omega arith) (sym (c .before .slot-good .ensures) ∙ not-true (c .before .slot-good .result) (c .if1 .taken)))
 
--- src/searches.rt:34:9
 add-i : tie.Need-add-i Inv-loop μ-loop
 add-i c = search needs
 
--- src/searches.rt:30:5
 loop-less : tie.Need-loop-less Inv-loop μ-loop
 loop-less c = search needs
 
--- src/searches.rt:30:5
 loop-again : tie.Need-loop-again Inv-loop μ-loop
 loop-again c =
     let l = c .before .before .before .before in
-    let f = eachSlot (l .before .args .plan) (l .before .args .t2) in
+    let f = eachSlot (l .before .args .plan) (l .before .args .t6) in
     (omega arith, l .loop .inv .1 ∙ all-turn f (l .loop .i) slotCount (omega arith) (sym (c .before .slot-good .ensures) ∙ not-false (c .before .slot-good .result) (c .if1 .left)))
 
--- src/searches.rt:26:1
 returns-2 : tie.Need-returns-2 Inv-loop μ-loop
 returns-2 c =
     let l = c .before in
-    sym (l .loop .inv .1 ∙ all-end (eachSlot (l .before .args .plan) (l .before .args .t2)) (l .loop .i) slotCount (omega arith))
+    sym (l .loop .inv .1 ∙ all-end (eachSlot (l .before .args .plan) (l .before .args .t6)) (l .loop .i) slotCount (omega arith))
 
 pub slots-good-spec : {M : Type 1} → statement M
 slots-good-spec =

@@ -1,3 +1,4 @@
+-- `rules::stamps::put_stamp` meets its contract. Assumes nothing.
 use mathlib.Core.Path.{_≡_, refl, sym, ap}
 use mathlib.Core.Bool.{not}
 use mathlib.Core.Logic.{⊎-elim}
@@ -11,33 +12,27 @@ use Rattle.rules.proofs.Sorting.{put-there, put-absent, put-sorted}
 use borrow.Author.Needs.{needs}
 use Rattle.rules.proofs.stamps.put_stamp.Statement.{statement}
 use Rattle.rules.proofs.stamps.put_stamp.Tie as tie
-use Rattle.rules.proofs.stamps.put_stamp.Reads as reads
-use Rattle.rules.proofs.stamps.put_stamp.Lts as lts
-use Rattle.store.proofs.columns.open.Reads as open-reads
-use Rattle.store.proofs.columns.seek.Reads as seek-reads
 
--- src/stamps.rt:23:9
 seek-requires : tie.Need-seek-requires
 seek-requires c κs = search needs
 
--- src/stamps.rt:24:21
 mul-if2 : tie.Need-mul-if2
 mul-if2 c = search needs
 
--- src/stamps.rt:24:21
 element-copy-out-if2 : tie.Need-element-copy-out-if2
 element-copy-out-if2 c = search needs
 
--- src/stamps.rt:25:9
 returns : tie.Need-returns
 returns c =
     let s = c .before .before .before .before .before in
     let a = s .args in
     let seek = c .before .before .before .seek in
-    (sym (ap not (put-there (a .sorted .now) (a .held) (s .pre .2) (a .stamp) (seek .result) (seek .ensures) (c .before .before .if1 .taken) (eqb-true (numberIn (a .sorted .now) (seek .result)) (a .stamp) (c .if2 .taken)))),
-    λ q. absurd (not-both q refl))
+    let w = place-bounds (a .sorted .now) 0 (a .held) (omega arith) (a .stamp) in
+    let e = seek .ensures in (
+      sym (ap not (put-there (a .sorted .now) (a .held) (s .pre .2) (a .stamp) (seek .result) e (omega arith) (eqb-true (numberIn (a .sorted .now) (seek .result)) (a .stamp) (c .if2 .taken)))),
+      λ q. absurd (not-both q refl),
+    )
 
--- src/stamps.rt:27:5
 open-requires : tie.Need-open-requires
 open-requires c κs =
     let s = c .before .before .before .before in
@@ -50,7 +45,6 @@ apart : (c : tie.After-open) → let s = c .before .before .before .before .befo
     at < s .args .held → numberIn (s .args .sorted .now) at ≡ s .args .stamp → ⊥
 apart c = ⊎-elim (λ w a b. eqb-false (numberIn (c .before .before .before .before .before .args .sorted .now) (c .before .before .before .seek .result)) (c .before .before .before .before .before .args .stamp) (w .2 .left) b) (λ w a b. absurd (omega arith)) (c .before .before .if1 .came)
 
--- src/stamps.rt:19:1
 returns-2 : tie.Need-returns-2
 returns-2 c =
     let s = c .before .before .before .before .before in
@@ -58,9 +52,10 @@ returns-2 c =
     let seek = c .before .before .before .seek in
     let w = place-bounds (a .sorted .now) 0 (a .held) (omega arith) (a .stamp) in
     let e = seek .ensures in
-    let none = put-absent (a .sorted .now) (a .held) (s .pre .2) (a .stamp) (seek .result) e (apart c) in
-    (sym (ap not none),
-    λ q. rw (c .«open» .ensures) (put-sorted (a .sorted .now) (a .held) (a .stamp) (seek .result) (s .pre .1) (s .pre .0) (omega arith) (s .pre .2) e none))
+    let none = put-absent (a .sorted .now) (a .held) (s .pre .2) (a .stamp) (seek .result) e (apart c) in (
+      sym (ap not none),
+      λ q. rw (c .«open» .ensures) (put-sorted (a .sorted .now) (a .held) (a .stamp) (seek .result) (s .pre .1) (s .pre .0) (omega arith) (s .pre .2) e none),
+    )
 
 pub put-stamp-spec : {M : Type 1} → statement M
 put-stamp-spec =

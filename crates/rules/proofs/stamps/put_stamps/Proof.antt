@@ -1,3 +1,5 @@
+-- `rules::stamps::put_stamps` meets its contract. The loop's invariant: the numbers from i on are different, and are put. The measure is i.
+-- Assumes nothing.
 use mathlib.Core.Path.{_≡_, refl, sym}
 use Prim.Native.Nat.{_+_, _-_, _≤_}
 use native.Mathlib.Omega.{arith}
@@ -8,9 +10,6 @@ use Rattle.store.specs.Workers.{numberIn}
 use Rattle.rules.proofs.Sorting.{Took, took-none, took-all, took-next, took-twice}
 use Rattle.rules.proofs.stamps.put_stamps.Statement.{statement}
 use Rattle.rules.proofs.stamps.put_stamps.Tie as tie
-use Rattle.rules.proofs.stamps.put_stamps.Reads as reads
-use Rattle.rules.proofs.stamps.put_stamps.Lts as lts
-use Rattle.rules.proofs.stamps.put_stamp.Reads as put-stamp-reads
 
 abbrev Inv-loop : tie.InvT-loop
 Inv-loop sorted₀ stamps from end held i₀ many₀ sorted i many =
@@ -19,47 +18,39 @@ Inv-loop sorted₀ stamps from end held i₀ many₀ sorted i many =
 abbrev μ-loop : tie.MeasureT-loop
 μ-loop sorted₀ stamps from end held i₀ many₀ sorted i many = i
 
--- src/stamps.rt:44:5
 loop-holds : tie.Need-loop-holds Inv-loop μ-loop
 loop-holds c = (search needs, search needs, omega arith, took-none (numberIn (c .args .stamps .now)) (c .args .sorted .now) (c .args .held) (c .args .end) (c .pre .3) (c .pre .4))
 
--- src/stamps.rt:45:9
 sub-i : tie.Need-sub-i Inv-loop μ-loop
 sub-i c = search needs
 
--- src/stamps.rt:46:37
 mul-put-stamp : tie.Need-mul-put-stamp Inv-loop μ-loop
 mul-put-stamp c = search needs
 
--- src/stamps.rt:46:37
 element-copy-out-put-stamp : tie.Need-element-copy-out-put-stamp Inv-loop μ-loop
 element-copy-out-put-stamp c = search needs
 
--- src/stamps.rt:46:13
 put-stamp-requires : tie.Need-put-stamp-requires Inv-loop μ-loop
 put-stamp-requires c κs =
     let l = c .before .before .before in
     let k = l .loop .inv .3 .sorted in
     (omega arith, k .long, k .rises)
 
--- src/stamps.rt:47:13
 returns : tie.Need-returns Inv-loop μ-loop
 returns c =
     let l = c .before .before .before .before .before in
     let a = l .before .args in
-    let put = c .before .put-stamp in
-    (sym (took-twice (numberIn (a .stamps .now)) (a .sorted .now) (a .held) (a .end) (l .loop .i) (l .loop .many) (l .loop .sorted) (l .loop .inv .3) (omega arith) (omega arith) (put .result) (put .ensures .0) (not-true (put .result) (c .if1 .taken)) (a .from) (omega arith)),
-    λ q. absurd (not-both q refl))
+    let put = c .before .put-stamp in (
+      sym (took-twice (numberIn (a .stamps .now)) (a .sorted .now) (a .held) (a .end) (l .loop .i) (l .loop .many) (l .loop .sorted) (l .loop .inv .3) (omega arith) (omega arith) (put .result) (put .ensures .0) (not-true (put .result) (c .if1 .taken)) (a .from) (omega arith)),
+      λ q. absurd (not-both q refl),
+    )
 
--- src/stamps.rt:49:9
 add-many : tie.Need-add-many Inv-loop μ-loop
 add-many c = search needs
 
--- src/stamps.rt:44:5
 loop-less : tie.Need-loop-less Inv-loop μ-loop
 loop-less c = search needs
 
--- src/stamps.rt:44:5
 loop-again : tie.Need-loop-again Inv-loop μ-loop
 loop-again c =
     let l = c .before .before .before .before .before in
@@ -68,7 +59,6 @@ loop-again c =
     let t = not-false (put .result) (c .if1 .left) in
     (omega arith, omega arith, omega arith, took-next (numberIn (a .stamps .now)) (a .sorted .now) (a .held) (a .end) (l .loop .i) (l .loop .many) (l .loop .sorted) (l .loop .inv .3) (omega arith) (omega arith) (put .result) (put .ensures .0) t _ (put .ensures .1 t))
 
--- src/stamps.rt:32:1
 returns-2 : tie.Need-returns-2 Inv-loop μ-loop
 returns-2 c =
     let l = c .before in

@@ -1,4 +1,6 @@
-use mathlib.Core.Path.{_≡_, refl, sym}
+-- `rules::stamps::stamps_differ` meets its contract. The loop's invariant: the stamps of the nodes from n on are different, and are put. The
+-- measure is n. Assumes nothing.
+use mathlib.Core.Path.{refl, sym}
 use Prim.Native.Nat.{_-_, _*_, _≤_}
 use native.Mathlib.Omega.{arith}
 use lib.ListN.{getD}
@@ -9,9 +11,6 @@ use Rattle.store.specs.Layout.{width}
 use Rattle.rules.proofs.Sorting.{TookNodes, took-no-node, took-every-node, took-node, took-again}
 use Rattle.rules.proofs.stamps.stamps_differ.Statement.{statement}
 use Rattle.rules.proofs.stamps.stamps_differ.Tie as tie
-use Rattle.rules.proofs.stamps.stamps_differ.Reads as reads
-use Rattle.rules.proofs.stamps.stamps_differ.Lts as lts
-use Rattle.rules.proofs.stamps.put_stamps.Reads as put-stamps-reads
 
 abbrev Inv-loop : tie.InvT-loop
 Inv-loop counts stamps sorted₀ held₀ n₀ sorted held n =
@@ -20,27 +19,21 @@ Inv-loop counts stamps sorted₀ held₀ n₀ sorted held n =
 abbrev μ-loop : tie.MeasureT-loop
 μ-loop counts stamps sorted₀ held₀ n₀ sorted held n = n
 
--- src/stamps.rt:62:5
 loop-holds : tie.Need-loop-holds Inv-loop μ-loop
 loop-holds c = (search needs, search needs, took-no-node (c .args .counts .now) (c .args .stamps .now) _ refl)
 
--- src/stamps.rt:63:9
 sub-n : tie.Need-sub-n Inv-loop μ-loop
 sub-n c = search needs
 
--- src/stamps.rt:64:20
 mul-from : tie.Need-mul-from Inv-loop μ-loop
 mul-from c = search needs
 
--- src/stamps.rt:65:21
 mul-count : tie.Need-mul-count Inv-loop μ-loop
 mul-count c = search needs
 
--- src/stamps.rt:65:21
 element-copy-out-count : tie.Need-element-copy-out-count Inv-loop μ-loop
 element-copy-out-count c = search needs
 
--- src/stamps.rt:65:21
 cast-count : tie.Need-cast-count Inv-loop μ-loop
 cast-count c =
     let l = c .before .before in
@@ -48,7 +41,6 @@ cast-count c =
     let fits = s .pre (l .loop .n - 1) (omega arith) in
     omega arith
 
--- src/stamps.rt:66:51
 add-put-stamps : tie.Need-add-put-stamps Inv-loop μ-loop
 add-put-stamps c =
     let l = c .before .before .before in
@@ -56,7 +48,6 @@ add-put-stamps c =
     let fits = s .pre (l .loop .n - 1) (omega arith) in
     omega arith
 
--- src/stamps.rt:66:13
 put-stamps-requires : tie.Need-put-stamps-requires Inv-loop μ-loop
 put-stamps-requires c κs =
     let l = c .before .before .before in
@@ -65,7 +56,6 @@ put-stamps-requires c κs =
     let k = l .loop .inv .2 .sorted in
     (omega arith, omega arith, omega arith, k .long, k .rises)
 
--- src/stamps.rt:67:13
 returns : tie.Need-returns Inv-loop μ-loop
 returns c =
     let l = c .before .before .before .before .before in
@@ -73,7 +63,6 @@ returns c =
     let put = c .before .put-stamps in
     sym (took-again (s .args .counts .now) (s .args .stamps .now) (l .loop .n) (l .loop .held) (l .loop .sorted) (l .loop .inv .2) (omega arith) (omega arith) (width * (l .loop .n - 1)) (getD (s .args .counts .now) (l .loop .n - 1) 0) refl refl (put .result) (put .ensures .0) (not-true (put .result) (c .if1 .taken)))
 
--- src/stamps.rt:69:9
 add-held : tie.Need-add-held Inv-loop μ-loop
 add-held c =
     let l = c .before .before .before .before .before in
@@ -81,11 +70,9 @@ add-held c =
     let fits = s .pre (l .loop .n - 1) (omega arith) in
     omega arith
 
--- src/stamps.rt:62:5
 loop-less : tie.Need-loop-less Inv-loop μ-loop
 loop-less c = search needs
 
--- src/stamps.rt:62:5
 loop-again : tie.Need-loop-again Inv-loop μ-loop
 loop-again c =
     let l = c .before .before .before .before .before in
@@ -95,7 +82,6 @@ loop-again c =
     let t = not-false (put .result) (c .if1 .left) in
     (omega arith, omega arith, took-node (s .args .counts .now) (s .args .stamps .now) (l .loop .n) (l .loop .held) (l .loop .sorted) (l .loop .inv .2) (omega arith) (omega arith) (width * (l .loop .n - 1)) (getD (s .args .counts .now) (l .loop .n - 1) 0) refl refl (put .result) (put .ensures .0) t _ (put .ensures .1 t))
 
--- src/stamps.rt:55:1
 returns-2 : tie.Need-returns-2 Inv-loop μ-loop
 returns-2 c =
     let l = c .before in

@@ -1,7 +1,7 @@
 -- `searches::lines::look_down` meets its contract. The loop's invariant: what is left to be seen, from the node on, is all that was to
 -- be seen at first. Nodes have rising numbers, so the measure is how many are left. Assumes nothing.
 use mathlib.Core.Path.{_≡_, sym, _∙_}
-use Prim.Native.Nat.{_+_, _-_, _<_, _≤_}
+use Prim.Native.Nat.{_-_, _<_, _≤_}
 use native.Mathlib.Omega.{arith}
 use borrow.Author.Needs.{needs}
 use Rattle.plan.specs.Sizes.{mostNodes}
