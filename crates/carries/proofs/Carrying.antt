@@ -12,7 +12,7 @@ use Rattle.lists.proofs.Running.{map-run}
 use Rattle.plan.specs.declared.Edge.{Edge}
 use Rattle.plan.specs.Sizes.{mostNodes}
 use Rattle.plan.specs.Plan.{Plan, size, capacityOf, edgesOf, edgeOf}
-use Rattle.plan.specs.PlanRules.{PlanRules, IsEdge}
+use Rattle.plan.specs.PlanRules.{IsEdge}
 use Rattle.plan.specs.PlanTable.{planOf}
 use Rattle.store.specs.declared.Answer.{Answer}
 use Rattle.store.specs.declared.Copy.{Copy}
@@ -20,14 +20,13 @@ use Rattle.store.specs.declared.Store.{Store}
 use Rattle.store.specs.Answers.{DONE, NODE, EDGE, answer, bare}
 use Rattle.store.specs.Copies.{noCopy, keyOf}
 use Rattle.store.specs.State.{State, nodeAt}
-use Rattle.store.specs.StateRules.{StateRules}
-use Rattle.store.specs.Layout.{width, places, nodeIn, copyOf, countOf, nodeOf, stateOf, column, storeOf}
+use Rattle.store.specs.Layout.{width, places, nodeIn, copyOf, countOf, nodeOf, stateOf, column}
 use Rattle.store.specs.StoreRules.{goodStore}
 use Rattle.store.specs.Calls.{onStore}
 use Rattle.store.specs.Workers.{numberIn, itself}
 use Rattle.store.proofs.Laying.{OneNode, set-one, node-laid, node-grown, counts-written, store-is, state-node, state-count, length-nodes, state-clock, state-slots}
-use Rattle.store.proofs.Lifting.{plan-good, state-good, good-back, on-way, on-refusal}
-use Rattle.store.proofs.GoodNodes.{count-fits, node-rises}
+use Rattle.store.proofs.Lifting.{plan-good, state-good, on-way, on-refusal}
+use Rattle.store.proofs.GoodNodes.{count-fits, node-rises, counts-are, keys-are, kinds-are, values-are, stamps-are}
 use Rattle.steps.specs.Carries.{Merged, merge, countHeld, mergeAlong, carriedTo, carriedOut, carryStep}
 use Rattle.steps.proofs.Merges.{merging, stay-short, target-long}
 use Rattle.steps.proofs.CarryLaws.{carry-done}
@@ -245,7 +244,7 @@ module _ (z : Store) (good : goodStore z ≡ true) (n i : ℕ) (d : IsEdge (plan
               slots = z .slots;
             };
           } ≡ onStore (carryStep n i) z
-      unfolding carriedTo storeOf
+      unfolding carriedTo
       carry-is a left keys kinds values stamps a-is left-is keys-is kinds-is values-is stamps-is =
           on-way (carryStep n i) z good a (carriedTo n t copies-merged s) _
           (carry-done p (plan-good z good) s (state-good z good) n i d
@@ -255,16 +254,12 @@ module _ (z : Store) (good : goodStore z ≡ true) (n i : ℕ) (d : IsEdge (plan
           target-count counted
           ∙ ap (λ (x : Answer). record { answer = x; after = carriedTo n t copies-merged s }) (sym a-is))
           (store-is (z .plan) (carriedTo n t copies-merged s) _ refl (sym (state-clock z)) counts
-          (column-after (λ (x : Copy). x .key) (z .keys) refl (back (λ (y : Store). y .keys)) (λ j. refl) keys keys-is)
-          (column-after (λ (x : Copy). x .kind) (z .kinds) refl (back (λ (y : Store). y .kinds)) (λ j. refl) kinds kinds-is)
-          (column-after (λ (x : Copy). x .value) (z .values) refl (back (λ (y : Store). y .values)) (λ j. refl) values values-is)
-          (column-after (λ (x : Copy). x .stamp) (z .stamps) refl (back (λ (y : Store). y .stamps)) (λ j. refl) stamps stamps-is)
+          (column-after (λ (x : Copy). x .key) (z .keys) refl (keys-are z good) (λ j. refl) keys keys-is)
+          (column-after (λ (x : Copy). x .kind) (z .kinds) refl (kinds-are z good) (λ j. refl) kinds kinds-is)
+          (column-after (λ (x : Copy). x .value) (z .values) refl (values-are z good) (λ j. refl) values values-is)
+          (column-after (λ (x : Copy). x .stamp) (z .stamps) refl (stamps-are z good) (λ j. refl) stamps stamps-is)
           (sym (state-slots z)))
         where
-          -- What the store has is what the store of its state has.
-          back : (f : Store → List ℕ) → f z ≡ f (storeOf (z .plan) (stateOf z))
-          back f = ap f (sym (good-back z good))
-
           counted : countHeld keyOf e xs ≡ left
           counted = count-map keyOf (copyOf z) e (places-merged .stay) ∙ sym (left-is ∙ ap (countHeld (numberIn (z .keys)) e) (decided .stays .listed))
 
@@ -273,9 +268,9 @@ module _ (z : Store) (good : goodStore z ≡ true) (n i : ℕ) (d : IsEdge (plan
               let l = length-nodes z in
               let there = target-there in
               let here = node-there in
-              ap (λ (l : List ℕ). set (set l n (m .kept)) t (m .got)) (back (λ (y : Store). y .counts))
+              ap (λ (l : List ℕ). set (set l n (m .kept)) t (m .got)) (counts-are z good)
               ∙ ap₂ (λ (j k : ℕ). set (set (run 0 mostNodes (λ l. length (nodeAt s l))) n j) t k) (sym stay-count) (sym target-count)
-              ∙ (sym (both-counts (s .nodes) n t xs ys (omega arith) (omega arith) node-apart))
+              ∙ sym (both-counts (s .nodes) n t xs ys (omega arith) (omega arith) node-apart)
 
 -- The refusals of a carry on a good store.
 module _ (z : Store) (good : goodStore z ≡ true) (n i : ℕ) where

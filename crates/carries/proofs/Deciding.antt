@@ -1,18 +1,18 @@
 -- The walk through two nodes from its start to its end, and the count of the places that an edge holds. Assumes nothing.
-use mathlib.Core.Path.{_≡_, refl, sym, ap, _∙_}
-use mathlib.Core.Bool.{Bool, true, false}
-use mathlib.Core.List.{List, [], _∷_, _++_, append-nil}
+use mathlib.Core.Path.{_≡_, refl, sym, _∙_}
+use mathlib.Core.Bool.{true, false}
+use mathlib.Core.List.{List, append-nil}
 use Prim.Native.Nat.{ℕ, suc, _+_, _-_, _<_, _≤_}
 use native.Mathlib.Omega.{arith}
 use native.Mathlib.Numerals.{add-one}
-use lib.ListN.{length, getD, set, take, drop, drop-of-length-le, length-set}
+use lib.ListN.{length, set, take, drop, drop-of-length-le, length-set}
 use lib.Seq.{drop-cons}
 use Rattle.lists.proofs.Running.{run-off}
 use Rattle.plan.specs.declared.Edge.{Edge}
 use Rattle.plan.specs.Plan.{holds}
 use Rattle.store.specs.Layout.{width}
 use Rattle.store.specs.Workers.{numberIn, itself}
-use Rattle.steps.specs.Carries.{Merged, merge, bit, countHeld}
+use Rattle.steps.specs.Carries.{Merged, merge, countHeld}
 use Rattle.carries.specs.declared.decision.Merge.{Merge}
 use Rattle.carries.specs.Decisions.{span, standing, outcome, Going, Ready, Lists, Decided}
 use Rattle.carries.proofs.Turning.{stood, own-stands}

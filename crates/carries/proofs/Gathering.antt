@@ -1,10 +1,10 @@
 -- A column written in place: a turn of each loop and its end, and the column after a carry. Assumes nothing.
 use mathlib.Core.Path.{_≡_, refl, sym, ap, _∙_}
-use mathlib.Core.List.{List, [], _∷_, _++_, map, map-append}
+use mathlib.Core.List.{List, [], _∷_, _++_, map-append}
 use Prim.Native.Nat.{ℕ, suc, _+_, _-_, _<_, _≤_}
 use native.Mathlib.Omega.{arith}
 use native.Mathlib.Numerals.{add-one}
-use lib.ListN.{length, getD, set, take, drop, replicate, length-map, drop-of-length-le}
+use lib.ListN.{length, set, take, drop, replicate, length-map, drop-of-length-le}
 use lib.Seq.{sets, length-sets, drop-cons, take-suc, length-take-le, getD-set-other}
 use Rattle.lists.proofs.Standing.{sets-join}
 use Rattle.lists.proofs.Storing.{sets-below, sets-later, sets-snoc}
@@ -36,9 +36,9 @@ module _ (now was list : List ℕ) (start : ℕ) where
   back-turn i z h under same = (
     λ j g. getD-set-other now (start + (i - 1)) j x 0 (λ (q : j ≡ start + (i - 1)). omega arith) ∙ same j (omega arith),
     sets-later front now start (start + (i - 1)) x (omega (arith, long))
-    ∙ ap (λ (n : ℕ). set (sets now start front) (start + n) x) (sym long)
-    ∙ sym (sets-snoc front now start x)
-    ∙ sym (ap (sets now start) split),
+        ∙ ap (λ (n : ℕ). set (sets now start front) (start + n) x) (sym long)
+        ∙ sym (sets-snoc front now start x)
+        ∙ sym (ap (sets now start) split),
   )
     where
       x : ℕ

@@ -1,21 +1,20 @@
 -- The two lists of a merge of places: a column can be written by them in place. Assumes nothing.
-use mathlib.Core.Path.{_≡_, refl}
 use mathlib.Core.List.{List, [], _∷_}
-use Prim.Native.Nat.{ℕ, zero, suc, _+_, _-_, _<_, _≤_}
+use Prim.Native.Nat.{ℕ, zero, suc, _+_, _-_, _≤_}
 use native.Mathlib.Omega.{arith}
 use native.Mathlib.Nat.{le-refl, le-step, le-of-suc-le-suc, not-suc-le-zero}
-use lib.ListN.{length, getD}
+use lib.ListN.{length}
 use Rattle.lists.specs.Runs.{run}
-use Rattle.lists.proofs.Running.{length-run, getD-run}
+use Rattle.lists.proofs.Running.{getD-run}
 use Rattle.lists.proofs.Orders.{Order, order?}
 use Rattle.lists.proofs.Orders.Order.{less, equal, more}
 use Rattle.lists.proofs.RisingKeys.{Rising, rising-from}
 use Rattle.lists.proofs.RisingKeys.Rising.{end, above}
 use Rattle.plan.specs.declared.Edge.{Edge}
 use Rattle.store.specs.Layout.{places}
-use Rattle.store.specs.Workers.{numberIn, itself}
+use Rattle.store.specs.Workers.{itself}
 use Rattle.steps.specs.Entries.{put}
-use Rattle.steps.specs.Carries.{Merged, merge}
+use Rattle.steps.specs.Carries.{merge}
 use Rattle.steps.proofs.NodeLists.{put-before, put-over, put-behind, put-most}
 use Rattle.steps.proofs.Merges.{Merging, merging, stay-short}
 use Rattle.steps.proofs.Merges.Merging.{through, carry, keep}

@@ -1,17 +1,15 @@
 -- One turn of the walk through two nodes, a law for each way out: what the merge comes to stays the same. Assumes nothing.
-use mathlib.Core.Path.{_≡_, refl, sym, ap, _∙_}
+use mathlib.Core.Path.{_≡_, sym, ap, _∙_}
 use mathlib.Core.Bool.{Bool, true, false}
 use mathlib.Core.List.{List, [], _∷_, _++_, append-assoc}
-use mathlib.Core.Option.{none, some}
+use mathlib.Core.Option.{some}
 use Prim.Native.Nat.{ℕ, suc, _+_, _-_, _<_, _≤_}
 use native.Mathlib.Omega.{arith}
 use native.Mathlib.Decide.{decLt, ℕ-discrete}
 use native.Mathlib.Numerals.{add-one}
 use lib.ListN.{length, getD, set, take, length-set, length-append}
 use lib.Seq.{length-take-le, take-suc-set, getD-take, getD-set-same, getD-set-other}
-use Rattle.lists.specs.Runs.{run}
 use Rattle.lists.proofs.Running.{run-on, run-off}
-use Rattle.lists.proofs.Truths.{and-both}
 use Rattle.plan.specs.declared.Edge.{Edge}
 use Rattle.plan.specs.Plan.{holds}
 use Rattle.store.specs.Copies.{find}
@@ -19,7 +17,7 @@ use Rattle.store.specs.Layout.{width}
 use Rattle.store.specs.Workers.{numberIn, itself}
 use Rattle.steps.specs.Entries.{put, room}
 use Rattle.steps.specs.Carries.{Merged, carries, merge}
-use Rattle.steps.proofs.NodeLists.{find-same, find-low, find-empty, put-before, put-over, room-has, room-free, room-none}
+use Rattle.steps.proofs.NodeLists.{find-same, find-low, put-before, put-over, room-has, room-free, room-none}
 use Rattle.steps.proofs.Merges.{merge-carry, merge-keep}
 use Rattle.carries.specs.declared.decision.Merge.{Merge}
 use Rattle.carries.specs.Decisions.{span, standing, outcome, Going, Turned}

@@ -1,5 +1,4 @@
 -- What the writing of a carry promises: each column after it, by the two lists of places.
-use mathlib.Core.Path.{_≡_}
 use mathlib.Core.List.{List, _++_, map}
 use Prim.Native.Nat.{ℕ, _+_, _-_, _<_, _≤_}
 use lib.ListN.{length, replicate}

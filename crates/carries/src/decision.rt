@@ -100,21 +100,23 @@ fn rest(target: &mut [usize; Store::WIDTH], mut m: Merge, end: usize) -> Merge
     m
 }
 
-// The places that stay, and those whose copies the target then has: of the node's from..to and the target's start..end.
+// The places that stay, and those whose copies the target then has: of a node of `had` copies and a target of `held`.
 pub fn decide(
     keys: &[u32; Store::PLACES],
     stay: &mut [usize; Store::WIDTH],
     target: &mut [usize; Store::WIDTH],
     from: usize,
-    to: usize,
+    had: usize,
     start: usize,
-    end: usize,
+    held: usize,
     edge: Edge,
     capacity: usize,
 ) -> Merge
-    requires { ⌜ Ready (now keys) capacity from to start end × (length (now stay) ≡ width) × (length (now target) ≡ width) ⌝ }
-    ensures { λ r. ⌜ Decided (merge (numberIn (now (keys .entry))) capacity edge (span from to) (span start end)) (now (stay .exit)) (now (target .exit)) r ⌝ }
+    requires { ⌜ Ready (now keys) capacity from (from + had) start (start + held) × (length (now stay) ≡ width) × (length (now target) ≡ width) ⌝ }
+    ensures { λ r. ⌜ Decided (merge (numberIn (now (keys .entry))) capacity edge (span from (from + had)) (span start (start + held))) (now (stay .exit)) (now (target .exit)) r ⌝ }
 {
+    let to = from + had;
+    let end = start + held;
     let mut m = Merge {
         place: from,
         next: start,

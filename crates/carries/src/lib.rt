@@ -9,12 +9,14 @@ ghost use Rattle.store.specs.Calls.{onStore};
 ghost use Rattle.store.specs.StoreRules.{goodStore};
 ghost use Rattle.steps.specs.Carries.{carryStep};
 ghost use Rattle.steps.specs.Promises.{Carries};
+use decision::count_held;
+use decision::decide;
 use store::Answer;
 use store::Outcome;
 use store::Store;
+use writing::carry_column;
 
 mod decision; // decision.rt: which copies move, by the keys alone
-
 mod writing; // writing.rt: a column after a carry, written in place
 
 // "Carried is the fall in the node's count; discarded is carried less the rise in the target's"; and left.
@@ -33,6 +35,7 @@ fn tally(had: usize, kept: usize, held: usize, got: usize, left: usize) -> Answe
     )
 }
 
+// Along an edge of a good store's plan: what stays and what the target gets is decided first; then the columns are written, one by one.
 fn good_carry(mut store: Store, node: u32, edge: u32) -> Outcome
     requires { ⌜ (goodStore store ≡ true) × IsEdge (planOf (store .plan)) node edge ⌝ }
     ensures { λ r. ⌜ r ≡ onStore (carryStep node edge) store ⌝ }
@@ -47,16 +50,16 @@ fn good_carry(mut store: Store, node: u32, edge: u32) -> Outcome
     let mut stay = [0; Store::WIDTH];
     let mut target = [0; Store::WIDTH];
     let capacity = plan::capacity(store.plan, e.target) as usize;
-    let m = decision::decide(&store.keys, &mut stay, &mut target, from, from + had, start, start + held, e, capacity);
+    let m = decide(&store.keys, &mut stay, &mut target, from, had, start, held, e, capacity);
     let kept = m.kept;
     let got = m.got;
     let stays = &stay[..kept];
     let gets = &target[..got];
-    let left = decision::count_held(&store.keys, stays, e);
-    writing::carry_column(&mut store.keys, stays, gets, from, had, start);
-    writing::carry_column(&mut store.kinds, stays, gets, from, had, start);
-    writing::carry_column(&mut store.values, stays, gets, from, had, start);
-    writing::carry_column(&mut store.stamps, stays, gets, from, had, start);
+    let left = count_held(&store.keys, stays, e);
+    carry_column(&mut store.keys, stays, gets, from, had, start);
+    carry_column(&mut store.kinds, stays, gets, from, had, start);
+    carry_column(&mut store.values, stays, gets, from, had, start);
+    carry_column(&mut store.stamps, stays, gets, from, had, start);
     store.counts[n] = kept as u32;
     store.counts[t] = got as u32;
     Outcome {
@@ -65,7 +68,7 @@ fn good_carry(mut store: Store, node: u32, edge: u32) -> Outcome
     }
 }
 
-// Carry (node, edge): BADSTORE, then NODE, then EDGE; a refusal leaves the store as it was.
+// Carry (node, edge): BADSTORE, then NODE, then EDGE, and none of them alters the store.
 pub fn carry(store: Store, node: u32, edge: u32) -> Outcome
     ensures { λ r. ⌜ Carries store node edge r ⌝ }
 {

@@ -53,6 +53,10 @@ linesBytes (l ∷ ls) = lineBytes l ++ linesBytes ls
 unfoldable pub pageBytes : ℕ → List Line → List ℕ
 pageBytes sample ls = form sample ++ (form (length ls) ++ linesBytes ls)
 
+-- "At most 357 bytes": 4 for the sample, 1 for the line count, 11 for each of 32 lines.
+abbrev pub mostPageBytes : ℕ
+mostPageBytes = 357
+
 -- The sample's page as it is now.
 abbrev pub pageOf : Plan → State → ℕ → List ℕ
 pageOf p s sample = pageBytes sample (linesOf p s sample)

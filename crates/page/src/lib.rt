@@ -1,1 +1,95 @@
-// The household's bytes: page and serve.
+// The household's bytes: page and serve. Document 01, "Bytes".
+ghost use Prim.Native.Nat.{_≤_};
+ghost use lib.ListN.{length};
+ghost use Rattle.lists.specs.Stands.{Wrote};
+ghost use Rattle.plan.specs.PlanTable.{planOf};
+ghost use Rattle.store.specs.Layout.{stateOf};
+ghost use Rattle.store.specs.Workers.{holding};
+ghost use Rattle.searches.specs.Workers.{Lookable};
+ghost use Rattle.page.specs.Page.{lastSample, mostPageBytes, pageOf};
+ghost use Rattle.page.specs.Promises.{Pages, Serves};
+use store::Answer;
+use store::Store;
+
+mod lines; // lines.rt: the lines of a page
+mod writing; // writing.rt: the bytes of a page
+
+// "sample 0 to 134,217,727"
+const LAST_SAMPLE: u32 = 134217727;
+
+// "At most 357 bytes."
+const LONGEST: usize = 357;
+
+// The sample's page as it is now, into a scratch that has room for the longest. Gives its length.
+fn write_now<'a>(
+    scratch: &mut [u8],
+    plan: u32,
+    counts: &'a [u32; Store::NODES],
+    keys: &'a [u32; Store::PLACES],
+    kinds: &'a [u32; Store::PLACES],
+    values: &'a [u32; Store::PLACES],
+    stamps: &'a [u32; Store::PLACES],
+    sample: u32,
+) -> usize
+    requires { ⌜ Lookable plan (now counts) (now keys) × (sample ≤ lastSample) × (mostPageBytes ≤ length (now scratch)) ⌝ }
+    ensures { λ r. ⌜ Wrote (now (scratch .entry)) 0 (pageOf (planOf plan) (stateOf (holding plan 0 (now (counts .entry)) (now (keys .entry)) (now (kinds .entry)) (now (values .entry)) (now (stamps .entry)))) sample) r (now (scratch .exit)) ⌝ }
+{
+    let lines = lines::gather(plan, counts, keys, kinds, values, stamps, sample);
+    writing::write_page(scratch, sample, lines)
+}
+
+// The page of a sample into the buffer: BADSTORE, SAMPLE, SMALL with the bytes needed, or DONE with the bytes written.
+pub fn page(store: Store, sample: u32, buffer: &mut [u8]) -> Answer
+    ensures { λ r. ⌜ Pages store sample (now (buffer .entry)) r (now (buffer .exit)) ⌝ }
+{
+    if !rules::good_store(store) {
+        return Answer::bare(Answer::BADSTORE);
+    }
+    if LAST_SAMPLE < sample {
+        return Answer::bare(Answer::SAMPLE);
+    }
+    let mut scratch = [0; LONGEST];
+    let n = write_now(
+        &mut scratch,
+        store.plan,
+        &store.counts,
+        &store.keys,
+        &store.kinds,
+        &store.values,
+        &store.stamps,
+        sample,
+    );
+    if buffer.len() < n {
+        return Answer::of(Answer::SMALL, n as u64, 0, 0, 0);
+    }
+    writing::lay(buffer, &scratch[..n]);
+    Answer::of(Answer::DONE, n as u64, 0, 0, 0)
+}
+
+// "If the kept bytes begin with the sample's page as it is now, exactly that beginning is returned; otherwise, and for a bad store or
+// sample, the whole notice."
+pub fn serve<'a>(store: Store, sample: u32, kept: &'a [u8], notice: &'a [u8]) -> &'a [u8]
+    ensures { λ r. ⌜ Serves store sample (kept .entry) (notice .entry) r ⌝ }
+{
+    if !rules::good_store(store) {
+        return notice;
+    }
+    if LAST_SAMPLE < sample {
+        return notice;
+    }
+    let mut scratch = [0; LONGEST];
+    let n = write_now(
+        &mut scratch,
+        store.plan,
+        &store.counts,
+        &store.keys,
+        &store.kinds,
+        &store.values,
+        &store.stamps,
+        sample,
+    );
+    if writing::starts_with(kept, &scratch[..n]) {
+        return &kept[..n];
+    }
+    notice
+}

@@ -1,4 +1,4 @@
-// The schedule, lent as a list of step records. These few functions are proved by hand, statement by statement.
+// Decoding into a lent list of step records.
 ghost use mathlib.Core.Path.{_≡_};
 ghost use Prim.Native.Nat.{_≤_, _<_};
 ghost use lib.ListN.{length, getD};
@@ -10,20 +10,6 @@ use schedule::decoding;
 use schedule::decoding::Decoded;
 use schedule::Step;
 use store::Answer;
-
-// The record at a place; outside the list the record of zeros, whose step number is unknown.
-fn record_at(list: &[Step], place: usize) -> Step
-    ensures { λ r. ⌜ r ≡ getD (now (list .entry)) place noStep ⌝ }
-{
-    if place < list.len() {
-        return list[place];
-    }
-    Step {
-        number: 0,
-        x: 0,
-        y: 0,
-    }
-}
 
 // A decoded record.
 fn step_in(d: Decoded, i: usize) -> Step

@@ -1,2 +1,3 @@
 pub mod DecodeWays
 pub mod ScheduleLaws
+pub mod StepLaws

@@ -156,6 +156,11 @@ module _ (f : Plan → State → Effect) (z : Store) where
         let r = good-rules z good .plan-1-to-3 in
         ap (λ (o : Outcome). stateOf (o .store)) (on-good f z good) ∙ rules-back (z .plan) (r .0) (r .1) after-good
 
+-- A call's outcome on a bad store.
+pub on-broken : (f : Plan → State → Effect) (z : Store) → goodStore z ≡ false → (a : Answer) → a ≡ bare BADSTORE
+    → record { answer = a; store = z } ≡ onStore f z
+on-broken f z bad a e = rw e (sym (on-bad f z bad))
+
 -- A call's outcome on a good store, by the way out of its step: the answer and a store of the state after it,
 module _ (f : Plan → State → Effect) (z : Store) (good : goodStore z ≡ true) where
   pub on-way : (a : Answer) (t : State) (r : Store) → f (planOf (z .plan)) (stateOf z) ≡ record { answer = a; after = t }

@@ -1,0 +1,6 @@
+pub mod Follows
+pub mod Histories
+pub mod CurrentResults
+pub mod CarryBound
+pub mod Recalls
+pub mod Uniqueness

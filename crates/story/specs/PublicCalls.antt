@@ -1,29 +1,20 @@
 -- Sequences of public calls on a store, every one of them, refused ones too, by the definitions that the promises cite.
-use mathlib.Core.Bool.{Bool, true, false, cond, not, _&&_}
+use mathlib.Core.Bool.{Bool, cond}
 use mathlib.Core.List.{List, [], _∷_}
-use mathlib.Core.Option.{Option, none, some}
-use Prim.Native.Nat.{ℕ, _+_}
+use Prim.Native.Nat.{ℕ}
 use lib.Dec.{eqb}
-use lib.ListN.{getD}
-use Rattle.plan.specs.Plan.{Plan, path}
-use Rattle.plan.specs.PlanTable.{planOf}
 use Rattle.store.specs.declared.Answer.{Answer}
-use Rattle.store.specs.declared.Copy.{Copy}
 use Rattle.store.specs.declared.Outcome.{Outcome}
 use Rattle.store.specs.declared.Store.{Store}
 use Rattle.store.specs.Answers.{DONE}
-use Rattle.store.specs.Copies.{isSome}
-use Rattle.store.specs.State.{State, line, current}
-use Rattle.store.specs.Layout.{stateOf}
-use Rattle.store.specs.Calls.{Effect, onStore, ofStore}
+use Rattle.store.specs.Calls.{onStore}
 use Rattle.store.specs.Promises.{freshOutcome}
 use Rattle.steps.specs.Entries.{enterStep, withdrawStep}
-use Rattle.steps.specs.Carries.{bit, carryStep}
-use Rattle.steps.specs.Searches.{startStep, stepStep, cancelStep, lookAnswer}
+use Rattle.steps.specs.Carries.{carryStep}
+use Rattle.steps.specs.Searches.{startStep, stepStep, cancelStep}
 use Rattle.image.specs.Loading.{loadOutcome}
 use Rattle.schedule.specs.declared.Step.{Step}
-use Rattle.schedule.specs.Running.{noStep, runOutcome}
-use Rattle.theory.specs.Events.{ofLine}
+use Rattle.schedule.specs.Running.{runOutcome}
 
 -- The public calls with their arguments. (A page's buffer, a save's buffer and a kept page have no part in what follows.)
 pub data Call : Type 0 where

@@ -1,12 +1,12 @@
 -- Demand 3: how often the copies of a line are carried. A carry takes one off what the line's copies are worth, and an entry adds at most
 -- the edges of the path. Assumes nothing.
-use mathlib.Core.Path.{_≡_, refl, subst}
+use mathlib.Core.Path.{_≡_, refl, ap, _∙_, subst}
 use mathlib.Core.Bool.{Bool, true, false, cond}
 use mathlib.Core.List.{List, [], _∷_, _++_, flatten}
-use mathlib.Core.Option.{some}
+use mathlib.Core.Option.{Option, none, some}
 use Prim.Native.Nat.{ℕ, zero, suc, _+_, _-_, _*_, _<_, _≤_}
 use native.Mathlib.Omega.{arith}
-use native.Mathlib.Nat.{zero-add, suc-add, mul-zero, mul-one, mul-add, le-trans, mul-le-mul-left}
+use native.Mathlib.Nat.{add-zero, zero-add, suc-add, mul-zero, mul-one, mul-add, le-trans, mul-le-mul-left}
 use lib.Dec.{eqb}
 use lib.ListN.{length, getD, drop}
 use Rattle.plan.specs.declared.Hop.{Hop}
@@ -15,8 +15,8 @@ use Rattle.plan.specs.Plan.{Plan, next, path, edgesOn, IsPath, Reach}
 use Rattle.plan.specs.Plan.IsPath.{last, more}
 use Rattle.plan.specs.Plan.Reach.{here, there}
 use Rattle.plan.specs.PlanRules.{PlanRules}
-use Rattle.plan.proofs.NextLaws.{not-both-hops, one-target, next-down}
-use Rattle.plan.proofs.PathLaws.{path-is, root-in-plan}
+use Rattle.plan.proofs.NextLaws.{not-both-hops, one-target, next-down, root-in-plan}
+use Rattle.plan.proofs.PathLaws.{path-is}
 use Rattle.store.specs.declared.Copy.{Copy}
 use Rattle.store.specs.Copies.{keyOf, find, isSome}
 use Rattle.store.specs.State.{State, nodeAt, line, fresh}
@@ -25,7 +25,7 @@ use Rattle.store.proofs.Lifting.{fresh-rules}
 use Rattle.steps.specs.Carries.{bit}
 use Rattle.steps.proofs.LineSteps.{Line, Entered, Carried, LineStep}
 use Rattle.steps.proofs.LineSteps.LineStep.{same, enters, carries}
-use Rattle.theory.specs.Events.{Event, after, run, entryOf, ofLine, held, copiesOf, heldOf, entries, carried, worthOn, worth}
+use Rattle.theory.specs.Events.{Event, after, run, entryOf, optionList, entered, ofLine, held, copiesOf, heldOf, entries, carriesLine, carried, worthOn, worth}
 use Rattle.theory.proofs.EventSteps.{event-keeps, event-line}
 use Rattle.theory.proofs.Invariants.{line-led-to, held-fresh}
 
@@ -119,10 +119,30 @@ found-counts (x ∷ xs) k = go (eqb (x .key) k) (found-counts xs k)
     go true h = omega arith
     go false h = omega arith
 
-copies-append : (k : ℕ) (xs ys : List Copy) → copiesOf k (xs ++ ys) ≡ copiesOf k xs + copiesOf k ys
+pub copies-append : (k : ℕ) (xs ys : List Copy) → copiesOf k (xs ++ ys) ≡ copiesOf k xs + copiesOf k ys
 unfolding copiesOf
 copies-append k [] ys = omega arith
 copies-append k (x ∷ xs) ys = omega (arith, copies-append k xs ys)
+
+-- The entries of a line are its copies among those entered.
+copies-option : (k : ℕ) (o : Option Copy) → copiesOf k (optionList o) ≡ bit (ofLine k o)
+unfolding copiesOf
+copies-option k none = refl
+copies-option k (some x) = add-zero (bit (eqb (x .key) k))
+
+pub copies-with : (k : ℕ) (xs : List Copy) (o : Option Copy) → copiesOf k (xs ++ optionList o) ≡ copiesOf k xs + bit (ofLine k o)
+copies-with k xs o = copies-append k xs (optionList o) ∙ ap (λ (n : ℕ). copiesOf k xs + n) (copies-option k o)
+
+pub copies-entered : (p : Plan) (k : ℕ) (es : List Event) (s : State) → copiesOf k (entered p es s) ≡ entries p k es s
+unfolding entered entries copiesOf
+copies-entered p k [] s = refl
+copies-entered p k (e ∷ es) s =
+    omega (
+      arith,
+      copies-append k (optionList (entryOf p e s)) (entered p es (after p e s)),
+      copies-option k (entryOf p e s),
+      copies-entered p k es (after p e s),
+    )
 
 -- The copies held from a node on are that node's and those from the next on.
 copies-from : (k : ℕ) (xss : List (List Copy)) (n : ℕ)
@@ -153,7 +173,7 @@ module _ (p : Plan) (rules : PlanRules p) (k : ℕ) where
   down n t e = next-down p rules n k t e .0
 
   is-path : IsPath (λ n. next p n k) 0 (path p k)
-  is-path = path-is p rules k 0 (root-in-plan p rules k)
+  is-path = path-is p rules k 0 (root-in-plan p rules)
 
   -- What a line's copies are worth is at most the edges of the path, for each copy held.
   pub worth-held : (s : State) → worth p k s ≤ edgesOn p k * heldOf k s
@@ -163,7 +183,13 @@ module _ (p : Plan) (rules : PlanRules p) (k : ℕ) where
       let few : copiesOn (line s k) (path p k) ≤ heldOf k s = copies-on-path (λ n. next p n k) down s k is-path in
       le-trans (worth-copies (line s k) (path p k) (edgesOn p k) within) (mul-le-mul-left (edgesOn p k) few)
 
-  -- The carries of a line, and what its copies are worth after them, are paid by what they were worth before and by the entries.
+  -- The carries of a line, and what its copies are worth after them, are paid by what they were worth before and by the entries:
+  -- through an event,
+  pub event-pays : (e : Event) (s : State) → StateRules p s
+      → bit (carriesLine p k e s) + worth p k (after p e s) ≤ worth p k s + edgesOn p k * bit (ofLine k (entryOf p e s))
+  event-pays e s good = pays (λ n. next p n k) down (line-led-to p rules s good k) (event-line p rules s good e k) is-path
+
+  -- and through a sequence.
   pub account : (es : List Event) (s : State) → StateRules p s
       → carried p k es s + worth p k (run p es s) ≤ worth p k s + edgesOn p k * entries p k es s
   unfolding carried entries run
@@ -172,7 +198,7 @@ module _ (p : Plan) (rules : PlanRules p) (k : ℕ) where
       omega (
         arith,
         mul-add (edgesOn p k) (bit (ofLine k (entryOf p e s))) (entries p k es (after p e s)),
-        pays (λ n. next p n k) down (line-led-to p rules s good k) (event-line p rules s good e k) is-path,
+        event-pays e s good,
         account es (after p e s) (event-keeps p rules e s good),
       )
 

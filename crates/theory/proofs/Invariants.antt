@@ -31,8 +31,8 @@ use Rattle.plan.specs.declared.Hop.the-variants.{To}
 use Rattle.plan.specs.Plan.{Plan, size, next, Reach}
 use Rattle.plan.specs.Plan.Reach.{here, there}
 use Rattle.plan.specs.PlanRules.{PlanRules}
-use Rattle.plan.proofs.NextLaws.{next-down}
-use Rattle.plan.proofs.PathLaws.{reach-on, root-in-plan, path-on}
+use Rattle.plan.proofs.NextLaws.{next-down, root-in-plan}
+use Rattle.plan.proofs.PathLaws.{reach-on, path-on}
 use Rattle.store.specs.declared.Copy.{Copy}
 use Rattle.store.specs.Copies.{noCopy, stampOf}
 use Rattle.store.specs.State.{State, nodeAt, line, inReach, current, fresh}
@@ -163,12 +163,12 @@ module _ (p : Plan) (rules : PlanRules p) where
               record {
                 in-history =
                     in-history (held s) k (current p s k)
-                    (λ x e. let w = in-reach-held p rules s k 0 x (root-in-plan p rules k) e in its k (w .0) x (w .2));
+                    (λ x e. let w = in-reach-held p rules s k 0 x (root-in-plan p rules) e in its k (w .0) x (w .2));
                 greatest =
                     λ x e a.
                     let v = held-in-line x a in
                     let on-k : line s k (v .0) ≡ some x = subst (λ (j : ℕ). line s j (v .0) ≡ some x) e (v .1) in
-                    in-reach-newest p rules s k good (line-led-to k (v .0) x on-k) (root-in-plan p rules k) x on-k;
+                    in-reach-newest p rules s k good (line-led-to k (v .0) x on-k) (root-in-plan p rules) x on-k;
               };
           invariant-3 = λ n k. in-history (held s) k (line s k n) (its k n);
         }
@@ -286,9 +286,9 @@ module _ (p : Plan) (rules : PlanRules p) where
 
         still-greatest : (k : ℕ) (x : Copy) → x .key ≡ k → List·Memᴰ x h ⊎ (entryOf p e s ≡ some x) → x .stamp ≤ stampOf (current p s′ k)
         still-greatest k x q (inl a) =
-            omega (arith, c .invariant-1 k .greatest x q a, reach-increases 0 k (root-in-plan p rules k))
+            omega (arith, c .invariant-1 k .greatest x q a, reach-increases 0 k (root-in-plan p rules))
         still-greatest k x q (inr a) =
-            in-reach-newest p rules s′ k good′ here (root-in-plan p rules k) x
+            in-reach-newest p rules s′ k good′ here (root-in-plan p rules) x
             (subst (λ (j : ℕ). line s′ j 0 ≡ some x) q (entry-in-root p rules s good e x a))
 
         pub multicopy-event : Multicopy p s′ h′
@@ -307,7 +307,7 @@ module _ (p : Plan) (rules : PlanRules p) where
                   record {
                     in-history =
                         in-history h′ k (current p s′ k)
-                        (λ x q. let w = in-reach-held p rules s′ k 0 x (root-in-plan p rules k) q in held-is-past k (w .0) x (w .2));
+                        (λ x q. let w = in-reach-held p rules s′ k 0 x (root-in-plan p rules) q in held-is-past k (w .0) x (w .2));
                     greatest = λ x q a. still-greatest k x q (old-or-new x a);
                   };
               invariant-3 = λ n k. in-history h′ k (line s′ k n) (held-is-past k n);

@@ -17,8 +17,8 @@ use Rattle.plan.specs.declared.Hop.the-variants.{To}
 use Rattle.plan.specs.Plan.{Plan, noEdge, size, capacityOf, edgesOf, edgeOf, holds, firstEdge, next, path, edgesOn, IsPath}
 use Rattle.plan.specs.Plan.IsPath.{last, more}
 use Rattle.plan.specs.PlanRules.{IsEdge, PlanRules}
-use Rattle.plan.proofs.NextLaws.{not-both-hops, one-target, next-in-plan}
-use Rattle.plan.proofs.PathLaws.{path-is, root-in-plan}
+use Rattle.plan.proofs.NextLaws.{not-both-hops, one-target, next-in-plan, root-in-plan}
+use Rattle.plan.proofs.PathLaws.{path-is}
 use Rattle.store.specs.declared.Copy.{Copy}
 use Rattle.store.specs.Answers.{DONE, answer}
 use Rattle.store.specs.Copies.{RESULT, copy, keyOf, find}
@@ -147,7 +147,7 @@ module _ (p : Plan) (rules : PlanRules p) (k : ℕ) where
           unfold entry in
           rw (
             lt-ltb (s .clock) lastClock h,
-            alone-room k (capacityOf p 0) (r .alone 0) (rules .capacity-1-to-64 0 (root-in-plan p rules k) .0),
+            alone-room k (capacityOf p 0) (r .alone 0) (rules .capacity-1-to-64 0 (root-in-plan p rules) .0),
           )
 
       went : after p (enters k v) s ≡ enteredInto x s
@@ -255,7 +255,7 @@ module _ (p : Plan) (rules : PlanRules p) (k : ℕ) where
       let b = enters-alone s y v (omega arith) in
       let s₁ : State = after p (enters k v) s in
       let downward : List Event = carriesDown p k (path p k) in
-      let d = carries-down (path-is p rules k 0 (root-in-plan p rules k)) s₁ (b .ready) (copy k RESULT v (s .clock)) refl (b .stands) in
+      let d = carries-down (path-is p rules k 0 (root-in-plan p rules)) s₁ (b .ready) (copy k RESULT v (s .clock)) refl (b .stands) in
       let f = all-rounds v r (run p downward s₁) (d .ready) (omega (arith, b .clock, d .clock)) in
       record {
         ready = subst Ready (sym (run-append p downward (rounds p k v r) s₁)) (f .ready);

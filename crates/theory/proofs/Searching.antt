@@ -12,14 +12,13 @@ use native.Mathlib.Numerals.{one-add}
 use native.Mathlib.Decide.{decLt}
 use lib.Dec.{eqb}
 use lib.ListN.{length, getD, List·getD-eq-default}
-use borrow.Author.Tests.{lt-ltb, eqb-true, eqb-false, eq-eqb}
+use borrow.Author.Tests.{eqb-true, eqb-false, eq-eqb}
 use Rattle.lists.proofs.Truths.{bool?, not-both, and-left, and-right, and-both}
 use Rattle.plan.specs.declared.Hop.{Hop}
 use Rattle.plan.specs.declared.Hop.the-variants.{To, Ends}
 use Rattle.plan.specs.Plan.{Plan, size, next, path}
 use Rattle.plan.specs.PlanRules.{PlanRules}
-use Rattle.plan.proofs.PathLaws.{root-in-plan}
-use Rattle.plan.proofs.NextLaws.{next-down}
+use Rattle.plan.proofs.NextLaws.{next-down, root-in-plan}
 use Rattle.store.specs.declared.Answer.{Answer}
 use Rattle.store.specs.declared.Copy.{Copy}
 use Rattle.store.specs.declared.Slot.{Slot}
@@ -30,7 +29,7 @@ use Rattle.store.specs.StateRules.{OnPath, StateRules}
 use Rattle.store.specs.Calls.{Effect}
 use Rattle.store.proofs.RulingLines.{reach-ends, reach-goes}
 use Rattle.steps.specs.Carries.{bit}
-use Rattle.steps.specs.Searches.{running, withSlot, ended, visited, withRunning, stepStep}
+use Rattle.steps.specs.Searches.{running, withSlot, ended, stepStep}
 use Rattle.steps.proofs.WaysOut.{StartWay, start-way, RunningWay, Visit, step-way, Freed, cancel-way}
 use Rattle.steps.proofs.WaysOut.StartWay.{all-running, starts as taken}
 use Rattle.steps.proofs.WaysOut.RunningWay.{no-slot, slot-idle, slot-runs}
@@ -38,13 +37,14 @@ use Rattle.steps.proofs.WaysOut.Visit.{finds, never, goes}
 use Rattle.steps.proofs.WaysOut.Freed.{freed}
 use Rattle.steps.proofs.LineSteps.{slot-set, slot-other, entry-slots, carry-slots}
 use Rattle.steps.proofs.OnPaths.{on-path-in-plan}
+use Rattle.steps.proofs.SearchLaws.{step-finds, step-never, step-goes}
 use Rattle.theory.specs.Events.{Event, effect, after, answerOf, run, goesOnThrough, goesOn, isOwnStep, ownSteps, cancelsSlot, notCancelled, EndsIn}
 use Rattle.theory.specs.Events.Event.{enters, withdraws, carries, starts, steps, cancels, asks}
 use Rattle.theory.proofs.EventSteps.{event-keeps}
 use Rattle.theory.proofs.Invariants.{reach-increases}
 
 -- A slot that runs is one of the slots.
-pub slot-there : (s : State) (i : ℕ) → slotAt s i .running ≢ 0 → i < length (s .slots)
+slot-there : (s : State) (i : ℕ) → slotAt s i .running ≢ 0 → i < length (s .slots)
 slot-there s i r = go (decLt i (length (s .slots)))
   where
     go : Dec (i < length (s .slots)) → i < length (s .slots)
@@ -128,16 +128,9 @@ module _ (p : Plan) (s : State) (i : ℕ) where
   goes-on-if (starts k) a b = refl
   goes-on-if asks a b = refl
 
-  pub own-goes-on : goesOnThrough p i (steps i) s ≡ (eqb (answerOf p (steps i) s .number) GOING)
+  own-goes-on : goesOnThrough p i (steps i) s ≡ (eqb (answerOf p (steps i) s .number) GOING)
   unfolding goesOnThrough
   own-goes-on = rw (eq-eqb i i refl)
-
-  -- A step of a running search is a visit of the node where it stands.
-  pub own-visit : (k n v : ℕ) → slotAt s i ≡ running k n v → stepStep i p s ≡ visited (line s k n) (next p n k) i (running k n v) s
-  unfolding stepStep withRunning
-  own-visit k n v e =
-      let r : slotAt s i .running ≢ 0 = λ z. let one = ap (λ (q : Slot). q .running) e in omega arith in
-      rw (lt-ltb i (length (s .slots)) (slot-there s i r), e)
 
 -- A search for key k runs in slot i after v visits, and what is in reach of the node where it stands is no older than t₀.
 pub record Searches (p : Plan) (k t₀ i v : ℕ) (s : State) : Type 0 where
@@ -183,48 +176,39 @@ module _ (p : Plan) (rules : PlanRules p) (k t₀ i : ℕ) where
         inside : n < size p
         inside = on-path-in-plan p rules k n v (stands v r)
 
-        is : stepStep i p s ≡ visited (line s k n) (next p n k) i (running k n v) s
-        is = own-visit p s i k n v (r .at)
+        there : i < length (s .slots)
+        there = slot-there s i (runs v r)
 
         reach : inReach p s k (To n) ≡ orElse (line s k n) (inReach p s k (next p n k))
         reach = reach-goes p rules s k n inside
 
+        past : line s k n ≡ none → inReach p s k (To n) ≡ inReach p s k (next p n k)
+        past a = reach ∙ ap (λ (o : Option Copy). orElse o (inReach p s k (next p n k))) a
+
+        finishes : (o : Option Copy) → inReach p s k (To n) ≡ o → stepStep i p s .answer ≡ ended o (suc v) → Finishes p k t₀ i v s
+        finishes o f says = record { node = n; inside = inside; says = rw f says; recent = r .recent }
+
         go : (o : Option Copy) (h : Hop) → line s k n ≡ o → next p n k ≡ h
             → Finishes p k t₀ i v s ⊎ (Searches p k t₀ i (suc v) (after p (steps i) s) × (answerOf p (steps i) s .number ≡ GOING))
         go (some x) h a b =
-            let found : inReach p s k (To n) ≡ some x = reach ∙ ap (λ (o : Option Copy). orElse o (inReach p s k (next p n k))) a in
             inl
-            (record {
-              node = n;
-              inside = inside;
-              says = rw found (ap (λ (o : Effect). o .answer) is ∙ ap (λ (o : Option Copy). visited o (next p n k) i (running k n v) s .answer) a);
-              recent = r .recent;
-            })
+            (finishes (some x) (reach ∙ ap (λ (o : Option Copy). orElse o (inReach p s k (next p n k))) a)
+            (ap (λ (o : Effect). o .answer) (step-finds p s i k n v there (r .at) x a)))
         go none Ends a b =
-            let found : inReach p s k (To n) ≡ none =
-            reach ∙ ap (λ (o : Option Copy). orElse o (inReach p s k (next p n k))) a ∙ ap (inReach p s k) b ∙ reach-ends p rules s k in
             inl
-            (record {
-              node = n;
-              inside = inside;
-              says = rw found (ap (λ (o : Effect). o .answer) is ∙ rw (a, b));
-              recent = r .recent;
-            })
+            (finishes none (past a ∙ ap (inReach p s k) b ∙ reach-ends p rules s k)
+            (ap (λ (o : Effect). o .answer) (step-never p s i k n v there (r .at) a b)))
         go none (To t) a b =
-            let went : stepStep i p s ≡ visited none (To t) i (running k n v) s = is ∙ rw (a, b) in
-            let below : inReach p s k (To n) ≡ inReach p s k (To t) =
-            reach ∙ ap (λ (o : Option Copy). orElse o (inReach p s k (next p n k))) a ∙ ap (inReach p s k) b in
+            let went = step-goes p s i k n v there (r .at) a t b in
             inr (
               record {
                 node = t;
-                at =
-                    ap (λ (o : Effect). slotAt (o .after) i) went
-                    ∙ slot-set i (running k t (suc v)) s (slot-there s i (runs v r));
+                at = ap (λ (o : Effect). slotAt (o .after) i) went ∙ slot-set i (running k t (suc v)) s there;
                 recent =
                     omega (
                       arith,
                       r .recent,
-                      ap stampOf below,
+                      ap stampOf (past a ∙ ap (inReach p s k) b),
                       reach-increases p rules s good (steps i) t k (next-down p rules n k t b .1),
                     );
               },
@@ -350,5 +334,5 @@ just-started p rules s good k i h =
     record {
       node = 0;
       at = started-slot p s k i h;
-      recent = reach-increases p rules s good (starts k) 0 k (root-in-plan p rules k);
+      recent = reach-increases p rules s good (starts k) 0 k (root-in-plan p rules);
     }

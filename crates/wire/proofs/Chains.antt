@@ -69,9 +69,6 @@ module _ {A : Type 0} {R : A → ℕ → Type 0} where
       Given (got y end) = R y end
       Given (fault number at) = Unit
 
-  pub gives-all : ((x : A) (next : ℕ) → R x next) → (m : Got A) → Gives R m
-  gives-all h m = record { each = λ x next e. h x next }
-
   pub gives-check : (test : Bool) (number at : ℕ) (rest : Got A) → (test ≡ true → Gives R rest) → Gives R (cond test rest (fault number at))
   gives-check test number at rest h = record { each = λ x next e. let p = passed test number at rest e in h (p .0) .each x next (p .1) }
 

@@ -10,13 +10,6 @@ use Rattle.steps.specs.Carries.{carryStep}
 use Rattle.carries.proofs.Carrying.{no-node, no-edge}
 use Rattle.carries.proofs.carry.Statement.{statement}
 use Rattle.carries.proofs.carry.Tie as tie
-use Rattle.carries.proofs.carry.Reads as reads
-use Rattle.carries.proofs.carry.Lts as lts
-use Rattle.carries.proofs.good_carry.Reads as good-carry-reads
-use Rattle.plan.proofs.edge_count.Reads as edge-count-reads
-use Rattle.plan.proofs.nodes.Reads as nodes-reads
-use Rattle.rules.proofs.good.Reads as good-reads
-use Rattle.store.proofs.Answer.bare.Reads as bare-reads
 
 abbrev S : tie.Start → Store
 S c = c .args .t1

@@ -20,14 +20,6 @@ use Rattle.carries.proofs.Carrying.{
 }
 use Rattle.carries.proofs.good_carry.Statement.{statement}
 use Rattle.carries.proofs.good_carry.Tie as tie
-use Rattle.carries.proofs.good_carry.Reads as reads
-use Rattle.carries.proofs.good_carry.Lts as lts
-use Rattle.carries.proofs.decision.count_held.Reads as count-held-reads
-use Rattle.carries.proofs.decision.decide.Reads as decide-reads
-use Rattle.carries.proofs.tally.Reads as tally-reads
-use Rattle.carries.proofs.writing.carry_column.Reads as carry-column-reads
-use Rattle.plan.proofs.capacity.Reads as capacity-reads
-use Rattle.plan.proofs.edge_at.Reads as edge-at-reads
 
 abbrev S : tie.Start → Store
 S c = c .args .t1
@@ -100,12 +92,6 @@ merges c =
     let e = c .before .before .before .before in
     let s = e .before in
     ready (S s) (s .pre .0) (s .args .node) (s .args .edge) (s .pre .1) (e .edge-at .result) (e .edge-at .ensures) (c .capacity .result) (c .capacity .ensures)
-
-add-decide : tie.Need-add-decide
-add-decide c = let r = merges (c .before .before .before .before) in search (needs, r .node-within .1)
-
-add-decide-2 : tie.Need-add-decide-2
-add-decide-2 c = let r = merges (c .before .before .before .before) in search (needs, r .target-within .1)
 
 decide-requires : tie.Need-decide-requires
 decide-requires c κs = (merges (c .before .before .before .before), refl, refl)
@@ -214,8 +200,6 @@ good-carry-spec =
     mul-start
     capacity-requires
     cast-capacity
-    add-decide
-    add-decide-2
     decide-requires
     array-share-prefix-stay
     slice-aggregate-stays

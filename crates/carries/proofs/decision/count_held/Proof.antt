@@ -9,9 +9,6 @@ use Rattle.steps.specs.Carries.{countHeld}
 use Rattle.carries.proofs.Deciding.{count-one, count-none, count-end}
 use Rattle.carries.proofs.decision.count_held.Statement.{statement}
 use Rattle.carries.proofs.decision.count_held.Tie as tie
-use Rattle.carries.proofs.decision.count_held.Reads as reads
-use Rattle.carries.proofs.decision.count_held.Lts as lts
-use Rattle.carries.proofs.decision.holds.Reads as holds-reads
 
 abbrev Inv-loop : tie.InvT-loop
 Inv-loop keys list edge count₀ i₀ count i =

@@ -1,30 +1,33 @@
 use mathlib.Core.Path.{_≡_, _∙_}
 use Prim.Native.Nat.{_+_, _-_}
 use native.Mathlib.Omega.{arith}
+use borrow.Author.Needs.{needs}
 use Rattle.store.specs.Workers.{numberIn}
 use Rattle.steps.specs.Carries.{merge}
 use Rattle.carries.specs.Decisions.{span, outcome, Going}
 use Rattle.carries.proofs.Deciding.{start-going, start-outcome, decided}
 use Rattle.carries.proofs.decision.decide.Statement.{statement}
 use Rattle.carries.proofs.decision.decide.Tie as tie
-use Rattle.carries.proofs.decision.decide.Reads as reads
-use Rattle.carries.proofs.decision.decide.Lts as lts
-use Rattle.carries.proofs.decision.rest.Reads as rest-reads
-use Rattle.carries.proofs.decision.turn.Reads as turn-reads
 
 abbrev Inv-loop : tie.InvT-loop
-Inv-loop keys stay₀ target₀ from to start end edge capacity m₀ stay target m =
+Inv-loop keys stay₀ target₀ from had start held edge capacity to end m₀ stay target m =
     Going keys capacity to end stay target m
-    × (outcome keys capacity edge to end stay target m ≡ merge (numberIn keys) capacity edge (span from to) (span start end))
+    × (outcome keys capacity edge to end stay target m ≡ merge (numberIn keys) capacity edge (span from (from + had)) (span start (start + held)))
 
 abbrev μ-loop : tie.MeasureT-loop
-μ-loop keys stay₀ target₀ from to start end edge capacity m₀ stay target m = (to - m .place) + (end - m .next)
+μ-loop keys stay₀ target₀ from had start held edge capacity to end m₀ stay target m = (to - m .place) + (end - m .next)
+
+add-to : tie.Need-add-to Inv-loop μ-loop
+add-to c = search (needs, c .pre .0 .node-within .1)
+
+add-end : tie.Need-add-end Inv-loop μ-loop
+add-end c = search (needs, c .pre .0 .target-within .1)
 
 loop-holds : tie.Need-loop-holds Inv-loop μ-loop
 loop-holds c =
     let a = c .args in (
-      start-going (a .keys .now) (a .capacity) (a .edge) (a .from) (a .to) (a .start) (a .end) (a .stay .now) (a .target .now) (c .pre .0) (c .pre .1) (c .pre .2),
-      start-outcome (a .keys .now) (a .capacity) (a .edge) (a .from) (a .to) (a .start) (a .end) (a .stay .now) (a .target .now),
+      start-going (a .keys .now) (a .capacity) (a .edge) (a .from) (a .from + a .had) (a .start) (a .start + a .held) (a .stay .now) (a .target .now) (c .pre .0) (c .pre .1) (c .pre .2),
+      start-outcome (a .keys .now) (a .capacity) (a .edge) (a .from) (a .from + a .had) (a .start) (a .start + a .held) (a .stay .now) (a .target .now),
     )
 
 turn-requires : tie.Need-turn-requires Inv-loop μ-loop
@@ -50,4 +53,4 @@ returns c =
 pub decide-spec : {M : Type 1} → statement M
 decide-spec =
     tie.close
-    (tie.spec Inv-loop μ-loop loop-holds turn-requires loop-less loop-again rest-requires returns)
+    (tie.spec Inv-loop μ-loop add-to add-end loop-holds turn-requires loop-less loop-again rest-requires returns)

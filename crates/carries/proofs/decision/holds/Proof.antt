@@ -2,8 +2,6 @@ use borrow.Author.Tests.{le-leb, lt-leb}
 use Rattle.plan.specs.Plan.{holds}
 use Rattle.carries.proofs.decision.holds.Statement.{statement}
 use Rattle.carries.proofs.decision.holds.Tie as tie
-use Rattle.carries.proofs.decision.holds.Reads as reads
-use Rattle.carries.proofs.decision.holds.Lts as lts
 
 returns : tie.Need-returns
 unfolding holds

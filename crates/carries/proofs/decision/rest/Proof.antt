@@ -9,9 +9,6 @@ use Rattle.carries.specs.Decisions.{standing}
 use Rattle.carries.proofs.Deciding.{rest-turn, rest-end}
 use Rattle.carries.proofs.decision.rest.Statement.{statement}
 use Rattle.carries.proofs.decision.rest.Tie as tie
-use Rattle.carries.proofs.decision.rest.Reads as reads
-use Rattle.carries.proofs.decision.rest.Lts as lts
-use Rattle.carries.proofs.decision.get.Reads as get-reads
 
 abbrev Inv-loop : tie.InvT-loop
 Inv-loop target₀ m₀ end target m =

@@ -8,11 +8,6 @@ use Rattle.store.specs.Workers.{numberIn}
 use Rattle.carries.proofs.Turning.{own-first, replaces, adds, stays-outside, stays-full}
 use Rattle.carries.proofs.decision.turn.Statement.{statement}
 use Rattle.carries.proofs.decision.turn.Tie as tie
-use Rattle.carries.proofs.decision.turn.Reads as reads
-use Rattle.carries.proofs.decision.turn.Lts as lts
-use Rattle.carries.proofs.decision.get.Reads as get-reads
-use Rattle.carries.proofs.decision.holds.Reads as holds-reads
-use Rattle.carries.proofs.decision.keep.Reads as keep-reads
 
 -- Where the tests on the target's next key meet: it is not below the node's, and not the same.
 not-below : (c : tie.Joined1) → let a = c .before .before .args in

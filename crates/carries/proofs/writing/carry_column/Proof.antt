@@ -4,11 +4,6 @@ use Rattle.store.specs.Layout.{places}
 use Rattle.carries.proofs.Gathering.{long-after, column-carried}
 use Rattle.carries.proofs.writing.carry_column.Statement.{statement}
 use Rattle.carries.proofs.writing.carry_column.Tie as tie
-use Rattle.carries.proofs.writing.carry_column.Reads as reads
-use Rattle.carries.proofs.writing.carry_column.Lts as lts
-use Rattle.carries.proofs.writing.clear.Reads as clear-reads
-use Rattle.carries.proofs.writing.gather_back.Reads as gather-back-reads
-use Rattle.carries.proofs.writing.gather_front.Reads as gather-front-reads
 
 gather-back-requires : tie.Need-gather-back-requires
 gather-back-requires c κs = search needs
@@ -37,7 +32,7 @@ clear-requires c κs =
     let s = g .before .before .before .before in
     let v = s .pre .0 in (
       long-after (g .gather-back .last .0) (f .gather-front .last .0) (s .args .stay .now) (s .args .from) places (f .gather-front .ensures)
-      (long-after (s .args .column .now) (g .gather-back .last .0) (s .args .target .now) (s .args .start) places (g .gather-back .ensures) (s .pre .1)),
+          (long-after (s .args .column .now) (g .gather-back .last .0) (s .args .target .now) (s .args .start) places (g .gather-back .ensures) (s .pre .1)),
       omega (arith, v .stays),
       omega (arith, v .apart, v .room),
     )

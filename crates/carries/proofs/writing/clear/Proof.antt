@@ -8,8 +8,6 @@ use Rattle.store.specs.Layout.{places}
 use Rattle.carries.proofs.Gathering.{clear-turn, clear-end}
 use Rattle.carries.proofs.writing.clear.Statement.{statement}
 use Rattle.carries.proofs.writing.clear.Tie as tie
-use Rattle.carries.proofs.writing.clear.Reads as reads
-use Rattle.carries.proofs.writing.clear.Lts as lts
 
 abbrev Inv-loop : tie.InvT-loop
 Inv-loop column₀ from end i₀ column i =

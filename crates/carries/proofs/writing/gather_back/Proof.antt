@@ -11,8 +11,6 @@ use Rattle.carries.specs.Writings.{gather}
 use Rattle.carries.proofs.Gathering.{back-turn}
 use Rattle.carries.proofs.writing.gather_back.Statement.{statement}
 use Rattle.carries.proofs.writing.gather_back.Tie as tie
-use Rattle.carries.proofs.writing.gather_back.Reads as reads
-use Rattle.carries.proofs.writing.gather_back.Lts as lts
 
 abbrev Inv-loop : tie.InvT-loop
 Inv-loop column₀ list start i₀ column i =

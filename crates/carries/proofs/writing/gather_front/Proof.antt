@@ -1,5 +1,5 @@
 use mathlib.Core.Path.{_≡_, refl, ap, _∙_}
-use Prim.Native.Nat.{ℕ, _+_, _-_, _<_, _≤_}
+use Prim.Native.Nat.{ℕ, _+_, _-_, _≤_}
 use native.Mathlib.Omega.{arith}
 use native.Mathlib.Nat.{add-zero}
 use lib.ListN.{length, drop}
@@ -11,8 +11,6 @@ use Rattle.carries.specs.Writings.{gather}
 use Rattle.carries.proofs.Gathering.{front-turn, front-end}
 use Rattle.carries.proofs.writing.gather_front.Statement.{statement}
 use Rattle.carries.proofs.writing.gather_front.Tie as tie
-use Rattle.carries.proofs.writing.gather_front.Reads as reads
-use Rattle.carries.proofs.writing.gather_front.Lts as lts
 
 abbrev Inv-loop : tie.InvT-loop
 Inv-loop column₀ list start i₀ column i =

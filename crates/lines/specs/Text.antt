@@ -1,0 +1,44 @@
+-- The text of printed lines, as bytes: numbers in decimal, one space between two, a line feed after the last.
+use mathlib.Core.Bool.{cond}
+use mathlib.Core.List.{List, [], _∷_, _++_}
+use Prim.Native.Nat.{ℕ, zero, suc, _+_, _-_, _*_, _/_, _%_}
+use lib.Dec.{ltb}
+use Rattle.store.specs.declared.Answer.{Answer}
+
+-- The byte of a digit, the space and the line feed.
+abbrev pub digit : ℕ → ℕ
+digit v = 48 + v
+
+abbrev pub SPACE : ℕ
+SPACE = 32
+
+abbrev pub FEED : ℕ
+FEED = 10
+
+-- The digits of a number, of which at most `more` come before the last.
+unfoldable pub digitsIn : ℕ → ℕ → List ℕ
+digitsIn zero v = digit v ∷ []
+digitsIn (suc more) v = cond (ltb v 10) (digit v ∷ []) (digitsIn more (v / 10) ++ digit (v % 10) ∷ [])
+
+-- A number in decimal, without leading zeros; 0 is the digit 0.
+unfoldable pub decimal : ℕ → List ℕ
+decimal v = digitsIn v v
+
+-- The number that digits spell, after others that spelt a number.
+unfoldable pub spelt : ℕ → List ℕ → ℕ
+spelt v [] = v
+spelt v (b ∷ l) = spelt (10 * v + (b - 48)) l
+
+-- A line.
+unfoldable pub lineText : List ℕ → List ℕ
+lineText [] = []
+lineText (v ∷ []) = decimal v ++ FEED ∷ []
+lineText (v ∷ w ∷ ws) = decimal v ++ SPACE ∷ lineText (w ∷ ws)
+
+-- The line of a step, or of a whole schedule: six numbers.
+abbrev pub answerText : ℕ → Answer → List ℕ
+answerText first r = lineText (first ∷ r .number ∷ r .a ∷ r .b ∷ r .c ∷ r .d ∷ [])
+
+-- Six numbers of at most 20 digits, each with one byte after it.
+abbrev pub mostText : ℕ
+mostText = 126

@@ -1,0 +1,52 @@
+// Printed lines: six numbers in decimal with single spaces, and a line feed. Document 01, "A schedule in full".
+ghost use mathlib.Core.Path.{_≡_};
+ghost use mathlib.Core.List.{[], _∷_, _++_};
+ghost use Prim.Native.Nat.{_+_, _≤_, _<_};
+ghost use lib.ListN.{length};
+ghost use Rattle.lists.specs.Stands.{Wrote};
+ghost use Rattle.lines.specs.Text.{decimal, mostText};
+ghost use Rattle.lines.specs.Promises.{Prints};
+use store::Answer;
+
+// Six numbers of at most 20 digits, each with one byte after it.
+pub const ROOM: usize = 126;
+
+const SPACE: u8 = 32;
+
+const FEED: u8 = 10;
+
+// Writes a number in decimal at an offset where it fits, and gives the offset after it.
+fn write_decimal(buffer: &mut [u8; ROOM], at: usize, value: u64) -> usize
+    requires { ⌜ at + length (decimal value) ≤ mostText ⌝ }
+    ensures { λ r. ⌜ Wrote (now (buffer .entry)) at (decimal value) r (now (buffer .exit)) ⌝ }
+{
+    if value < 10 {
+        buffer[at] = (48 + value) as u8;
+        return at + 1;
+    }
+    let next = write_decimal(buffer, at, value / 10);
+    buffer[next] = (48 + value % 10) as u8;
+    next + 1
+}
+
+// Writes a number and the byte after it: at most 21 bytes.
+fn write_word(buffer: &mut [u8; ROOM], at: usize, value: u64, after: u8) -> usize
+    requires { ⌜ at + 21 ≤ mostText ⌝ }
+    ensures { λ r. ⌜ Wrote (now (buffer .entry)) at (decimal value ++ after ∷ []) r (now (buffer .exit)) × (r ≤ at + 21) ⌝ }
+{
+    let next = write_decimal(buffer, at, value);
+    buffer[next] = after;
+    next + 1
+}
+
+// Writes the line of a first number and an answer, and gives its length.
+pub fn line_into(buffer: &mut [u8; ROOM], first: u32, answer: Answer) -> usize
+    ensures { λ r. ⌜ Prints (now (buffer .entry)) first answer r (now (buffer .exit)) ⌝ }
+{
+    let a = write_word(buffer, 0, first as u64, SPACE);
+    let b = write_word(buffer, a, answer.number as u64, SPACE);
+    let c = write_word(buffer, b, answer.a, SPACE);
+    let d = write_word(buffer, c, answer.b, SPACE);
+    let e = write_word(buffer, d, answer.c, SPACE);
+    write_word(buffer, e, answer.d, FEED)
+}

@@ -1,0 +1,110 @@
+-- `page::page` meets its promise. Assumes nothing.
+use mathlib.Core.Path.{_≡_, sym, _∙_}
+use mathlib.Core.Bool.{true}
+use Prim.Native.Nat.{_≤_}
+use borrow.Author.Needs.{needs}
+use borrow.Author.Tests.{not-true, not-false}
+use lib.Seq.{length-take-le}
+use Rattle.store.specs.StoreRules.{goodStore}
+use Rattle.searches.proofs.Ending.{good-lookable}
+use Rattle.page.specs.Page.{lastSample}
+use Rattle.page.specs.Promises.{pageNow}
+use Rattle.page.proofs.PageWays.{Holds, page-held, page-bad-store, page-bad-sample, page-too-small, page-done}
+use Rattle.page.proofs.page.Statement.{statement}
+use Rattle.page.proofs.page.Tie as tie
+
+-- Past the first test the store is good,
+good : (i : tie.Else1) → goodStore (i .before .before .before .args .t1) ≡ true
+good i = sym (i .before .good-store .ensures) ∙ not-false (i .before .good-store .result) (i .if1 .left)
+
+-- past the second the sample is not too large, and past the writing of the scratch it begins with the sample's page.
+abbrev test : tie.After-write-now → tie.Else1
+test w = w .before .before .before .before .before .before .before .before .before
+
+abbrev entry : tie.After-write-now → tie.Start
+entry w = w .before .before .before .before .before .before .before .before .before .before .before .before
+
+small : (w : tie.After-write-now) → entry w .args .sample ≤ lastSample
+small w = search needs
+
+held : (w : tie.After-write-now) → Holds (pageNow (entry w .args .t1) (entry w .args .sample)) (w .write-now .result) (w .write-now .last .0)
+held w = page-held (entry w .args .t1) (entry w .args .sample) (small w) (search needs) (w .write-now .ensures)
+
+good-store-requires : tie.Need-good-store-requires
+good-store-requires c κs = search needs
+
+bare-requires : tie.Need-bare-requires
+bare-requires c κs = search needs
+
+returns : tie.Need-returns
+returns c =
+    let g = c .before .before in
+    let a = g .before .before .args in
+    page-bad-store (a .t1) (a .sample) (a .buffer .now) (sym (g .good-store .ensures) ∙ not-true (g .good-store .result) (c .before .if1 .taken)) (c .bare .ensures)
+
+bare-requires-2 : tie.Need-bare-requires-2
+bare-requires-2 c κs = search needs
+
+returns-2 : tie.Need-returns-2
+returns-2 c =
+    let i = c .before .before in
+    let a = i .before .before .before .args in
+    page-bad-sample (a .t1) (a .sample) (a .buffer .now) (good i) (search needs) (c .bare2 .ensures)
+
+slice-aggregate-write-now : tie.Need-slice-aggregate-write-now
+slice-aggregate-write-now c = search needs
+
+write-now-requires : tie.Need-write-now-requires
+write-now-requires c κs =
+    let i = c .before .before .before .before .before .before .before .before in
+    (good-lookable (i .before .before .before .args .t1) (good i), search needs, search needs)
+
+of-requires : tie.Need-of-requires
+of-requires c κs = search needs
+
+returns-3 : tie.Need-returns-3
+returns-3 c =
+    let w = c .before .before .before in
+    let a = entry w .args in
+    page-too-small (a .t1) (a .sample) (a .buffer .now) (good (test w)) (small w) (held w) (search needs) (c .of .ensures)
+
+array-share-prefix-scratch : tie.Need-array-share-prefix-scratch
+array-share-prefix-scratch c = held (c .before .before .before) .room
+
+slice-aggregate-lay : tie.Need-slice-aggregate-lay
+slice-aggregate-lay c = let w = c .before .before .before .before in sym (length-take-le (w .write-now .result) (w .write-now .last .0) (held w .room))
+
+lay-requires : tie.Need-lay-requires
+lay-requires c κs = let w = c .before .before .before .before in rw (length-take-le (w .write-now .result) (w .write-now .last .0) (held w .room)) (search needs)
+
+of-requires-2 : tie.Need-of-requires-2
+of-requires-2 c κs = search needs
+
+same-length : tie.Need-same-length
+same-length c = search needs
+
+returns-4 : tie.Need-returns-4
+returns-4 c =
+    let w = c .before .before .before .before .before .before .before .before in
+    let a = entry w .args in
+    page-done (a .t1) (a .sample) (a .buffer .now) (good (test w)) (small w) (held w) (search needs) (c .of2 .ensures) (c .before .before .before .lay .ensures)
+
+pub page-spec : {M : Type 1} → statement M
+page-spec =
+    tie.close
+    (tie.spec
+    good-store-requires
+    bare-requires
+    returns
+    bare-requires-2
+    returns-2
+    slice-aggregate-write-now
+    write-now-requires
+    of-requires
+    returns-3
+    array-share-prefix-scratch
+    slice-aggregate-lay
+    lay-requires
+    of-requires-2
+    same-length
+    returns-4)

@@ -1,0 +1,241 @@
+-- Every public call keeps the store good, and is an event on its state or replaces it. Assumes nothing.
+use mathlib.Core.Path.{_≡_, refl, sym, ap, _∙_, subst}
+use mathlib.Core.Bool.{Bool, true, false, cond, not, _&&_}
+use mathlib.Core.Logic.{_⊎_, inl, inr}
+use mathlib.Core.List.{List, [], _∷_}
+use mathlib.Core.Option.{Option, none, some}
+use Prim.Native.Nat.{ℕ}
+use native.Mathlib.Omega.{arith}
+use lib.Dec.{eqb}
+use lib.ListN.{getD}
+use Rattle.lists.proofs.Truths.{bool?, not-both, and-right, both-le}
+use Rattle.lists.proofs.Options.{option?, not-none-and-some, one-some}
+use Rattle.plan.specs.Plan.{Plan}
+use Rattle.plan.specs.PlanTable.{planOf, plans}
+use Rattle.plan.proofs.TableLaws.{plans-three}
+use Rattle.store.specs.declared.Outcome.{Outcome}
+use Rattle.store.specs.declared.Store.{Store}
+use Rattle.store.specs.Copies.{isSome}
+use Rattle.store.specs.State.{State}
+use Rattle.store.specs.Layout.{stateOf, storeOf}
+use Rattle.store.specs.StoreRules.{planNumberTest, goodStore}
+use Rattle.store.specs.Calls.{Effect, onStore}
+use Rattle.store.specs.Promises.{freshOutcome}
+use Rattle.store.proofs.Lifting.{Keeps, on-bad, on-good, plan-stays, store-stays, on-keeps, state-agrees, fresh-good}
+use Rattle.schedule.specs.declared.Step.{Step}
+use Rattle.schedule.specs.Schedule.{ENTER, WITHDRAW, CARRY, START, STEP, CANCEL}
+use Rattle.schedule.specs.Running.{noStep, unknownStep, stepOf, runOutcome}
+use Rattle.image.specs.Loading.{loadOutcome}
+use Rattle.trips.proofs.RoundTrips.{load-good}
+use Rattle.theory.specs.Events.{Event, effect, after, answerOf, run as runEvents}
+use Rattle.theory.specs.Events.Event.{enters, withdraws, carries, starts, steps, cancels, asks}
+use Rattle.theory.proofs.EventSteps.{event-keeps}
+use Rattle.story.specs.PublicCalls.{Call, accepted, replaced, storeAfter, storeAfterAll}
+use Rattle.story.specs.PublicCalls.Call.{fresh, load, enter, withdraw, carry, start, step, cancel, look, save, page, serve, run}
+use Rattle.story.specs.Following.{eventOfRecord, eventOf, eventsOf, onEvent, storeIfAccepted, replacement, sameStore}
+
+-- The step of a record leaves what its event leaves.
+record-event : (r : Step) (place : ℕ) (p : Plan) (s : State) → stepOf r place p s .after ≡ after p (eventOfRecord r) s
+unfolding stepOf eventOfRecord effect
+record-event r place p s =
+    go (eqb (r .number) ENTER) (eqb (r .number) WITHDRAW) (eqb (r .number) CARRY) (eqb (r .number) START) (eqb (r .number) STEP)
+    (eqb (r .number) CANCEL)
+  where
+    go : (a b c d e f : Bool)
+        → (cond a (effect p (enters (r .x) (r .y)) s)
+        (cond b (effect p (withdraws (r .x)) s)
+        (cond c (effect p (carries (r .x) (r .y)) s)
+        (cond d (effect p (starts (r .x)) s)
+        (cond e (effect p (steps (r .x)) s) (cond f (effect p (cancels (r .x)) s) (unknownStep place s))))))
+        .after)
+        ≡ after p
+        (cond a (enters (r .x) (r .y))
+        (cond b (withdraws (r .x))
+        (cond c (carries (r .x) (r .y)) (cond d (starts (r .x)) (cond e (steps (r .x)) (cond f (cancels (r .x)) asks))))))
+        s
+    go true b c d e f = refl
+    go false true c d e f = refl
+    go false false true d e f = refl
+    go false false false true e f = refl
+    go false false false false true f = refl
+    go false false false false false true = refl
+    go false false false false false false = refl
+
+-- Two steps that leave the same states leave the same store.
+same-after : (f g : Plan → State → Effect) (z : Store) → ((p : Plan) (s : State) → f p s .after ≡ g p s .after) → onStore f z .store ≡ onStore g z .store
+same-after f g z h = go (bool? (goodStore z))
+  where
+    go : (goodStore z ≡ true) ⊎ (goodStore z ≡ false) → onStore f z .store ≡ onStore g z .store
+    go (inl good) =
+        ap (λ (o : Outcome). o .store) (on-good f z good)
+        ∙ (ap (storeOf (z .plan)) (h (planOf (z .plan)) (stateOf z)) ∙ sym (ap (λ (o : Outcome). o .store) (on-good g z good)))
+    go (inr bad) = ap (λ (o : Outcome). o .store) (on-bad f z bad) ∙ sym (ap (λ (o : Outcome). o .store) (on-bad g z bad))
+
+run-event : (z : Store) (list : List Step) (place : ℕ) → runOutcome z list place .store ≡ onEvent (eventOfRecord (getD list place noStep)) z .store
+unfolding runOutcome onEvent
+run-event z list place =
+    same-after (stepOf (getD list place noStep) place) (λ p s. effect p (eventOfRecord (getD list place noStep)) s) z
+    (record-event (getD list place noStep) place)
+
+asks-nothing : (z : Store) → onEvent asks z .store ≡ z
+unfolding onEvent effect
+asks-nothing z = store-stays (λ p s. effect p asks s) z refl
+
+-- Every outcome of fresh has a good store, a refused one too.
+fresh-outcome-good : (plan : ℕ) → goodStore (freshOutcome plan .store) ≡ true
+unfolding freshOutcome planNumberTest
+fresh-outcome-good plan = go (bool? (planNumberTest plan))
+  where
+    go : (planNumberTest plan ≡ true) ⊎ (planNumberTest plan ≡ false) → goodStore (freshOutcome plan .store) ≡ true
+    go (inl t) = let w = both-le 1 plan plan plans t in rw t (fresh-good plan (w .0) (w .1))
+    go (inr t) = rw t (fresh-good 1 (omega arith) (omega (arith, plans-three)))
+
+-- A call is its event on the store, of any store; or it is a fresh or a load, and gives an outcome of its own.
+record OwnOutcome (c : Call) : Type 0 where
+  outcome : Outcome
+  replaces : replacement c ≡ storeIfAccepted outcome
+  leaves : (z : Store) → storeAfter c z ≡ replaced outcome z
+  good : goodStore (outcome .store) ≡ true
+  else-nothing : eventOf c ≡ asks
+
+record OnEvent (c : Call) : Type 0 where
+  replaces-none : replacement c ≡ none
+  leaves : (z : Store) → storeAfter c z ≡ onEvent (eventOf c) z .store
+
+call-way : (c : Call) → OnEvent c ⊎ OwnOutcome c
+unfolding storeAfter replacement eventOf onEvent effect
+call-way (fresh plan) =
+    inr (record { outcome = freshOutcome plan; replaces = refl; leaves = λ z. refl; good = fresh-outcome-good plan; else-nothing = refl })
+call-way (load bytes) =
+    inr (record { outcome = loadOutcome bytes; replaces = refl; leaves = λ z. refl; good = load-good bytes; else-nothing = refl })
+call-way (enter k v) = inl (record { replaces-none = refl; leaves = λ z. refl })
+call-way (withdraw k) = inl (record { replaces-none = refl; leaves = λ z. refl })
+call-way (carry n i) = inl (record { replaces-none = refl; leaves = λ z. refl })
+call-way (start k) = inl (record { replaces-none = refl; leaves = λ z. refl })
+call-way (step i) = inl (record { replaces-none = refl; leaves = λ z. refl })
+call-way (cancel i) = inl (record { replaces-none = refl; leaves = λ z. refl })
+call-way (look k) = inl (record { replaces-none = refl; leaves = λ z. sym (asks-nothing z) })
+call-way save = inl (record { replaces-none = refl; leaves = λ z. sym (asks-nothing z) })
+call-way (page sample) = inl (record { replaces-none = refl; leaves = λ z. sym (asks-nothing z) })
+call-way (serve sample) = inl (record { replaces-none = refl; leaves = λ z. sym (asks-nothing z) })
+call-way (run list place) = inl (record { replaces-none = refl; leaves = λ z. run-event z list place })
+
+-- A call that does not replace the store is its event on it, of any store.
+pub event-on : (c : Call) (z : Store) → replacement c ≡ none → storeAfter c z ≡ onEvent (eventOf c) z .store
+event-on c z e = go (call-way c)
+  where
+    refused : (o : Outcome) → storeIfAccepted o ≡ none → replaced o z ≡ z
+    refused o e = at (accepted (o .answer)) e
+      where
+        at : (b : Bool) → cond b (some (o .store)) none ≡ none → cond b (o .store) z ≡ z
+        at true e = absurd (not-none-and-some e refl)
+        at false e = refl
+
+    go : OnEvent c ⊎ OwnOutcome c → storeAfter c z ≡ onEvent (eventOf c) z .store
+    go (inl w) = w .leaves z
+    go (inr w) =
+        w .leaves z
+        ∙ (refused (w .outcome) (sym (w .replaces) ∙ e)
+        ∙ sym (ap (λ (d : Event). onEvent d z .store) (w .else-nothing) ∙ asks-nothing z))
+
+-- One that does leaves its replacement, a good store.
+pub record Replaced (c : Call) (y : Store) : Type 0 where
+  pub leaves : (z : Store) → storeAfter c z ≡ y
+  pub good : goodStore y ≡ true
+
+pub accepted-store : (o : Outcome) (y : Store) → storeIfAccepted o ≡ some y → (o .store ≡ y) × ((z : Store) → replaced o z ≡ y)
+accepted-store o y e = go (accepted (o .answer)) e
+  where
+    go : (b : Bool) → cond b (some (o .store)) none ≡ some y → (o .store ≡ y) × ((z : Store) → cond b (o .store) z ≡ y)
+    go true e = (one-some refl e, λ z. one-some refl e)
+    go false e = absurd (not-none-and-some refl e)
+
+pub replaced-by : (c : Call) (y : Store) → replacement c ≡ some y → Replaced c y
+replaced-by c y e = go (call-way c)
+  where
+    go : OnEvent c ⊎ OwnOutcome c → Replaced c y
+    go (inl w) = absurd (not-none-and-some (w .replaces-none) e)
+    go (inr w) =
+        let a = accepted-store (w .outcome) y (sym (w .replaces) ∙ e) in
+        record { leaves = λ z. w .leaves z ∙ a .1 z; good = subst (λ (z : Store). goodStore z ≡ true) (a .0) (w .good) }
+
+-- An event keeps the rules, as a step.
+effect-keeps : (e : Event) → Keeps (λ p s. effect p e s)
+effect-keeps e p rules s good = event-keeps p rules e s good
+
+module _ (e : Event) (z : Store) where
+  pub event-keeps-plan : onEvent e z .store .plan ≡ z .plan
+  unfolding onEvent
+  event-keeps-plan = plan-stays (λ p s. effect p e s) z
+
+  pub event-on-bad : goodStore z ≡ false → onEvent e z .store ≡ z
+  unfolding onEvent
+  event-on-bad bad = ap (λ (o : Outcome). o .store) (on-bad (λ p s. effect p e s) z bad)
+
+  module _ (good : goodStore z ≡ true) where
+    pub event-keeps-good : goodStore (onEvent e z .store) ≡ true
+    unfolding onEvent
+    event-keeps-good = on-keeps (λ p s. effect p e s) z (effect-keeps e) good
+
+    -- The state follows the event, and the answer is the event's.
+    pub event-state : stateOf (onEvent e z .store) ≡ after (planOf (z .plan)) e (stateOf z)
+    unfolding onEvent
+    event-state = state-agrees (λ p s. effect p e s) z (effect-keeps e) good
+
+    pub event-answer : onEvent e z .answer ≡ answerOf (planOf (z .plan)) e (stateOf z)
+    unfolding onEvent
+    event-answer = ap (λ (o : Outcome). o .answer) (on-good (λ p s. effect p e s) z good)
+
+-- Every public call keeps a good store good,
+pub call-keeps-good : (c : Call) (z : Store) → goodStore z ≡ true → goodStore (storeAfter c z) ≡ true
+call-keeps-good c z good = go (option? (replacement c))
+  where
+    go : (replacement c ≡ none) ⊎ ((y : Store) × (replacement c ≡ some y)) → goodStore (storeAfter c z) ≡ true
+    go (inl e) = rw (event-on c z e) (event-keeps-good (eventOf c) z good)
+    go (inr w) = let r = replaced-by c (w .0) (w .1) in rw (r .leaves z) (r .good)
+
+-- so every sequence does;
+pub calls-keep-good : (cs : List Call) (z : Store) → goodStore z ≡ true → goodStore (storeAfterAll cs z) ≡ true
+unfolding storeAfterAll
+calls-keep-good [] z good = good
+calls-keep-good (c ∷ cs) z good = calls-keep-good cs (storeAfter c z) (call-keeps-good c z good)
+
+-- and a bad store is left as it is, or replaced by a good one.
+pub call-on-bad : (c : Call) (z : Store) → goodStore z ≡ false → (storeAfter c z ≡ z) ⊎ (goodStore (storeAfter c z) ≡ true)
+call-on-bad c z bad = go (option? (replacement c))
+  where
+    go : (replacement c ≡ none) ⊎ ((y : Store) × (replacement c ≡ some y)) → (storeAfter c z ≡ z) ⊎ (goodStore (storeAfter c z) ≡ true)
+    go (inl e) = inl (event-on c z e ∙ event-on-bad (eventOf c) z bad)
+    go (inr w) = let r = replaced-by c (w .0) (w .1) in inr (rw (r .leaves z) (r .good))
+
+-- Over a sequence in which the store is not replaced, its state follows the events, and its plan stays.
+pub record FollowsEvents (cs : List Call) (z : Store) : Type 0 where
+  pub plan : storeAfterAll cs z .plan ≡ z .plan
+  pub state : stateOf (storeAfterAll cs z) ≡ runEvents (planOf (z .plan)) (eventsOf cs) (stateOf z)
+
+-- The first call of such a sequence does not replace it.
+pub first-stays : (c : Call) (cs : List Call) → sameStore (c ∷ cs) ≡ true → replacement c ≡ none
+unfolding sameStore
+first-stays c cs t = go (replacement c) t
+  where
+    go : (o : Option Store) → not (isSome o) && sameStore cs ≡ true → o ≡ none
+    go none t = refl
+    go (some y) t = absurd (not-both t refl)
+
+pub rest-stays : (c : Call) (cs : List Call) → sameStore (c ∷ cs) ≡ true → sameStore cs ≡ true
+unfolding sameStore
+rest-stays c cs t = and-right (not (isSome (replacement c))) (sameStore cs) t
+
+pub follows-events : (cs : List Call) (z : Store) → goodStore z ≡ true → sameStore cs ≡ true → FollowsEvents cs z
+unfolding storeAfterAll eventsOf runEvents
+follows-events [] z good t = record { plan = refl; state = refl }
+follows-events (c ∷ cs) z good t =
+    let is : storeAfter c z ≡ onEvent (eventOf c) z .store = event-on c z (first-stays c cs t) in
+    let plan : storeAfter c z .plan ≡ z .plan = ap (λ (y : Store). y .plan) is ∙ event-keeps-plan (eventOf c) z in
+    let state : stateOf (storeAfter c z) ≡ after (planOf (z .plan)) (eventOf c) (stateOf z) =
+    ap stateOf is ∙ event-state (eventOf c) z good in
+    let again = follows-events cs (storeAfter c z) (call-keeps-good c z good) (rest-stays c cs t) in
+    record {
+      plan = again .plan ∙ plan;
+      state = again .state ∙ rw (state, plan);
+    }

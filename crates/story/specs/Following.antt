@@ -1,0 +1,144 @@
+-- Public calls followed over a sequence: each is an event on the store's state, or replaces the store; and what is counted since the
+-- store was last replaced.
+use mathlib.Core.Bool.{Bool, true, false, cond, not, _&&_}
+use mathlib.Core.List.{List, [], _∷_, _++_}
+use mathlib.Core.Option.{Option, none, some}
+use Prim.Native.Nat.{ℕ, _+_}
+use lib.Dec.{eqb}
+use lib.ListN.{getD}
+use Rattle.plan.specs.PlanTable.{planOf}
+use Rattle.store.specs.declared.Copy.{Copy}
+use Rattle.store.specs.declared.Outcome.{Outcome}
+use Rattle.store.specs.declared.Store.{Store}
+use Rattle.store.specs.Copies.{WITHDRAWN, RESULT, copy, isSome}
+use Rattle.store.specs.State.{line}
+use Rattle.store.specs.Layout.{stateOf}
+use Rattle.store.specs.Calls.{onStore}
+use Rattle.store.specs.Promises.{freshOutcome}
+use Rattle.steps.specs.Carries.{bit}
+use Rattle.image.specs.Loading.{loadOutcome}
+use Rattle.schedule.specs.declared.Step.{Step}
+use Rattle.schedule.specs.Schedule.{ENTER, WITHDRAW, CARRY, START, STEP, CANCEL}
+use Rattle.schedule.specs.Running.{noStep}
+use Rattle.theory.specs.Events.{Event, effect, optionList, held, rounds}
+use Rattle.theory.specs.Events.Event.{enters, withdraws, carries, starts, steps, cancels, asks}
+use Rattle.story.specs.PublicCalls.{Call, accepted, storeAfter}
+use Rattle.story.specs.PublicCalls.Call.{fresh, load, enter, withdraw, carry, start, step, cancel, look, save, page, serve, run}
+
+-- The event of a step record; an unknown step does nothing.
+unfoldable pub eventOfRecord : Step → Event
+eventOfRecord r =
+    cond (eqb (r .number) ENTER) (enters (r .x) (r .y))
+    (cond (eqb (r .number) WITHDRAW) (withdraws (r .x))
+    (cond (eqb (r .number) CARRY) (carries (r .x) (r .y))
+    (cond (eqb (r .number) START) (starts (r .x))
+    (cond (eqb (r .number) STEP) (steps (r .x))
+    (cond (eqb (r .number) CANCEL) (cancels (r .x)) asks)))))
+
+-- What a call is to the state of the store that it is given.
+unfoldable pub eventOf : Call → Event
+eventOf (enter k v) = enters k v
+eventOf (withdraw k) = withdraws k
+eventOf (carry n i) = carries n i
+eventOf (start k) = starts k
+eventOf (step i) = steps i
+eventOf (cancel i) = cancels i
+eventOf (run list place) = eventOfRecord (getD list place noStep)
+eventOf (fresh plan) = asks
+eventOf (load bytes) = asks
+eventOf (look k) = asks
+eventOf save = asks
+eventOf (page sample) = asks
+eventOf (serve sample) = asks
+
+unfoldable pub eventsOf : List Call → List Event
+eventsOf [] = []
+eventsOf (c ∷ cs) = eventOf c ∷ eventsOf cs
+
+-- An event as a call.
+unfoldable pub onEvent : Event → Store → Outcome
+onEvent e z = onStore (λ p s. effect p e s) z
+
+-- The store that takes another's place: of an accepted fresh or load.
+abbrev pub storeIfAccepted : Outcome → Option Store
+storeIfAccepted o = cond (accepted (o .answer)) (some (o .store)) none
+
+unfoldable pub replacement : Call → Option Store
+replacement (fresh plan) = storeIfAccepted (freshOutcome plan)
+replacement (load bytes) = storeIfAccepted (loadOutcome bytes)
+replacement (enter k v) = none
+replacement (withdraw k) = none
+replacement (carry n i) = none
+replacement (start k) = none
+replacement (step i) = none
+replacement (cancel i) = none
+replacement (look k) = none
+replacement save = none
+replacement (page sample) = none
+replacement (serve sample) = none
+replacement (run list place) = none
+
+-- No call of a sequence replaces the store.
+unfoldable pub sameStore : List Call → Bool
+sameStore [] = true
+sameStore (c ∷ cs) = not (isSome (replacement c)) && sameStore cs
+
+-- The copy that an event enters, if it is an accepted entry.
+unfoldable pub enteredBy : Event → Store → Option Copy
+enteredBy (enters k v) z = cond (accepted (onEvent (enters k v) z .answer)) (some (copy k RESULT v (z .clock))) none
+enteredBy (withdraws k) z = cond (accepted (onEvent (withdraws k) z .answer)) (some (copy k WITHDRAWN 0 (z .clock))) none
+enteredBy (carries n i) z = none
+enteredBy (starts k) z = none
+enteredBy (steps i) z = none
+enteredBy (cancels i) z = none
+enteredBy asks z = none
+
+-- Node n of a store has the line's copy.
+abbrev pub hasLine : Store → ℕ → ℕ → Bool
+hasLine z k n = isSome (line (stateOf z) k n)
+
+-- "A carry carries a line exactly when the node had its copy before and lacks it after."
+unfoldable pub carriedBy : ℕ → Event → Store → Bool
+carriedBy k (carries n i) z = hasLine z k n && not (hasLine (onEvent (carries n i) z .store) k n)
+carriedBy k (enters j v) z = false
+carriedBy k (withdraws j) z = false
+carriedBy k (starts j) z = false
+carriedBy k (steps i) z = false
+carriedBy k (cancels i) z = false
+carriedBy k asks z = false
+
+-- The history: the copies entered since the store was last replaced, after those that it was fresh or loaded with.
+abbrev pub historyWith : Option Store → Option Copy → List Copy → List Copy
+historyWith (some y) x h = held (stateOf y)
+historyWith none x h = h ++ optionList x
+
+unfoldable pub history : List Call → Store → List Copy → List Copy
+history [] z h = h
+history (c ∷ cs) z h = history cs (storeAfter c z) (historyWith (replacement c) (enteredBy (eventOf c) z) h)
+
+-- The carries of a line since the store was last replaced: the count starts again at an accepted fresh or load.
+abbrev pub carriesWith : Option Store → Bool → ℕ → ℕ
+carriesWith (some y) b n = 0
+carriesWith none b n = bit b + n
+
+unfoldable pub carriesSince : ℕ → List Call → Store → ℕ → ℕ
+carriesSince k [] z n = n
+carriesSince k (c ∷ cs) z n = carriesSince k cs (storeAfter c z) (carriesWith (replacement c) (carriedBy k (eventOf c) z) n)
+
+-- The call of an event.
+unfoldable pub callOf : Event → Call
+callOf (enters k v) = enter k v
+callOf (withdraws k) = withdraw k
+callOf (carries n i) = carry n i
+callOf (starts k) = start k
+callOf (steps i) = step i
+callOf (cancels i) = cancel i
+callOf asks = save
+
+unfoldable pub callsOf : List Event → List Call
+callsOf [] = []
+callsOf (e ∷ es) = callOf e ∷ callsOf es
+
+-- The calls that reach demand 3's bound: a fresh store of the plan, then the line entered and carried down its path, so many times.
+unfoldable pub roundCalls : ℕ → ℕ → ℕ → ℕ → List Call
+roundCalls plan k v r = fresh plan ∷ callsOf (rounds (planOf plan) k v r)
