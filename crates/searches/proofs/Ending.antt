@@ -16,14 +16,19 @@ use Rattle.store.specs.StoreRules.{goodStore}
 use Rattle.store.specs.Calls.{ofStore}
 use Rattle.store.specs.Workers.{holding}
 use Rattle.store.proofs.Halving.{found-none, found-some}
-use Rattle.store.proofs.Lifting.{of-good}
+use Rattle.store.proofs.Lifting.{of-good, good-ordered}
+use Rattle.store.proofs.Ruling.{good-rules}
 use Rattle.steps.specs.Searches.{ended, lookAnswer}
 use Rattle.searches.specs.declared.lines.Seen.{Seen}
-use Rattle.searches.specs.Workers.{seenIn}
+use Rattle.searches.specs.Workers.{Lookable, seenIn}
 
 -- "1 withdrawn or 2 result, then value, stamp, visits"
 pub held-answer : (x : Copy) (visits : ℕ) → answer DONE (x .kind + 1) (x .value) (x .stamp) visits ≡ ended (some x) visits
 held-answer x visits = rw add-one
+
+-- A good store's columns can be looked down.
+pub good-lookable : (z : Store) → goodStore z ≡ true → Lookable (z .plan) (z .counts) (z .keys)
+good-lookable z good = record { known = good-rules z good .plan-1-to-3; ordered = good-ordered z good }
 
 -- What is seen in the columns lent is what is seen in the store,
 pub seen-lent : (z : Store) (k : ℕ) → seenIn (holding (z .plan) 0 (z .counts) (z .keys) (z .kinds) (z .values) (z .stamps)) k ≡ seenIn z k

@@ -14,18 +14,14 @@ use Rattle.store.specs.StateRules.{OnPath}
 use Rattle.store.specs.Layout.{stateOf, storeOf}
 use Rattle.store.specs.StoreRules.{goodStore}
 use Rattle.store.specs.Calls.{Effect, onStore}
-use Rattle.store.proofs.Lifting.{plan-good, state-good, good-ordered, good-back, on-way}
-use Rattle.store.proofs.Ruling.{good-rules}
+use Rattle.store.proofs.Lifting.{plan-good, state-good, good-back, on-way}
 use Rattle.steps.proofs.LineSteps.{Still}
 use Rattle.steps.proofs.OnPaths.{on-path-in-plan}
 use Rattle.searches.specs.declared.slots.Moved.{Moved}
-use Rattle.searches.specs.Workers.{Lookable, Stands, Steppable, movedBy, withSlots}
+use Rattle.searches.specs.Workers.{Stands, Steppable, movedBy, withSlots}
+use Rattle.searches.proofs.Ending.{good-lookable}
 
 module _ (z : Store) (good : goodStore z ≡ true) where
-  -- Its columns can be looked down.
-  pub good-lookable : Lookable (z .plan) (z .counts) (z .keys)
-  good-lookable = record { known = good-rules z good .plan-1-to-3; ordered = good-ordered z good }
-
   -- A running search stands on its key's path, so at a node of the plan, after fewer visits than a plan may have nodes.
   good-stands : (i : ℕ) → i < slotCount → getD (z .slots) i idle .running ≢ 0 → Stands (z .plan) (getD (z .slots) i idle)
   unfolding stateOf
@@ -39,7 +35,7 @@ module _ (z : Store) (good : goodStore z ≡ true) where
       }
 
   pub good-steppable : Steppable (z .plan) (z .counts) (z .keys) (z .slots)
-  good-steppable = record { lookable = good-lookable; stands = good-stands }
+  good-steppable = record { lookable = good-lookable z good; stands = good-stands }
 
   -- The store of a state that differs from the store's own in its slots alone.
   still-store : (t : State) → Still (stateOf z) t → storeOf (z .plan) t ≡ withSlots (t .slots) z

@@ -3,8 +3,7 @@ use mathlib.Core.Path.{sym, _∙_}
 use borrow.Author.Tests.{not-true, not-false}
 use Rattle.store.proofs.Lifting.{of-bad}
 use Rattle.steps.specs.Searches.{lookAnswer}
-use Rattle.searches.proofs.Ending.{seen-lent, look-held, look-never}
-use Rattle.searches.proofs.Moving.{good-lookable}
+use Rattle.searches.proofs.Ending.{good-lookable, seen-lent, look-held, look-never}
 use borrow.Author.Needs.{needs}
 use Rattle.searches.proofs.look.Statement.{statement}
 use Rattle.searches.proofs.look.Tie as tie
