@@ -41,7 +41,7 @@ fn added(mut store: Store, at: usize, end: usize, key: u32, kind: u32, value: u3
     store
 }
 
-// An entry: BADSTORE, then CLOCK before FULL.
+// An entry: BADSTORE, then CLOCK before FULL; a refusal leaves the store as it was.
 fn entry(store: Store, kind: u32, key: u32, value: u32) -> Outcome
     ensures { λ r. ⌜ r ≡ onStore (entryStep kind key value) store ⌝ }
 {

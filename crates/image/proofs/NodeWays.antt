@@ -179,8 +179,8 @@ module _ {s : List ℕ} {p : Plan} {at n : ℕ} {counts : List ℕ} {c : Columns
   unfolding nodesAt bind numOf
   sofar-end h =
       let e : nodesAt s p at ≡ got (so .nodes) next =
-          so .rest ∙ ap (λ (q : Plan). bind (nodesAt s q next) (λ ns end. got (so .nodes ++ ns) end)) (drop-of-length-le p h)
-          ∙ ap (λ (ns : List (List Copy)). got ns next) (append-nil (so .nodes)) in
+      so .rest ∙ ap (λ (q : Plan). bind (nodesAt s q next) (λ ns end. got (so .nodes ++ ns) end)) (drop-of-length-le p h)
+      ∙ ap (λ (ns : List (List Copy)). got ns next) (append-nil (so .nodes)) in
       record {
         ends = rw e refl;
         counts-are = λ ns end q. let z : so .nodes ≡ ns = cc in so .counts-are ∙ ap countsOf z;

@@ -58,14 +58,16 @@ module _ (z : Store) (good : goodStore z ≡ true) where
     -- The buffer is too short.
     pub save-small : {r : Answer} → length before < needed → r ≡ answer SMALL needed 0 0 0 → Saves z before r before
     unfolding saveAnswer saveBuffer stateOf imageOf
-    save-small h p =
-        (rw good (p ∙ ap (λ (n : ℕ). answer SMALL n 0 0 0) e ∙ sym (small-answer (image z) before (omega arith))),
-        rw good (sym (small-buffer (image z) before (omega arith))))
+    save-small h p = (
+      rw good (p ∙ ap (λ (n : ℕ). answer SMALL n 0 0 0) e ∙ sym (small-answer (image z) before (omega arith))),
+      rw good (sym (small-buffer (image z) before (omega arith))),
+    )
 
     -- The image is written.
     pub save-done : {r : Answer} {written : ℕ} {after : List ℕ} → needed ≤ length before
         → Wrote before 0 (imageIn (z .plan) (z .clock) (z .counts) (columnsIn z)) written after → r ≡ answer DONE written 0 0 0 → Saves z before r after
     unfolding saveAnswer saveBuffer stateOf imageOf
-    save-done h w p =
-        (rw good (p ∙ ap (λ (n : ℕ). answer DONE n 0 0 0) (wrote-end w) ∙ sym (done-answer (image z) before (omega arith))),
-        rw good (done-wrote (image z) before (omega arith) w))
+    save-done h w p = (
+      rw good (p ∙ ap (λ (n : ℕ). answer DONE n 0 0 0) (wrote-end w) ∙ sym (done-answer (image z) before (omega arith))),
+      rw good (done-wrote (image z) before (omega arith) w),
+    )

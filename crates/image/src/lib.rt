@@ -7,12 +7,13 @@ ghost use Rattle.store.specs.StoreRules.{planNumberTest};
 ghost use Rattle.image.specs.Loading.{nodesFrom, refusedLoad, copiesHeld, finished};
 ghost use Rattle.image.specs.Promises.{Saves, Loads};
 ghost use Rattle.image.specs.Workers.{WithinPlaces};
-use store::{Answer, Outcome, Slot, Store};
+use store::Answer;
+use store::Outcome;
+use store::Slot;
+use store::Store;
 
 mod lengths; // lengths.rt: how many bytes an image takes
-
 mod reading; // reading.rt: an image's numbers, read into lent columns
-
 mod writing; // writing.rt: an image written into a lent buffer
 
 // "format 1"
@@ -23,14 +24,40 @@ pub fn save(store: Store, buffer: &mut [u8]) -> Answer
     ensures { λ r. ⌜ Saves store (now (buffer .entry)) r (now (buffer .exit)) ⌝ }
 {
     let slots = store.slots;
-    if !rules::good(store.plan, store.clock, &store.counts, &store.keys, &store.kinds, &store.values, &store.stamps, slots) {
+    if !rules::good(
+        store.plan,
+        store.clock,
+        &store.counts,
+        &store.keys,
+        &store.kinds,
+        &store.values,
+        &store.stamps,
+        slots,
+    ) {
         return Answer::bare(Answer::BADSTORE);
     }
-    let needed = lengths::image_length(store.plan, store.clock, &store.counts, &store.keys, &store.kinds, &store.values, &store.stamps);
+    let needed = lengths::image_length(
+        store.plan,
+        store.clock,
+        &store.counts,
+        &store.keys,
+        &store.kinds,
+        &store.values,
+        &store.stamps,
+    );
     if buffer.len() < needed {
         return Answer::of(Answer::SMALL, needed as u64, 0, 0, 0);
     }
-    let written = writing::write_image(buffer, store.plan, store.clock, &store.counts, &store.keys, &store.kinds, &store.values, &store.stamps);
+    let written = writing::write_image(
+        buffer,
+        store.plan,
+        store.clock,
+        &store.counts,
+        &store.keys,
+        &store.kinds,
+        &store.values,
+        &store.stamps,
+    );
     Answer::of(Answer::DONE, written as u64, 0, 0, 0)
 }
 
@@ -40,7 +67,10 @@ fn refuse(number: u32, at: usize) -> Outcome
 {
     let fresh = Store::fresh(1);
     let store = fresh.store;
-    Outcome { answer: Answer::of(number, at as u64, 0, 0, 0), store }
+    Outcome {
+        answer: Answer::of(number, at as u64, 0, 0, 0),
+        store,
+    }
 }
 
 // The copies held: the sum of the counts.
@@ -67,21 +97,47 @@ fn load_nodes(bytes: &[u8], plan: u32, clock: u32, at: usize) -> Outcome
     let mut kinds = [0; Store::PLACES];
     let mut values = [0; Store::PLACES];
     let mut stamps = [0; Store::PLACES];
-    let end = reading::read_nodes(bytes, plan, &mut counts, &mut keys, &mut kinds, &mut values, &mut stamps, at);
+    let end = reading::read_nodes(
+        bytes,
+        plan,
+        &mut counts,
+        &mut keys,
+        &mut kinds,
+        &mut values,
+        &mut stamps,
+        at,
+    );
     if !end.ok {
         return refuse(end.fault, end.at);
     }
     if end.at < bytes.len() {
         return refuse(Answer::TRAIL, end.at);
     }
-    let idle = Slot { running: 0, key: 0, node: 0, visits: 0 };
+    let idle = Slot {
+        running: 0,
+        key: 0,
+        node: 0,
+        visits: 0,
+    };
     let slots = [idle; Store::SLOTS];
     if !rules::good(plan, clock, &counts, &keys, &kinds, &values, &stamps, slots) {
         return refuse(Answer::RULE, bytes.len());
     }
     let held = copies_held(&counts);
-    let store = Store { plan, clock, counts, keys, kinds, values, stamps, slots };
-    Outcome { answer: Answer::of(Answer::DONE, held, 0, 0, 0), store }
+    let store = Store {
+        plan,
+        clock,
+        counts,
+        keys,
+        kinds,
+        values,
+        stamps,
+        slots,
+    };
+    Outcome {
+        answer: Answer::of(Answer::DONE, held, 0, 0, 0),
+        store,
+    }
 }
 
 // Loads an image: DONE with the copies held, and the store with all slots idle; or the first fault, and a fresh store of plan 1.

@@ -119,3 +119,13 @@ all-and f g i (suc n) = rw (all-and f g (suc i) n) (go (f i) (g i) (allFrom (suc
     go true b true d = refl
     go true true false d = refl
     go true false false d = refl
+
+-- A run up to a number: its first element and the run after it, or nothing.
+module _ {A : Type 0} (f : ℕ → A) (i n : ℕ) where
+  pub run-on : i < n → run i (n - i) f ≡ f i ∷ run (suc i) (n - suc i) f
+  unfolding run
+  run-on h = let s : n - i ≡ suc (n - suc i) = omega arith in rw s
+
+  pub run-off : n ≤ i → run i (n - i) f ≡ []
+  unfolding run
+  run-off h = let s : n - i ≡ 0 = omega arith in rw s

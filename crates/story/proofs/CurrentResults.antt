@@ -1,13 +1,12 @@
 -- What a public call does to the lines' current results: an accepted entry sets its own line's to its copy and leaves every other; every
 -- other call that does not replace the store leaves them all, a carry too; and a refusal leaves the store as it was. Assumes nothing.
-use mathlib.Core.Path.{_≡_, refl, sym, ap, _∙_}
+use mathlib.Core.Path.{_≡_, refl, sym, _∙_}
 use mathlib.Core.Bool.{true, false}
 use mathlib.Core.Logic.{_⊎_, inl, inr}
 use mathlib.Core.Option.{none, some}
 use Prim.Native.Nat.{ℕ, _≤_}
 use Rattle.lists.proofs.Truths.{bool?}
 use Rattle.plan.specs.PlanTable.{planOf}
-use Rattle.store.specs.declared.Answer.{Answer}
 use Rattle.store.specs.declared.Copy.{Copy}
 use Rattle.store.specs.declared.Store.{Store}
 use Rattle.store.specs.State.{current}
@@ -16,7 +15,7 @@ use Rattle.store.specs.StoreRules.{goodStore}
 use Rattle.store.specs.Calls.{onStore}
 use Rattle.store.proofs.Lifting.{plan-good, state-good, store-stays}
 use Rattle.steps.specs.Carries.{carryStep}
-use Rattle.theory.specs.Events.{Event, effect, after, entryOf}
+use Rattle.theory.specs.Events.{Event, effect, after}
 use Rattle.theory.specs.Events.Event.{carries}
 use Rattle.theory.specs.Paper.{upserted}
 use Rattle.theory.proofs.Updates.{entry-upserts, current-stays, refused-stays}

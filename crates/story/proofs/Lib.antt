@@ -3,4 +3,5 @@ pub mod Histories
 pub mod CurrentResults
 pub mod CarryBound
 pub mod Recalls
+pub mod KeptPages
 pub mod Uniqueness

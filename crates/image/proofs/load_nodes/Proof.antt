@@ -58,9 +58,10 @@ copies-held-requires c κs =
     let check = c .before .before in
     let nodes = check .before .before .before .before .before .before .before .before .before .before in
     let start = nodes .before .before .before .before .before .before .before in
-    let a = start .args in
-    (load-sized (a .bytes .now) (a .plan) (a .clock) (a .at) (nodes .read-nodes .ensures) (not-false _ (check .before .before .before .before .before .before .before .before .if1 .left)) .counts-8,
-    good-within _ (sym (check .good2 .ensures) ∙ not-false _ (c .before .if3 .left)))
+    let a = start .args in (
+      load-sized (a .bytes .now) (a .plan) (a .clock) (a .at) (nodes .read-nodes .ensures) (not-false _ (check .before .before .before .before .before .before .before .before .if1 .left)) .counts-8,
+      good-within _ (sym (check .good2 .ensures) ∙ not-false _ (c .before .if3 .left)),
+    )
 
 of-requires : tie.Need-of-requires
 of-requires c κs = search needs

@@ -1,8 +1,8 @@
 use mathlib.Core.Path.{_∙_}
 use borrow.Author.Needs.{needs}
 use Rattle.searches.proofs.Ending.{held-answer}
-use Rattle.searches.proofs.held.Statement.{statement}
-use Rattle.searches.proofs.held.Tie as tie
+use Rattle.searches.proofs.lines.held.Statement.{statement}
+use Rattle.searches.proofs.lines.held.Tie as tie
 
 cast-of : tie.Need-cast-of
 cast-of c = search needs
