@@ -14,7 +14,10 @@ fn print(first: u32, answer: Answer) -> bool {
 fn print_steps(plan: u32, count: usize, steps: [Step; Step::MOST]) {
     let mut store = Store::fresh(plan).store;
     let mut place = 0;
-    while place < count {
+    while place < Step::MOST {
+        if count <= place {
+            return;
+        }
         let outcome = runner::run_list(store, steps, place);
         let number = steps[place].number;
         if !print(number, outcome.answer) {
@@ -32,10 +35,11 @@ fn main() {
     let n = io::read_full(STDIN_FILENO, &mut input);
     let decoded = schedule::decoding::decode_list(&input[..n]);
     let answer = decoded.answer;
+    let steps = decoded.steps;
     if !print(0, Answer::of(answer.number, answer.a, 0, 0, 0)) {
         return;
     }
     if answer.number == Answer::DONE {
-        print_steps(decoded.plan, decoded.count, decoded.steps);
+        print_steps(decoded.plan, decoded.count, steps);
     }
 }
