@@ -8,10 +8,8 @@ use native.Mathlib.Numerals.{add-one}
 use lib.ListN.{length, getD, drop, replicate, drop-of-length-le}
 use lib.Seq.{drop-cons}
 use borrow.Author.Tests.{lt-ltb, le-ltb}
-use Rattle.lists.proofs.Running.{length-run}
 use Rattle.plan.specs.Sizes.{mostNodes}
 use Rattle.plan.specs.PlanTable.{planTable, plans, planOf}
-use Rattle.rules.specs.Workers.{Sized}
 use Rattle.store.specs.declared.Answer.{Answer}
 use Rattle.store.specs.declared.Copy.{Copy}
 use Rattle.store.specs.declared.Outcome.{Outcome}
@@ -21,7 +19,7 @@ use Rattle.store.specs.State.{slotCount, idle}
 use Rattle.store.specs.Layout.{places}
 use Rattle.store.specs.StoreRules.{planNumberTest, goodStore}
 use Rattle.store.specs.Promises.{freshOutcome}
-use Rattle.store.proofs.Laying.{length-column, store-is, blank-column, blank-counts}
+use Rattle.store.proofs.Laying.{store-is, blank-column, blank-counts}
 use Rattle.wire.specs.declared.Num.{Num}
 use Rattle.wire.specs.Reading.{Got, got, fault}
 use Rattle.wire.proofs.Chains.{bind-got, bind-fault, num-got, num-fault}
@@ -29,6 +27,7 @@ use Rattle.image.specs.declared.reading.Head.{Head}
 use Rattle.image.specs.Loading.{nodesAt, loaded, nodesFrom, imageAt, refusedLoad, copiesHeld, finished, loadOutcome}
 use Rattle.image.specs.Workers.{Columns, columns, columnsOf, countsOf, LaysNodes, ReadsHead}
 use Rattle.image.proofs.NodeWays.{ending-got, ending-fault}
+use Rattle.image.proofs.SaveWays.{columnsIn}
 
 -- ---- the end of loading
 
@@ -57,6 +56,14 @@ module _ (s : List ℕ) (g : Got Store) where
       pub finish-accepts : goodStore z ≡ true → finished s g ≡ acceptedLoad z
       unfolding finished
       finish-accepts good = rw (e, le-ltb end (length s) h, good)
+
+-- ---- finish
+
+-- What an accepted image gives, from the copies held and the answer.
+pub finish-done : (s : List ℕ) (z : Store) {end held : ℕ} {a : Answer} → length s ≤ end → goodStore z ≡ true → held ≡ copiesHeld (z .counts)
+    → a ≡ answer DONE held 0 0 0 → record { answer = a; store = z } ≡ finished s (got z end)
+finish-done s z {end} h good e f =
+    ap (λ (x : Answer). record { answer = x; store = z }) (f ∙ ap (λ (n : ℕ). answer DONE n 0 0 0) e) ∙ sym (finish-accepts s (got z end) refl h good)
 
 -- ---- refuse
 
@@ -94,71 +101,23 @@ empty-columns =
       stamps = blank-column [] (λ n. refl) (λ (x : Copy). x .stamp) t;
     }
 
--- A store with all slots idle, from its numbers and columns.
-abbrev pub idleStore : ℕ → ℕ → List ℕ → Columns → Store
-idleStore plan clock counts c =
-    record {
-      plan = plan;
-      clock = clock;
-      counts = counts;
-      keys = c .keys;
-      kinds = c .kinds;
-      values = c .values;
-      stamps = c .stamps;
-      slots = replicate slotCount idle;
-    }
-
 module _ (s : List ℕ) (plan clock at : ℕ) {r : Num} {counts : List ℕ} {c : Columns} (l : LaysNodes (nodesAt s (planOf plan) at) r counts c) where
   -- A node cannot be read.
-  pub load-stops : r .ok ≡ false → refusedLoad (r .fault) (r .at) ≡ finished s (nodesFrom s plan clock at)
+  pub nodes-refused : r .ok ≡ false → refusedLoad (r .fault) (r .at) ≡ finished s (nodesFrom s plan clock at)
   unfolding nodesFrom
-  load-stops h = sym (finish-stops s (nodesFrom s plan clock at) (bind-fault _ _ (ending-fault _ _ (num-fault _ (l .ends) h))))
+  nodes-refused h = sym (finish-stops s (nodesFrom s plan clock at) (bind-fault _ _ (ending-fault _ _ (num-fault _ (l .ends) h))))
 
-  module _ (h : r .ok ≡ true) where
-    nodes : (ns : List (List Copy)) × (nodesAt s (planOf plan) at ≡ got ns (r .at)) × (r .value ≡ 0)
-    nodes = ending-got _ _ (num-got _ (l .ends) h)
-
-    counts-are : counts ≡ countsOf (nodes .0)
-    counts-are = l .counts-are (nodes .0) (r .at) (nodes .1)
-
-    columns-are : c ≡ columnsOf (nodes .0)
-    columns-are = l .columns-are (nodes .0) (r .at) (nodes .1)
-
-    -- The columns are as long as a store's.
-    pub load-sized : Sized counts (c .keys) (c .kinds) (c .values) (c .stamps)
-    load-sized =
-        record {
-          counts-8 = ap length counts-are ∙ length-run (λ n. length (getD (nodes .0) n [])) 0 mostNodes;
-          keys-512 = ap (λ (d : Columns). length (d .keys)) columns-are ∙ length-column (λ (x : Copy). x .key) (nodes .0);
-          kinds-512 = ap (λ (d : Columns). length (d .kinds)) columns-are ∙ length-column (λ (x : Copy). x .kind) (nodes .0);
-          values-512 = ap (λ (d : Columns). length (d .values)) columns-are ∙ length-column (λ (x : Copy). x .value) (nodes .0);
-          stamps-512 = ap (λ (d : Columns). length (d .stamps)) columns-are ∙ length-column (λ (x : Copy). x .stamp) (nodes .0);
-        }
-
-    -- The store was read.
-    store-read : nodesFrom s plan clock at ≡ got (idleStore plan clock counts c) (r .at)
-    unfolding nodesFrom
-    store-read =
-        bind-got _ _ (nodes .1)
-        ∙ ap (λ (z : Store). got z (r .at))
-        (sym
-        (store-is plan (loaded clock (nodes .0)) (idleStore plan clock counts c) refl refl counts-are (ap (λ (d : Columns). d .keys) columns-are)
-        (ap (λ (d : Columns). d .kinds) columns-are) (ap (λ (d : Columns). d .values) columns-are) (ap (λ (d : Columns). d .stamps) columns-are) refl))
-
-    -- Bytes follow.
-    pub load-trails : r .at < length s → refusedLoad TRAIL (r .at) ≡ finished s (nodesFrom s plan clock at)
-    load-trails g = sym (finish-trails s (nodesFrom s plan clock at) store-read g)
-
-    module _ (g : length s ≤ r .at) where
-      -- A store rule is broken.
-      pub load-breaks : goodStore (idleStore plan clock counts c) ≡ false → refusedLoad RULE (length s) ≡ finished s (nodesFrom s plan clock at)
-      load-breaks bad = sym (finish-breaks s (nodesFrom s plan clock at) store-read g bad)
-
-      pub load-accepts : {held : ℕ} {a : Answer} → goodStore (idleStore plan clock counts c) ≡ true → held ≡ copiesHeld counts → a ≡ answer DONE held 0 0 0
-          → record { answer = a; store = idleStore plan clock counts c } ≡ finished s (nodesFrom s plan clock at)
-      load-accepts good e f =
-          ap (λ (x : Answer). record { answer = x; store = idleStore plan clock counts c }) (f ∙ ap (λ (n : ℕ). answer DONE n 0 0 0) e)
-          ∙ sym (finish-accepts s (nodesFrom s plan clock at) store-read g good)
+  -- All nodes are read, and make a store with all slots idle.
+  pub nodes-loaded : r .ok ≡ true → (z : Store) → z .plan ≡ plan → z .clock ≡ clock → z .counts ≡ counts → columnsIn z ≡ c
+      → z .slots ≡ replicate slotCount idle → finished s (got z (r .at)) ≡ finished s (nodesFrom s plan clock at)
+  unfolding nodesFrom
+  nodes-loaded h z p k n q i =
+      let e = ending-got _ _ (num-got _ (l .ends) h) in
+      let columns-are = q ∙ l .columns-are (e .0) (r .at) (e .1) in
+      let is =
+      store-is plan (loaded clock (e .0)) z p k (n ∙ l .counts-are (e .0) (r .at) (e .1)) (ap (λ (d : Columns). d .keys) columns-are)
+      (ap (λ (d : Columns). d .kinds) columns-are) (ap (λ (d : Columns). d .values) columns-are) (ap (λ (d : Columns). d .stamps) columns-are) i in
+      ap (finished s) (ap (λ (y : Store). got y (r .at)) is ∙ sym (bind-got _ _ (e .1)))
 
 -- ---- load
 

@@ -1,9 +1,11 @@
 // The evening's bytes: save and load. Document 01, "Bytes".
 ghost use mathlib.Core.Path.{_≡_};
 ghost use mathlib.Core.Bool.{true};
-ghost use lib.ListN.{length};
+ghost use lib.ListN.{length, replicate};
 ghost use Rattle.plan.specs.Sizes.{mostNodes};
+ghost use Rattle.store.specs.State.{slotCount, idle};
 ghost use Rattle.store.specs.StoreRules.{planNumberTest};
+ghost use Rattle.wire.specs.Reading.{got};
 ghost use Rattle.image.specs.Loading.{nodesFrom, refusedLoad, copiesHeld, finished};
 ghost use Rattle.image.specs.Promises.{Saves, Loads};
 ghost use Rattle.image.specs.Workers.{WithinPlaces};
@@ -73,6 +75,19 @@ fn refuse(number: u32, at: usize) -> Outcome
     }
 }
 
+// All slots idle.
+fn idle_slots() -> [Slot; Store::SLOTS]
+    ensures { λ r. ⌜ r ≡ replicate slotCount idle ⌝ }
+{
+    let idle = Slot {
+        running: 0,
+        key: 0,
+        node: 0,
+        visits: 0,
+    };
+    [idle; Store::SLOTS]
+}
+
 // The copies held: the sum of the counts.
 fn copies_held(counts: &[u32; Store::NODES]) -> u64
     requires { ⌜ (length (now counts) ≡ mostNodes) × WithinPlaces (now counts) ⌝ }
@@ -87,7 +102,34 @@ fn copies_held(counts: &[u32; Store::NODES]) -> u64
     sum
 }
 
-// Reads the nodes after an image's head. At the end TRAIL, then RULE with the image's length as offset.
+// At the end TRAIL, then RULE with the image's length as offset; or DONE with the copies held.
+fn finish(bytes: &[u8], end: usize, store: Store) -> Outcome
+    ensures { λ r. ⌜ r ≡ finished (now (bytes .entry)) (got store end) ⌝ }
+{
+    if end < bytes.len() {
+        return refuse(Answer::TRAIL, end);
+    }
+    let slots = store.slots;
+    if !rules::good(
+        store.plan,
+        store.clock,
+        &store.counts,
+        &store.keys,
+        &store.kinds,
+        &store.values,
+        &store.stamps,
+        slots,
+    ) {
+        return refuse(Answer::RULE, bytes.len());
+    }
+    let held = copies_held(&store.counts);
+    Outcome {
+        answer: Answer::of(Answer::DONE, held, 0, 0, 0),
+        store,
+    }
+}
+
+// Reads the nodes after an image's head, and ends the load.
 fn load_nodes(bytes: &[u8], plan: u32, clock: u32, at: usize) -> Outcome
     requires { ⌜ planNumberTest plan ≡ true ⌝ }
     ensures { λ r. ⌜ r ≡ finished (now (bytes .entry)) (nodesFrom (now (bytes .entry)) plan clock at) ⌝ }
@@ -110,20 +152,7 @@ fn load_nodes(bytes: &[u8], plan: u32, clock: u32, at: usize) -> Outcome
     if !end.ok {
         return refuse(end.fault, end.at);
     }
-    if end.at < bytes.len() {
-        return refuse(Answer::TRAIL, end.at);
-    }
-    let idle = Slot {
-        running: 0,
-        key: 0,
-        node: 0,
-        visits: 0,
-    };
-    let slots = [idle; Store::SLOTS];
-    if !rules::good(plan, clock, &counts, &keys, &kinds, &values, &stamps, slots) {
-        return refuse(Answer::RULE, bytes.len());
-    }
-    let held = copies_held(&counts);
+    let slots = idle_slots();
     let store = Store {
         plan,
         clock,
@@ -134,10 +163,7 @@ fn load_nodes(bytes: &[u8], plan: u32, clock: u32, at: usize) -> Outcome
         stamps,
         slots,
     };
-    Outcome {
-        answer: Answer::of(Answer::DONE, held, 0, 0, 0),
-        store,
-    }
+    finish(bytes, end.at, store)
 }
 
 // Loads an image: DONE with the copies held, and the store with all slots idle; or the first fault, and a fresh store of plan 1.
