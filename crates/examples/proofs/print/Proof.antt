@@ -1,4 +1,4 @@
-use Rattle.examples.proofs.Printing.{line-within, line-length}
+use Rattle.lines.proofs.Printed.{line-within, line-length}
 use borrow.Author.Needs.{needs}
 use Rattle.examples.proofs.print.Statement.{statement}
 use Rattle.examples.proofs.print.Tie as tie

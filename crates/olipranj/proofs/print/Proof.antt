@@ -1,4 +1,4 @@
-use Rattle.olipranj.proofs.Printing.{line-within, line-length}
+use Rattle.lines.proofs.Printed.{line-within, line-length}
 use borrow.Author.Needs.{needs}
 use Rattle.olipranj.proofs.print.Statement.{statement}
 use Rattle.olipranj.proofs.print.Tie as tie

@@ -1,4 +1,4 @@
--- A printed line lies within its buffer. Assumes nothing.
+-- A printed line lies within its buffer: for a program that passes it on. Assumes nothing.
 use mathlib.Core.Path.{_≡_, sym}
 use mathlib.Core.List.{List}
 use Prim.Native.Nat.{ℕ, _≤_}
