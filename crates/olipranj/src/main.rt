@@ -1,7 +1,9 @@
 // Runs the schedule on standard input and prints its lines. Document 01, "A schedule in full".
-use libc::{STDIN_FILENO, STDOUT_FILENO};
+use libc::STDIN_FILENO;
+use libc::STDOUT_FILENO;
 use schedule::Step;
-use store::{Answer, Store};
+use store::Answer;
+use store::Store;
 
 // One line. False where it could not be written: there is nobody to print for.
 fn print(first: u32, answer: Answer) -> bool {

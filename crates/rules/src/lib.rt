@@ -71,5 +71,14 @@ pub fn good_store(store: Store) -> bool
     ensures { λ r. ⌜ r ≡ goodStore store ⌝ }
 {
     let slots = store.slots;
-    good(store.plan, store.clock, &store.counts, &store.keys, &store.kinds, &store.values, &store.stamps, slots)
+    good(
+        store.plan,
+        store.clock,
+        &store.counts,
+        &store.keys,
+        &store.kinds,
+        &store.values,
+        &store.stamps,
+        slots,
+    )
 }

@@ -14,7 +14,7 @@ enter-requires : tie.Need-enter-requires
 enter-requires c κs = search needs
 
 returns : tie.Need-returns
-returns c = 
+returns c =
     let a = c .before .before .args in
     runs-call (a .store) (a .number) (a .x) (a .y) (a .place) (enterStep (a .x) (a .y)) (λ p s. does-enter (a .number) (a .x) (a .y) (a .place) p s (c .before .if1 .taken)) (c .enter .ensures)
 
@@ -22,7 +22,7 @@ withdraw-requires : tie.Need-withdraw-requires
 withdraw-requires c κs = search needs
 
 returns-2 : tie.Need-returns-2
-returns-2 c = 
+returns-2 c =
     let a = c .before .before .before .args in
     runs-call (a .store) (a .number) (a .x) (a .y) (a .place) (withdrawStep (a .x)) (λ p s. does-withdraw (a .number) (a .x) (a .y) (a .place) p s (c .before .if2 .taken)) (c .withdraw .ensures)
 
@@ -30,7 +30,7 @@ carry-requires : tie.Need-carry-requires
 carry-requires c κs = search needs
 
 returns-3 : tie.Need-returns-3
-returns-3 c = 
+returns-3 c =
     let a = c .before .before .before .before .args in
     runs-call (a .store) (a .number) (a .x) (a .y) (a .place) (carryStep (a .x) (a .y)) (λ p s. does-carry (a .number) (a .x) (a .y) (a .place) p s (c .before .if3 .taken)) (c .carry .ensures)
 
@@ -38,7 +38,7 @@ start-requires : tie.Need-start-requires
 start-requires c κs = search needs
 
 returns-4 : tie.Need-returns-4
-returns-4 c = 
+returns-4 c =
     let a = c .before .before .before .before .before .args in
     runs-call (a .store) (a .number) (a .x) (a .y) (a .place) (startStep (a .x)) (λ p s. does-start (a .number) (a .x) (a .y) (a .place) p s (c .before .if4 .taken)) (c .start .ensures)
 
@@ -46,7 +46,7 @@ step-requires : tie.Need-step-requires
 step-requires c κs = search needs
 
 returns-5 : tie.Need-returns-5
-returns-5 c = 
+returns-5 c =
     let a = c .before .before .before .before .before .before .args in
     runs-call (a .store) (a .number) (a .x) (a .y) (a .place) (stepStep (a .x)) (λ p s. does-step (a .number) (a .x) (a .y) (a .place) p s (c .before .if5 .taken)) (c .step .ensures)
 
@@ -54,7 +54,7 @@ cancel-requires : tie.Need-cancel-requires
 cancel-requires c κs = search needs
 
 returns-6 : tie.Need-returns-6
-returns-6 c = 
+returns-6 c =
     let a = c .before .before .before .before .before .before .before .args in
     runs-call (a .store) (a .number) (a .x) (a .y) (a .place) (cancelStep (a .x)) (λ p s. does-cancel (a .number) (a .x) (a .y) (a .place) p s (c .before .if6 .taken)) (c .cancel .ensures)
 
@@ -65,7 +65,7 @@ refused-requires : tie.Need-refused-requires
 refused-requires c κs = search needs
 
 returns-7 : tie.Need-returns-7
-returns-7 c = 
+returns-7 c =
     let a = c .before .before .before .before .before .before .before .before .before .args in
     runs-bad (a .store) (a .number) (a .x) (a .y) (a .place) (sym (c .before .before .good-store .ensures) ∙ not-true _ (c .before .if7 .taken)) (c .refused .ensures)
 
@@ -73,7 +73,7 @@ of-requires : tie.Need-of-requires
 of-requires c κs = search needs
 
 returns-8 : tie.Need-returns-8
-returns-8 c = 
+returns-8 c =
     let a = c .before .before .before .before .before .before .before .before .before .args in
     runs-unknown (a .store) (a .number) (a .x) (a .y) (a .place) (sym (c .before .before .good-store .ensures) ∙ not-false _ (c .before .if7 .left)) (c .of .ensures)
     (λ p s. does-unknown (a .number) (a .x) (a .y) (a .place) p s (c .before .before .before .before .before .before .before .before .if1 .left) (c .before .before .before .before .before .before .before .if2 .left) (c .before .before .before .before .before .before .if3 .left) (c .before .before .before .before .before .if4 .left) (c .before .before .before .before .if5 .left) (c .before .before .before .if6 .left))
