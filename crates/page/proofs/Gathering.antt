@@ -8,7 +8,7 @@ use native.Mathlib.Omega.{arith}
 use native.Mathlib.Nat.{zero-add}
 use native.Mathlib.Numerals.{add-one}
 use lib.Dec.{eqb}
-use lib.ListN.{length, getD, set, length-append}
+use lib.ListN.{length, set, length-append}
 use lib.Seq.{getD-set-same, getD-set-other}
 use borrow.Author.Tests.{eq-eqb, ne-eqb}
 use Rattle.lists.specs.Runs.{run}
@@ -80,6 +80,7 @@ shown-front analyte (some x) ls = go (eqb (x .kind) RESULT)
   where
     l : Line
     l = line analyte (x .value) (x .stamp)
+
     go : (b : Bool) → cond b (l ∷ ls) ls ≡ cond b (l ∷ []) [] ++ ls
     go true = refl
     go false = refl

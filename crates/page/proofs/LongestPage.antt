@@ -1,8 +1,8 @@
 -- A good store with a page of 357 bytes: the last sample, 32 results with five-byte values and stamps. By computing.
 use mathlib.Core.Path.{_≡_, refl}
-use mathlib.Core.Bool.{Bool, true}
+use mathlib.Core.Bool.{true}
 use mathlib.Core.List.{List, [], _∷_}
-use Prim.Native.Nat.{ℕ, _+_}
+use Prim.Native.Nat.{_+_}
 use lib.ListN.{length, replicate}
 use Rattle.lists.specs.Runs.{run, allFrom}
 use Rattle.number.specs.Number.{formIn, form}
@@ -11,7 +11,7 @@ use Rattle.plan.specs.PlanTable.{planTable, plans, planOf}
 use Rattle.store.specs.declared.Copy.{Copy}
 use Rattle.store.specs.declared.Store.{Store}
 use Rattle.store.specs.Copies.{RESULT, copy, find, member, different}
-use Rattle.store.specs.State.{State, slotCount, lastClock, idle, firstOn, inReach}
+use Rattle.store.specs.State.{slotCount, lastClock, idle, firstOn, inReach}
 use Rattle.store.specs.Layout.{nodeIn, stateOf, column, storeOf}
 use Rattle.store.specs.StoreRules.{
   shapeTest,

@@ -1,24 +1,17 @@
 -- A page reads back from the left: two byte strings that begin with pages and are equal have the same sample and the same lines.
--- And how long a page can be. Assumes nothing.
-use mathlib.Core.Path.{_≡_, refl, sym, ap, _∙_}
-use mathlib.Core.Bool.{Bool, true, false, cond, _&&_}
+-- Assumes nothing.
+use mathlib.Core.Path.{_≡_, refl, sym, _∙_}
+use mathlib.Core.Bool.{true}
 use mathlib.Core.List.{List, [], _∷_, _++_, append-assoc}
-use mathlib.Core.Logic.{_⊎_, ⊎-elim}
-use mathlib.Core.Option.{Option, none, some}
-use Prim.Native.Nat.{ℕ, zero, suc, _+_, _*_, _^_, _<_, _≤_}
+use Prim.Native.Nat.{ℕ, _+_, _≤_}
 use native.Mathlib.Omega.{arith}
 use lib.Dec.{eqb}
-use lib.ListN.{length, length-append}
+use lib.ListN.{length}
 use borrow.Author.Tests.{eqb-true, eq-eqb}
-use Rattle.lists.proofs.Truths.{and-left, and-right, bool?, not-both}
+use Rattle.lists.proofs.Truths.{and-left, and-right, not-both}
 use Rattle.number.specs.Number.{form}
-use Rattle.number.proofs.Forms.{form-length, form-width}
 use Rattle.number.proofs.Readings.{form-apart, form-rest}
-use Rattle.plan.specs.Plan.{Plan}
-use Rattle.store.specs.declared.Copy.{Copy}
-use Rattle.store.specs.Copies.{RESULT}
-use Rattle.store.specs.State.{State, current}
-use Rattle.page.specs.Page.{analytes, lastSample, keyFor, Line, shown, linesFrom, linesOf, lineBytes, linesBytes, pageBytes, pageOf, begins}
+use Rattle.page.specs.Page.{Line, lineBytes, linesBytes, pageBytes, begins}
 
 -- A line whose numbers have 32 bits.
 pub record Small (l : Line) : Type 0 where
@@ -37,16 +30,22 @@ line-apart l m p q a b e = (λ i. record { analyte = e1 i; value = e3 i; stamp =
   where
     e0 : form (l .analyte) ++ (form (l .value) ++ (form (l .stamp) ++ a)) ≡ form (m .analyte) ++ (form (m .value) ++ (form (m .stamp) ++ b))
     e0 = simp append-assoc at e
+
     e1 : l .analyte ≡ m .analyte
     e1 = form-apart _ _ (p .analyte) (q .analyte) e0
+
     e2 : form (l .value) ++ (form (l .stamp) ++ a) ≡ form (m .value) ++ (form (m .stamp) ++ b)
     e2 = form-rest _ _ (p .analyte) (q .analyte) e0
+
     e3 : l .value ≡ m .value
     e3 = form-apart _ _ (p .value) (q .value) e2
+
     e4 : form (l .stamp) ++ a ≡ form (m .stamp) ++ b
     e4 = form-rest _ _ (p .value) (q .value) e2
+
     e5 : l .stamp ≡ m .stamp
     e5 = form-apart _ _ (p .stamp) (q .stamp) e4
+
     e6 : a ≡ b
     e6 = form-rest _ _ (p .stamp) (q .stamp) e4
 
@@ -73,6 +72,7 @@ page-apart sample other ls ms h g hl gl p q a b e = (form-apart _ _ h g e0, line
   where
     e0 : form sample ++ (form (length ls) ++ (linesBytes ls ++ a)) ≡ form other ++ (form (length ms) ++ (linesBytes ms ++ b))
     e0 = simp append-assoc at e
+
     e1 : form (length ls) ++ (linesBytes ls ++ a) ≡ form (length ms) ++ (linesBytes ms ++ b)
     e1 = form-rest _ _ h g e0
 

@@ -1,7 +1,6 @@
 -- "At most 357 bytes." Assumes nothing.
-use mathlib.Core.Path.{_≡_, ap, _∙_}
 use mathlib.Core.Bool.{Bool, true, false, cond}
-use mathlib.Core.List.{List, [], _∷_, _++_}
+use mathlib.Core.List.{List, _∷_}
 use mathlib.Core.Option.{Option, none, some}
 use Prim.Native.Nat.{ℕ, zero, suc, _+_, _*_, _<_, _≤_}
 use native.Mathlib.Omega.{arith}
@@ -33,12 +32,14 @@ module _ (p : Plan) (s : State) (sample : ℕ) where
     where
       ls : List Line
       ls = linesFrom p s sample (suc b) n
+
       go : (o : Option Copy) → length (linesBytes ls) ≤ 11 * n → length (linesBytes (shown b o ls)) ≤ 11 * suc n
       go none q = omega arith
       go (some x) q = cases (eqb (x .kind) RESULT)
         where
           l : Line
           l = record { analyte = b; value = x .value; stamp = x .stamp }
+
           cases : (r : Bool) → length (linesBytes (cond r (l ∷ ls) ls)) ≤ 11 * suc n
           cases true = rw length-append (omega (arith, line-length l (omega arith)))
           cases false = omega arith

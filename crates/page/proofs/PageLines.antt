@@ -2,22 +2,20 @@
 -- with the first result entered or withdrawn on it. Assumes nothing.
 use mathlib.Core.Path.{_≡_, refl, sym, ap, _∙_}
 use mathlib.Core.Bool.{Bool, true, false, cond}
-use mathlib.Core.List.{List, [], _∷_, _++_}
-use mathlib.Core.Logic.{_⊎_, ⊎-elim}
+use mathlib.Core.List.{List, _∷_, _++_}
 use mathlib.Core.Option.{Option, none, some}
-use Prim.Native.Nat.{ℕ, zero, suc, _+_, _*_, _<_, _≤_}
+use Prim.Native.Nat.{ℕ, zero, suc, _+_, _<_, _≤_}
 use native.Mathlib.Omega.{arith}
 use native.Mathlib.Decide.{decLt}
 use lib.Dec.{eqb}
 use lib.ListN.{length}
 use borrow.Author.Tests.{eq-eqb, ne-eqb}
-use Rattle.lists.proofs.Truths.{bool?, not-both}
 use Rattle.plan.specs.Plan.{Plan}
 use Rattle.store.specs.declared.Copy.{Copy}
-use Rattle.store.specs.Copies.{WITHDRAWN, RESULT, find}
+use Rattle.store.specs.Copies.{RESULT, find}
 use Rattle.store.specs.State.{State, lastClock, current}
-use Rattle.page.specs.Page.{analytes, lastSample, keyFor, Line, shown, linesFrom, linesOf, lineBytes, linesBytes, pageBytes, pageOf, begins}
-use Rattle.page.proofs.PageBytes.{Small, AllSmall, page-apart, begins-rest}
+use Rattle.page.specs.Page.{analytes, lastSample, keyFor, Line, shown, linesFrom, linesOf, pageOf, begins}
+use Rattle.page.proofs.PageBytes.{AllSmall, page-apart, begins-rest}
 
 abbrev pub analyteOf : Line → ℕ
 analyteOf l = l .analyte
@@ -40,6 +38,7 @@ find-shown a b (some x) ls h = go (eqb (x .kind) RESULT) (eqb b a) refl
   where
     l : Line
     l = record { analyte = b; value = x .value; stamp = x .stamp }
+
     go : (r t : Bool) → eqb b a ≡ t → find analyteOf (cond r (l ∷ ls) ls) a ≡ cond t (cond r (some l) none) (find analyteOf ls a)
     go true true e = rw e
     go true false e = rw e
@@ -64,6 +63,7 @@ module _ (p : Plan) (s : State) (sample : ℕ) where
     where
       rest : List Line
       rest = linesFrom p s sample (suc b) n
+
       go : Dec (b < a) → (b < a → find analyteOf rest a ≡ lineOf a (current p s (keyFor sample a)))
           → find analyteOf (shown b (current p s (keyFor sample b)) rest) a ≡ lineOf a (current p s (keyFor sample a))
       go (yes q) again =
@@ -103,20 +103,20 @@ module _ (p : Plan) (s : State) (sample : ℕ) (bounded : Bounded p s) where
     where
       ls : List Line
       ls = linesFrom p s sample (suc b) n
+
       go : (o : Option Copy) → current p s (keyFor sample b) ≡ o → AllSmall ls → AllSmall (shown b o ls)
       go none e h = h
       go (some x) e q = cases (eqb (x .kind) RESULT)
         where
           cases : (r : Bool) → AllSmall (cond r (record { analyte = b; value = x .value; stamp = x .stamp } ∷ ls) ls)
-          cases true =
-              (
-                record {
-                  analyte = omega arith;
-                  value = bounded .values (keyFor sample b) x e;
-                  stamp = omega (arith, bounded .stamps (keyFor sample b) x e, bounded .clock);
-                },
-                q,
-              )
+          cases true = (
+            record {
+              analyte = omega arith;
+              value = bounded .values (keyFor sample b) x e;
+              stamp = omega (arith, bounded .stamps (keyFor sample b) x e, bounded .clock);
+            },
+            q,
+          )
           cases false = q
 
 -- Bytes that were the sample's page and that begin with its page as it is now show the same lines.

@@ -17,7 +17,6 @@ use Rattle.store.specs.State.{inReach}
 use Rattle.store.specs.Layout.{stateOf}
 use Rattle.store.specs.StoreRules.{goodStore}
 use Rattle.store.specs.Workers.{holding}
-use Rattle.wire.specs.Writing.{writtenAnswer, writtenBuffer}
 use Rattle.wire.proofs.Buffers.{small-answer, small-buffer, done-answer, done-front, done-wrote, wrote-end}
 use Rattle.page.specs.Page.{lastSample, mostPageBytes, pageOf, begins}
 use Rattle.page.specs.Promises.{pageNow, pageAnswer, pageBuffer, Pages, fresh?, Handed, served, Serves}
@@ -48,8 +47,10 @@ page-held z sample {before} {n} {after} small room wrote = record { long = wrote
   where
     w : Wrote before 0 (pageNow z sample) n after
     w = rw (lent-page z sample) at wrote
+
     fits : length (pageNow z sample) ≤ length before
     fits = omega (arith, page-length (planOf (z .plan)) (stateOf z) sample small)
+
     front : take n after ≡ pageNow z sample
     front = ap₂ (λ (m : ℕ) (l : List ℕ). take m l) (wrote-end w) (done-wrote (pageNow z sample) before fits w) ∙ done-front (pageNow z sample) before fits
 
@@ -69,8 +70,7 @@ module _ (z : Store) (sample : ℕ) (before : List ℕ) {r : Answer} where
       pub page-too-small : length before < n → r ≡ answer SMALL n 0 0 0 → Pages z sample before r before
       unfolding pageAnswer pageBuffer
       page-too-small short e =
-          let g : length before < length (pageNow z sample) = omega (arith, h .long) in
-          (
+          let g : length before < length (pageNow z sample) = omega (arith, h .long) in (
             rw (good, le-leb sample lastSample small, small-answer (pageNow z sample) before g, ← h .long) e,
             rw (good, le-leb sample lastSample small, small-buffer (pageNow z sample) before g),
           )
@@ -80,8 +80,7 @@ module _ (z : Store) (sample : ℕ) (before : List ℕ) {r : Answer} where
       unfolding pageAnswer pageBuffer
       page-done fits e {end} {after} wrote =
           let g : length (pageNow z sample) ≤ length before = omega (arith, h .long) in
-          let w : Wrote before 0 (pageNow z sample) end after = rw (h .begin) at wrote in
-          (
+          let w : Wrote before 0 (pageNow z sample) end after = rw (h .begin) at wrote in (
             rw (good, le-leb sample lastSample small, done-answer (pageNow z sample) before g, ← h .long) e,
             rw (good, le-leb sample lastSample small) (done-wrote (pageNow z sample) before g w),
           )

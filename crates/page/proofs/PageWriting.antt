@@ -3,7 +3,7 @@ use mathlib.Core.Path.{_≡_, refl, sym, ap, _∙_}
 use mathlib.Core.Bool.{true, false}
 use mathlib.Core.Logic.{⊎-elim}
 use mathlib.Core.List.{List, [], _∷_, _++_}
-use Prim.Native.Nat.{ℕ, suc, _+_, _-_, _<_, _≤_}
+use Prim.Native.Nat.{ℕ, _+_, _-_, _<_, _≤_}
 use native.Mathlib.Omega.{arith}
 use native.Mathlib.Numerals.{add-one}
 use lib.ListN.{length, getD, set, take, drop, length-append, drop-of-length-le}
@@ -19,7 +19,7 @@ use Rattle.plan.specs.Plan.{Plan}
 use Rattle.store.specs.State.{State}
 use Rattle.page.specs.declared.lines.Lines.{Lines}
 use Rattle.page.specs.Page.{analytes, lastSample, Line, linesOf, lineBytes, linesBytes, pageBytes, mostPageBytes, begins}
-use Rattle.page.specs.Workers.{line, lineIn, linesIn}
+use Rattle.page.specs.Workers.{linesIn}
 use Rattle.page.proofs.PageBytes.{begins-rest}
 use Rattle.page.proofs.PageLines.{lines-few}
 use Rattle.page.proofs.PageLength.{page-length}

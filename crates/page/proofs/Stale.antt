@@ -19,7 +19,7 @@ use Rattle.store.specs.declared.Store.{Store}
 use Rattle.store.specs.Copies.{WITHDRAWN, RESULT}
 use Rattle.store.specs.State.{State, current}
 use Rattle.store.specs.StoreRules.{goodStore}
-use Rattle.page.specs.Page.{analytes, lastSample, keyFor, Line, shown, linesFrom, pageBytes, pageOf, begins}
+use Rattle.page.specs.Page.{analytes, lastSample, keyFor, Line, linesFrom, pageBytes, pageOf, begins}
 use Rattle.page.specs.Promises.{pageNow, fresh?, served}
 use Rattle.page.proofs.PageBytes.{begins-rest}
 use Rattle.page.proofs.PageLines.{lineOf, Bounded, same-lines, same-line}

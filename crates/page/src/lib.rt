@@ -12,14 +12,13 @@ use store::Answer;
 use store::Store;
 
 mod lines; // lines.rt: the lines of a page
-
 mod writing; // writing.rt: the bytes of a page
 
 // "sample 0 to 134,217,727"
-pub const LAST_SAMPLE: u32 = 134217727;
+const LAST_SAMPLE: u32 = 134217727;
 
 // "At most 357 bytes."
-pub const LONGEST: usize = 357;
+const LONGEST: usize = 357;
 
 // The sample's page as it is now, into a scratch that has room for the longest. Gives its length.
 fn write_now<'a>(
@@ -50,7 +49,16 @@ pub fn page(store: Store, sample: u32, buffer: &mut [u8]) -> Answer
         return Answer::bare(Answer::SAMPLE);
     }
     let mut scratch = [0; LONGEST];
-    let n = write_now(&mut scratch, store.plan, &store.counts, &store.keys, &store.kinds, &store.values, &store.stamps, sample);
+    let n = write_now(
+        &mut scratch,
+        store.plan,
+        &store.counts,
+        &store.keys,
+        &store.kinds,
+        &store.values,
+        &store.stamps,
+        sample,
+    );
     if buffer.len() < n {
         return Answer::of(Answer::SMALL, n as u64, 0, 0, 0);
     }
@@ -70,7 +78,16 @@ pub fn serve<'a>(store: Store, sample: u32, kept: &'a [u8], notice: &'a [u8]) ->
         return notice;
     }
     let mut scratch = [0; LONGEST];
-    let n = write_now(&mut scratch, store.plan, &store.counts, &store.keys, &store.kinds, &store.values, &store.stamps, sample);
+    let n = write_now(
+        &mut scratch,
+        store.plan,
+        &store.counts,
+        &store.keys,
+        &store.kinds,
+        &store.values,
+        &store.stamps,
+        sample,
+    );
     if writing::starts_with(kept, &scratch[..n]) {
         return &kept[..n];
     }

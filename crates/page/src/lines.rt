@@ -28,7 +28,7 @@ pub struct Lines {
 }
 
 // No lines.
-fn none() -> Lines
+fn no_lines() -> Lines
     ensures { λ r. ⌜ linesIn r ≡ [] ⌝ }
 {
     let zeros = [0; MOST_LINES];
@@ -72,10 +72,18 @@ pub fn gather<'a>(
     requires { ⌜ Lookable plan (now counts) (now keys) × (sample ≤ lastSample) ⌝ }
     ensures { λ r. ⌜ linesIn r ≡ linesOf (planOf plan) (stateOf (holding plan 0 (now (counts .entry)) (now (keys .entry)) (now (kinds .entry)) (now (values .entry)) (now (stamps .entry)))) sample ⌝ }
 {
-    let mut lines = none();
+    let mut lines = no_lines();
     let mut analyte = 0;
     while analyte < ANALYTES {
-        let seen = look_down(plan, counts, keys, kinds, values, stamps, sample * ANALYTES + analyte);
+        let seen = look_down(
+            plan,
+            counts,
+            keys,
+            kinds,
+            values,
+            stamps,
+            sample * ANALYTES + analyte,
+        );
         let found = seen.found;
         lines = with_line(lines, analyte, found);
         analyte += 1;

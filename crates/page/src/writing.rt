@@ -26,7 +26,13 @@ fn write_lines(buffer: &mut [u8], at: usize, lines: Lines) -> usize
     let mut next = at;
     let mut i = 0;
     while i < count {
-        next = write_line(buffer, next, lines.analytes[i], lines.values[i], lines.stamps[i]);
+        next = write_line(
+            buffer,
+            next,
+            lines.analytes[i],
+            lines.values[i],
+            lines.stamps[i],
+        );
         i += 1;
     }
     next

@@ -26,7 +26,7 @@ use Rattle.schedule.specs.declared.Step.{Step}
 use Rattle.schedule.specs.Schedule.{ENTER, WITHDRAW, CARRY, START, STEP, CANCEL}
 use Rattle.schedule.specs.Running.{noStep, unknownStep, stepOf, runOutcome}
 use Rattle.image.specs.Loading.{loadOutcome}
-use Rattle.image.proofs.RoundTrips.{load-good}
+use Rattle.trips.proofs.RoundTrips.{load-good}
 use Rattle.theory.specs.Events.{Event, effect, after, answerOf, run as runEvents}
 use Rattle.theory.specs.Events.Event.{enters, withdraws, carries, starts, steps, cancels, asks}
 use Rattle.theory.proofs.EventSteps.{event-keeps}

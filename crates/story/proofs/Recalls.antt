@@ -25,7 +25,7 @@ use Rattle.store.specs.Promises.{freshOutcome}
 use Rattle.store.proofs.Lifting.{plan-good, state-good}
 use Rattle.steps.specs.Searches.{startStep, stepStep}
 use Rattle.image.specs.Loading.{loadOutcome}
-use Rattle.image.proofs.RoundTrips.{load-idle}
+use Rattle.trips.proofs.RoundTrips.{load-idle}
 use Rattle.theory.specs.Events.{Event, effect, after, answerOf, run as runEvents, entered, held, goesOn, ownSteps, notCancelled, EndsIn}
 use Rattle.theory.specs.Events.Event.{starts, steps}
 use Rattle.theory.specs.Paper.{History, InHistory, Multicopy, SearchRecency}

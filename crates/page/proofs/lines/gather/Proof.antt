@@ -1,6 +1,6 @@
 -- `page::lines::gather` meets its contract. The loop's invariant: the lines gathered, and those of the analytes still to come, are all.
 -- Assumes nothing.
-use mathlib.Core.Path.{ap, _∙_}
+use mathlib.Core.Path.{ap}
 use Prim.Native.Nat.{_-_, _≤_}
 use borrow.Author.Needs.{needs}
 use Rattle.plan.specs.PlanTable.{planOf}
@@ -25,13 +25,13 @@ abbrev μ-loop : tie.MeasureT-loop
 abbrev lent : tie.Start Inv-loop μ-loop → State
 lent s = let a = s .args in stateOf (holding (a .plan) 0 (a .counts .now) (a .keys .now) (a .kinds .now) (a .values .now) (a .stamps .now))
 
-none-requires : tie.Need-none-requires Inv-loop μ-loop
-none-requires c κs = search needs
+no-lines-requires : tie.Need-no-lines-requires Inv-loop μ-loop
+no-lines-requires c κs = search needs
 
 loop-holds : tie.Need-loop-holds Inv-loop μ-loop
 loop-holds c =
     let s = c .before in
-    (search needs, gather-starts (planOf (s .args .plan)) (lent s) (s .args .sample) (c .none .result) (c .none .ensures))
+    (search needs, gather-starts (planOf (s .args .plan)) (lent s) (s .args .sample) (c .no-lines .result) (c .no-lines .ensures))
 
 mul-look-down : tie.Need-mul-look-down Inv-loop μ-loop
 mul-look-down c = search needs
@@ -55,11 +55,10 @@ loop-again : tie.Need-loop-again Inv-loop μ-loop
 unfolding seenIn
 loop-again c =
     let l = c .before .before .before in
-    let s = l .before .before in
-    (
+    let s = l .before .before in (
       search needs,
       gather-turns (planOf (s .args .plan)) (lent s) (s .args .sample) (l .loop .analyte) (l .loop .lines) (c .with-line .result) (search needs)
-      (ap (λ (x : Seen). x .found) (c .before .look-down .ensures)) (c .with-line .ensures) (l .loop .inv .1),
+          (ap (λ (x : Seen). x .found) (c .before .look-down .ensures)) (c .with-line .ensures) (l .loop .inv .1),
     )
 
 returns : tie.Need-returns Inv-loop μ-loop
@@ -74,7 +73,7 @@ gather-spec =
     (tie.spec
     Inv-loop
     μ-loop
-    none-requires
+    no-lines-requires
     loop-holds
     mul-look-down
     add-look-down

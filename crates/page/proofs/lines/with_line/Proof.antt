@@ -1,59 +1,46 @@
+-- `page::lines::with_line` meets its contract. Assumes nothing.
 use borrow.Author.Needs.{needs}
 use mathlib.Core.Path.{refl}
 use Rattle.page.proofs.Gathering.{none-shown, other-shown, result-shown}
 use Rattle.page.proofs.lines.with_line.Statement.{statement}
 use Rattle.page.proofs.lines.with_line.Tie as tie
-use Rattle.page.proofs.lines.with_line.Reads as reads
-use Rattle.page.proofs.lines.with_line.Lts as lts
 
--- src/lines.rt:48:21
 enum-known-found : tie.Need-enum-known-found
 enum-known-found c = search needs
 
--- src/lines.rt:49:9
 enum-told : tie.Need-enum-told
 enum-told c = search needs
 
--- src/lines.rt:49:9
 returns : tie.Need-returns
 returns c = none-shown (c .before .before .args .t1) (c .before .before .args .analyte) (c .enum-told .given .1)
 
--- src/lines.rt:52:9
 returns-2 : tie.Need-returns-2
 returns-2 c =
     let held = c .before .before .before in
     let a = held .before .before .args in
     other-shown (a .t1) (a .analyte) (held .found .given .0 .0) (held .found .given .1) (c .if1 .taken)
 
--- src/lines.rt:55:5
 mul-lines : tie.Need-mul-lines
 mul-lines c = search needs
 
--- src/lines.rt:55:5
 element-write-lines : tie.Need-element-write-lines
 element-write-lines c = search needs
 
--- src/lines.rt:56:5
 mul-lines-2 : tie.Need-mul-lines-2
 mul-lines-2 c = search needs
 
--- src/lines.rt:56:5
 element-write-lines-2 : tie.Need-element-write-lines-2
 element-write-lines-2 c = search needs
 
--- src/lines.rt:57:5
 mul-lines-3 : tie.Need-mul-lines-3
 mul-lines-3 c = search needs
 
--- src/lines.rt:57:5
 element-write-lines-3 : tie.Need-element-write-lines-3
 element-write-lines-3 c = search needs
 
--- src/lines.rt:58:19
 add-lines : tie.Need-add-lines
 add-lines c = search needs
 
--- src/lines.rt:44:1
 returns-3 : tie.Need-returns-3
 returns-3 c =
     let held = c .before .before .before in

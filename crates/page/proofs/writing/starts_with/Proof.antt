@@ -1,3 +1,4 @@
+-- `page::writing::starts_with` meets its contract. The loop's invariant: all depends on the bytes from i on. Assumes nothing.
 use mathlib.Core.Path.{_≡_, refl}
 use Prim.Native.Nat.{_-_, _≤_}
 use borrow.Author.Needs.{needs}
@@ -40,8 +41,7 @@ loop-less c = search needs
 loop-again : tie.Need-loop-again Inv-loop μ-loop
 loop-again c =
     let l = c .before .before .before .before in
-    let a = l .before .before .args in
-    (
+    let a = l .before .before .args in (
       search needs,
       search needs,
       begins-turn (a .kept .now) (a .page .now) (l .loop .i) (search needs) (search needs) (l .loop .inv .2) (c .if2 .left),

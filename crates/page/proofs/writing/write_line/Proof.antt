@@ -1,3 +1,4 @@
+-- `page::writing::write_line` meets its contract. Assumes nothing.
 use native.Mathlib.Omega.{arith}
 use Rattle.page.specs.Workers.{line}
 use Rattle.page.proofs.PageWriting.{line-long, line-wrote}
