@@ -90,7 +90,7 @@ module _ (z : Store) (good : goodStore z ≡ true) (n i : ℕ) (d : IsEdge (plan
   t = e .target
 
   -- "a target has a greater number than its node and exists"
-  pub target-below : n < t
+  target-below : n < t
   target-below = rw e-is (plan-good z good .target-greater-and-exists n i d .0)
 
   target-there : t < size p

@@ -50,7 +50,17 @@ fn good_carry(mut store: Store, node: u32, edge: u32) -> Outcome
     let mut stay = [0; Store::WIDTH];
     let mut target = [0; Store::WIDTH];
     let capacity = plan::capacity(store.plan, e.target) as usize;
-    let m = decide(&store.keys, &mut stay, &mut target, from, had, start, held, e, capacity);
+    let m = decide(
+        &store.keys,
+        &mut stay,
+        &mut target,
+        from,
+        had,
+        start,
+        held,
+        e,
+        capacity,
+    );
     let kept = m.kept;
     let got = m.got;
     let stays = &stay[..kept];

@@ -1,4 +1,4 @@
--- An entry on a good store, way by way: the clock at its last value, a copy replaced, a copy added, and a full root. Assumes nothing.
+-- An entry, way by way: a bad store, the clock at its last value, a copy replaced, a copy added, and a full root. Assumes nothing.
 use mathlib.Core.Path.{_≡_, refl, sym, ap, _∙_}
 use mathlib.Core.Bool.{true, false}
 use mathlib.Core.List.{List, _∷_, _++_}
@@ -14,8 +14,9 @@ use Rattle.plan.specs.Plan.{Plan, capacityOf}
 use Rattle.plan.specs.PlanTable.{planOf}
 use Rattle.store.specs.declared.Answer.{Answer}
 use Rattle.store.specs.declared.Copy.{Copy}
+use Rattle.store.specs.declared.Outcome.{Outcome}
 use Rattle.store.specs.declared.Store.{Store}
-use Rattle.store.specs.Answers.{DONE, CLOCK, FULL, answer, bare}
+use Rattle.store.specs.Answers.{DONE, BADSTORE, CLOCK, FULL, answer, bare}
 use Rattle.store.specs.Copies.{copy, noCopy, keyOf, find}
 use Rattle.store.specs.State.{State, nodeAt, lastClock}
 use Rattle.store.specs.Layout.{width, countOf, stateOf, column, storeOf}
@@ -24,7 +25,7 @@ use Rattle.store.specs.Calls.{onStore}
 use Rattle.store.specs.Workers.{below, placeIn, RisesIn, opened}
 use Rattle.store.proofs.Laying.{set-one, counts-written, copy-written, store-is, length-nodes, state-node, state-count, state-copy, state-clock, state-slots}
 use Rattle.store.proofs.Seeking.{below-length, find-rising, find-none}
-use Rattle.store.proofs.Lifting.{plan-good, state-good, on-way, on-refusal}
+use Rattle.store.proofs.Lifting.{on-bad, plan-good, state-good, on-way, on-refusal}
 use Rattle.store.proofs.GoodNodes.{node-place, root-there, count-fits, node-rises, counts-are, keys-are, kinds-are, values-are, stamps-are}
 use Rattle.steps.specs.Entries.{put, room, refused, entered, entry}
 use Rattle.steps.proofs.NodeLists.{room-has, room-free, room-none}
@@ -46,6 +47,11 @@ pub four-opened : (z : Store) (at end k kind v : ℕ) {keys kinds values stamps 
       slots = z .slots;
     } ≡ withCopy z at end k kind v
 four-opened z at end k kind v a b c d = rw (a, b, c, d)
+
+-- BADSTORE comes first, and leaves the store as it was.
+pub entry-bad : (z : Store) (kind k v : ℕ) → goodStore z ≡ false → (r : Outcome) → r ≡ record { answer = bare BADSTORE; store = z }
+    → r ≡ onStore (entry kind k v) z
+entry-bad z kind k v bad r e = e ∙ sym (on-bad (entry kind k v) z bad)
 
 -- The three ways of an entry on a state.
 module _ (kind k v : ℕ) (p : Plan) (s : State) where
@@ -93,9 +99,10 @@ module _ (z : Store) (good : goodStore z ≡ true) where
   has-place most e h = omega (arith, plan-good z good .capacity-1-to-64 0 (root-there z good))
 
   -- "CLOCK: entry at clock 4294967295"
-  pub entry-at-last : (kind k v : ℕ) → lastClock ≤ z .clock → record { answer = bare CLOCK; store = z } ≡ onStore (entry kind k v) z
+  pub entry-at-last : (kind k v : ℕ) → lastClock ≤ z .clock → (r : Outcome) → r ≡ record { answer = bare CLOCK; store = z }
+      → r ≡ onStore (entry kind k v) z
   unfolding stateOf
-  entry-at-last kind k v h = on-refusal (entry kind k v) z good CLOCK (at-last kind k v p s h)
+  entry-at-last kind k v h r e = e ∙ on-refusal (entry kind k v) z good CLOCK (at-last kind k v p s h)
 
   -- The place of the key among the root's.
   module _ (k at : ℕ) (place : at ≡ placeIn (z .keys) 0 (countOf z 0) k) where
@@ -209,14 +216,15 @@ module _ (z : Store) (good : goodStore z ≡ true) where
 
         module _ (most : ℕ) (capacity : most ≡ capacityOf p 0) where
           -- "otherwise one is added if the root has a free place".
-          pub entry-added : (a : Answer) (r : Store) → a ≡ answer DONE (z .clock) 0 0 0 → r ≡ withCopy z at (countOf z 0) k kind v
-              → countOf z 0 < most → record { answer = a; store = r } ≡ onStore (entry kind k v) z
-          entry-added a r e q h =
+          pub entry-added : countOf z 0 < most → (a : Answer) (r : Store) → a ≡ answer DONE (z .clock) 0 0 0
+              → r ≡ withCopy z at (countOf z 0) k kind v → record { answer = a; store = r } ≡ onStore (entry kind k v) z
+          entry-added h a r e q =
               done a r e (q ∙ with-store (has-place most capacity h)) (room-free keyOf (capacityOf p 0) root k (omega (arith, root-count)))
 
           -- "FULL: root full and lacks the key"
-          pub entry-full : most ≤ countOf z 0 → record { answer = bare FULL; store = z } ≡ onStore (entry kind k v) z
+          pub entry-full : most ≤ countOf z 0 → (r : Outcome) → r ≡ record { answer = bare FULL; store = z } → r ≡ onStore (entry kind k v) z
           unfolding stateOf
-          entry-full h =
-              on-refusal (entry kind k v) z good FULL
+          entry-full h r e =
+              e
+              ∙ on-refusal (entry kind k v) z good FULL
               (no-room kind k v p s early (room-none keyOf (capacityOf p 0) root k missing (omega (arith, root-count))))

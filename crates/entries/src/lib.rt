@@ -1,13 +1,11 @@
 // Enter and withdraw. Document 01, "What each step does": "an entry either way".
 ghost use mathlib.Core.Path.{_≡_};
-ghost use mathlib.Core.Bool.{true};
 ghost use Prim.Native.Nat.{_<_, _≤_};
 ghost use Rattle.steps.specs.Entries.{entry as entryStep};
 ghost use Rattle.steps.specs.Promises.{Enters, Withdraws};
 ghost use Rattle.store.specs.Calls.{onStore};
 ghost use Rattle.store.specs.Layout.{width};
 ghost use Rattle.store.specs.State.{lastClock};
-ghost use Rattle.store.specs.StoreRules.{goodStore};
 ghost use Rattle.entries.specs.Columns.{overCopy, withCopy};
 use store::Answer;
 use store::Copy;
@@ -29,7 +27,7 @@ fn replaced(mut store: Store, at: usize, kind: u32, value: u32) -> Store
 }
 
 // "otherwise one is added": at the place of its key, and the root's copies from there up to end move one place up.
-fn inserted(mut store: Store, at: usize, end: usize, key: u32, kind: u32, value: u32) -> Store
+fn added(mut store: Store, at: usize, end: usize, key: u32, kind: u32, value: u32) -> Store
     requires { ⌜ (at ≤ end) × (end < width) × (store .clock < lastClock) ⌝ }
     ensures { λ r. ⌜ r ≡ withCopy store at end key kind value ⌝ }
 {
@@ -43,11 +41,23 @@ fn inserted(mut store: Store, at: usize, end: usize, key: u32, kind: u32, value:
     store
 }
 
-// An entry on a good store: CLOCK before FULL.
-fn good_entry(store: Store, kind: u32, key: u32, value: u32) -> Outcome
-    requires { ⌜ goodStore store ≡ true ⌝ }
+// An entry: BADSTORE, then CLOCK before FULL; a refusal leaves the store as it was.
+fn entry(store: Store, kind: u32, key: u32, value: u32) -> Outcome
     ensures { λ r. ⌜ r ≡ onStore (entryStep kind key value) store ⌝ }
 {
+    let slots = store.slots;
+    if !rules::good(
+        store.plan,
+        store.clock,
+        &store.counts,
+        &store.keys,
+        &store.kinds,
+        &store.values,
+        &store.stamps,
+        slots,
+    ) {
+        return Outcome::refused(Answer::BADSTORE, store);
+    }
     if Store::LAST_CLOCK <= store.clock {
         return Outcome::refused(Answer::CLOCK, store);
     }
@@ -65,30 +75,10 @@ fn good_entry(store: Store, kind: u32, key: u32, value: u32) -> Outcome
     if end < plan::capacity(store.plan, 0) as usize {
         return Outcome {
             answer: Answer::of(Answer::DONE, stamp, 0, 0, 0),
-            store: inserted(store, at, end, key, kind, value),
+            store: added(store, at, end, key, kind, value),
         };
     }
     Outcome::refused(Answer::FULL, store)
-}
-
-// An entry on any store.
-fn entry(store: Store, kind: u32, key: u32, value: u32) -> Outcome
-    ensures { λ r. ⌜ r ≡ onStore (entryStep kind key value) store ⌝ }
-{
-    let slots = store.slots;
-    if !rules::good(
-        store.plan,
-        store.clock,
-        &store.counts,
-        &store.keys,
-        &store.kinds,
-        &store.values,
-        &store.stamps,
-        slots,
-    ) {
-        return Outcome::refused(Answer::BADSTORE, store);
-    }
-    good_entry(store, kind, key, value)
 }
 
 // Enter: the line gets a result.

@@ -132,8 +132,7 @@ image-length plan s =
 
 -- The bytes of its head and of its nodes.
 module _ (plan clock : ℕ) (counts : List ℕ) (columns : Columns) {nodes a b c d : ℕ} (n : nodes ≡ size (planOf plan)) (f : a ≡ length (form formatNumber))
-  (p : b ≡ length (form plan)) (k : c ≡ length (form clock)) (r : d ≡ length (nodesBytes (nodesIn nodes counts columns))) where
-
+    (p : b ≡ length (form plan)) (k : c ≡ length (form clock)) (r : d ≡ length (nodesBytes (nodesIn nodes counts columns))) where
   pub image-adds : a + b + c + d ≡ length (imageIn plan clock counts columns)
   image-adds =
       let q : d ≡ length (nodesBytes (nodesIn (size (planOf plan)) counts columns)) = rw n at r in

@@ -1,10 +1,7 @@
-pub mod ImageParts
-pub mod ImageReads
-pub mod ImageBytes
-pub mod LoadWays
-pub mod RoundTrips
-pub mod ReadWays
-pub mod NodeWays
 pub mod HeadWays
 pub mod ImageLengths
+pub mod LoadEnds
+pub mod NodeWays
+pub mod ReadWays
+pub mod SaveWays
 pub mod WriteWays

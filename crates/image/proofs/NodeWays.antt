@@ -21,7 +21,7 @@ use Rattle.store.specs.StoreRules.{planNumberTest}
 use Rattle.store.proofs.Laying.{append-one, node-grown, counts-written}
 use Rattle.wire.specs.declared.Num.{Num}
 use Rattle.wire.specs.Reading.{Got, got, fault, bind, numberAt, numOf}
-use Rattle.wire.proofs.Chains.{bind-got, bind-fault, check-holds, check-fails, got-or-fault, num-got, num-fault, Gives, gives-got, gives-all, gives-check, gives-bind}
+use Rattle.wire.proofs.Chains.{bind-got, bind-fault, check-holds, check-fails, got-or-fault, num-got, num-fault, Gives, gives-got, gives-any, gives-check, gives-bind}
 use Rattle.image.specs.Loading.{copiesAt, nodeAt, nodesAt}
 use Rattle.image.proofs.ReadWays.{fault-lays}
 use Rattle.image.specs.Workers.{Columns, laid, columnsOf, countsOf, noNumber, ending, Lays, LaysNodes}
@@ -31,12 +31,12 @@ use Rattle.image.specs.Workers.{Columns, laid, columnsOf, countsOf, noNu
 pub copies-counted : (s : List ℕ) (n at : ℕ) → Gives (λ xs next. length xs ≡ n) (copiesAt s n at)
 unfolding copiesAt
 copies-counted s zero at = gives-got refl
-copies-counted s (suc n) at = gives-bind _ _ (gives-all {R = λ x next. Unit} (λ x next. tt) _) λ x a _. gives-bind _ _ (copies-counted s n a) λ xs b h. gives-got (ap suc h)
+copies-counted s (suc n) at = gives-bind _ _ (gives-any _) λ x a _. gives-bind _ _ (copies-counted s n a) λ xs b h. gives-got (ap suc h)
 
 pub node-counted : (s : List ℕ) (capacity at : ℕ) → Gives (λ xs next. length xs ≤ capacity) (nodeAt s capacity at)
 unfolding nodeAt
 node-counted s capacity at =
-    gives-bind _ _ (gives-all {R = λ x next. Unit} (λ x next. tt) _) λ count a _.
+    gives-bind _ _ (gives-any _) λ count a _.
     gives-check (ltb count (suc capacity)) RULE at _ λ few.
     record {
       each = λ xs next e. let m = ltb-true count (suc capacity) few in omega (arith, copies-counted s count a .each xs next e);
@@ -51,12 +51,12 @@ pub record Laid (g : Got (List Copy)) (value : List Copy → ℕ) (before : Colu
   pub number : r .value ≡ value copies
   pub lies : after ≡ laid before from copies
 
-ending-got : {A : Type 0} (g : Got A) (f : A → ℕ) {v next : ℕ} → ending f g ≡ got v next → (x : A) × (g ≡ got x next) × (v ≡ f x)
+pub ending-got : {A : Type 0} (g : Got A) (f : A → ℕ) {v next : ℕ} → ending f g ≡ got v next → (x : A) × (g ≡ got x next) × (v ≡ f x)
 unfolding bind
 ending-got (got x end) f {next = next} e = let n : end ≡ next = cc in (x, ap (got x) n, cc)
 ending-got (fault number at) f e = absurd (got-or-fault e refl)
 
-ending-fault : {A : Type 0} (g : Got A) (f : A → ℕ) {number at : ℕ} → ending f g ≡ fault number at → g ≡ fault number at
+pub ending-fault : {A : Type 0} (g : Got A) (f : A → ℕ) {number at : ℕ} → ending f g ≡ fault number at → g ≡ fault number at
 unfolding bind
 ending-fault (got x end) f e = absurd (got-or-fault refl e)
 ending-fault (fault number at) f e = cc
@@ -179,8 +179,8 @@ module _ {s : List ℕ} {p : Plan} {at n : ℕ} {counts : List ℕ} {c : Columns
   unfolding nodesAt bind numOf
   sofar-end h =
       let e : nodesAt s p at ≡ got (so .nodes) next =
-          so .rest ∙ ap (λ (q : Plan). bind (nodesAt s q next) (λ ns end. got (so .nodes ++ ns) end)) (drop-of-length-le p h)
-          ∙ ap (λ (ns : List (List Copy)). got ns next) (append-nil (so .nodes)) in
+      so .rest ∙ ap (λ (q : Plan). bind (nodesAt s q next) (λ ns end. got (so .nodes ++ ns) end)) (drop-of-length-le p h)
+      ∙ ap (λ (ns : List (List Copy)). got ns next) (append-nil (so .nodes)) in
       record {
         ends = rw e refl;
         counts-are = λ ns end q. let z : so .nodes ≡ ns = cc in so .counts-are ∙ ap countsOf z;

@@ -11,7 +11,8 @@ ghost use Rattle.store.specs.StoreRules.{planNumberTest};
 ghost use Rattle.image.specs.Image.{valueBytes, copyBytes, copiesBytes, nodeBytes, nodesBytes};
 ghost use Rattle.image.specs.Workers.{columns, nodesIn, imageIn, WithinPlaces};
 use crate::FORMAT;
-use store::{Copy, Store};
+use store::Copy;
+use store::Store;
 
 // A value is written only for a result.
 fn value_length(kind: u32, value: u32) -> usize
@@ -105,6 +106,13 @@ pub fn image_length<'a>(
     requires { ⌜ (planNumberTest plan ≡ true) × WithinPlaces (now counts) ⌝ }
     ensures { λ r. ⌜ r ≡ length (imageIn plan clock (now (counts .entry)) (columns (now (keys .entry)) (now (kinds .entry)) (now (values .entry)) (now (stamps .entry)))) ⌝ }
 {
-    let of_nodes = nodes_length(plan::nodes(plan) as usize, counts, keys, kinds, values, stamps);
+    let of_nodes = nodes_length(
+        plan::nodes(plan) as usize,
+        counts,
+        keys,
+        kinds,
+        values,
+        stamps,
+    );
     number::length_of(FORMAT) + number::length_of(plan) + number::length_of(clock) + of_nodes
 }

@@ -12,7 +12,9 @@ ghost use Rattle.wire.specs.Reading.{fault, numOf};
 ghost use Rattle.image.specs.Loading.{valueAt, copyAt, copiesAt, nodeAt, nodesAt};
 ghost use Rattle.image.specs.Workers.{copyReadOf, columns, columnsOf, countsOf, noNumber, Lays, LaysNodes, ReadsHead};
 use crate::FORMAT;
-use store::{Answer, Copy, Store};
+use store::Answer;
+use store::Copy;
+use store::Store;
 use wire::Num;
 
 // A copy and the offset after it, or a fault: an answer number and its offset.
@@ -39,15 +41,30 @@ fn read_value(bytes: &[u8], kind: u32, at: usize) -> Num
     if kind == Copy::RESULT {
         return wire::read_number(bytes, at);
     }
-    Num { ok: true, fault: 0, at, value: 0 }
+    Num {
+        ok: true,
+        fault: 0,
+        at,
+        value: 0,
+    }
 }
 
 // A fault in place of a copy.
 fn no_copy(number: u32, at: usize) -> CopyRead
     ensures { λ r. ⌜ r ≡ copyReadOf (fault number at) ⌝ }
 {
-    let copy = Copy { key: 0, kind: 0, value: 0, stamp: 0 };
-    CopyRead { ok: false, fault: number, at, copy }
+    let copy = Copy {
+        key: 0,
+        kind: 0,
+        value: 0,
+        stamp: 0,
+    };
+    CopyRead {
+        ok: false,
+        fault: number,
+        at,
+        copy,
+    }
 }
 
 // A copy: key, kind (RULE above 1), value, stamp.
@@ -73,8 +90,18 @@ fn read_copy(bytes: &[u8], at: usize) -> CopyRead
     if !stamp.ok {
         return no_copy(stamp.fault, stamp.at);
     }
-    let copy = Copy { key: key.value, kind: kind.value, value: held.value, stamp: stamp.value };
-    CopyRead { ok: true, fault: 0, at: stamp.at, copy }
+    let copy = Copy {
+        key: key.value,
+        kind: kind.value,
+        value: held.value,
+        stamp: stamp.value,
+    };
+    CopyRead {
+        ok: true,
+        fault: 0,
+        at: stamp.at,
+        copy,
+    }
 }
 
 // The copies of the places from..end.
@@ -96,7 +123,12 @@ fn read_copies(
     while i < end {
         let read = read_copy(bytes, next);
         if !read.ok {
-            return Num { ok: false, fault: read.fault, at: read.at, value: 0 };
+            return Num {
+                ok: false,
+                fault: read.fault,
+                at: read.at,
+                value: 0,
+            };
         }
         let copy = read.copy;
         keys[i] = copy.key;
@@ -106,7 +138,12 @@ fn read_copies(
         next = read.at;
         i += 1;
     }
-    Num { ok: true, fault: 0, at: next, value: 0 }
+    Num {
+        ok: true,
+        fault: 0,
+        at: next,
+        value: 0,
+    }
 }
 
 // A node: its count (RULE above the capacity), then its copies. Gives back the count.
@@ -128,7 +165,12 @@ fn read_node(
         return count;
     }
     if capacity < count.value {
-        return Num { ok: false, fault: Answer::RULE, at, value: 0 };
+        return Num {
+            ok: false,
+            fault: Answer::RULE,
+            at,
+            value: 0,
+        };
     }
     let from = Store::WIDTH * node;
     let end = from + count.value as usize;
@@ -136,7 +178,12 @@ fn read_node(
     if !read.ok {
         return read;
     }
-    Num { ok: true, fault: 0, at: read.at, value: count.value }
+    Num {
+        ok: true,
+        fault: 0,
+        at: read.at,
+        value: count.value,
+    }
 }
 
 // The nodes of the plan, into columns and counts that are all zero.
@@ -167,14 +214,25 @@ pub fn read_nodes(
         next = read.at;
         n += 1;
     }
-    Num { ok: true, fault: 0, at: next, value: 0 }
+    Num {
+        ok: true,
+        fault: 0,
+        at: next,
+        value: 0,
+    }
 }
 
 // A fault in place of the head.
 fn no_head(number: u32, at: usize) -> Head
     ensures { λ r. ⌜ (r .ok ≡ false) × (r .fault ≡ number) × (r .at ≡ at) ⌝ }
 {
-    Head { ok: false, fault: number, at, plan: 0, clock: 0 }
+    Head {
+        ok: false,
+        fault: number,
+        at,
+        plan: 0,
+        clock: 0,
+    }
 }
 
 // Format, plan and clock, each with its check: FORMAT, PLAN, RULE for clock 0.
@@ -202,5 +260,11 @@ pub fn read_head(bytes: &[u8]) -> Head
     if clock.value < 1 {
         return no_head(Answer::RULE, plan.at);
     }
-    Head { ok: true, fault: 0, at: clock.at, plan: plan.value, clock: clock.value }
+    Head {
+        ok: true,
+        fault: 0,
+        at: clock.at,
+        plan: plan.value,
+        clock: clock.value,
+    }
 }

@@ -12,7 +12,8 @@ ghost use Rattle.store.specs.StoreRules.{planNumberTest};
 ghost use Rattle.image.specs.Image.{valueBytes, copyBytes, copiesBytes, nodeBytes, nodesBytes};
 ghost use Rattle.image.specs.Workers.{columns, nodesIn, imageIn, WithinPlaces};
 use crate::FORMAT;
-use store::{Copy, Store};
+use store::Copy;
+use store::Store;
 
 // A value is written only for a result.
 fn write_value(buffer: &mut [u8], at: usize, kind: u32, value: u32) -> usize
@@ -74,7 +75,16 @@ fn write_node<'a>(
 {
     let next = number::write_at(buffer, at, count);
     let from = Store::WIDTH * node;
-    write_copies(buffer, next, keys, kinds, values, stamps, from, from + count as usize)
+    write_copies(
+        buffer,
+        next,
+        keys,
+        kinds,
+        values,
+        stamps,
+        from,
+        from + count as usize,
+    )
 }
 
 // The first nodes, so many of them.
@@ -117,5 +127,14 @@ pub fn write_image<'a>(
     let after_format = number::write_at(buffer, 0, FORMAT);
     let after_plan = number::write_at(buffer, after_format, plan);
     let after_clock = number::write_at(buffer, after_plan, clock);
-    write_nodes(buffer, after_clock, plan::nodes(plan) as usize, counts, keys, kinds, values, stamps)
+    write_nodes(
+        buffer,
+        after_clock,
+        plan::nodes(plan) as usize,
+        counts,
+        keys,
+        kinds,
+        values,
+        stamps,
+    )
 }

@@ -1,7 +1,6 @@
 -- Laws of runs: their length and elements, when a list is one, and tests at each of some numbers in a row. Assumes nothing.
 use mathlib.Core.Path.{_≡_, refl, sym, ap, _∙_}
-use mathlib.Core.Bool.{Bool, true, false}
-use mathlib.Core.Logic.{⊎-elim}
+use mathlib.Core.Bool.{Bool, true, false, _&&_}
 use mathlib.Core.List.{List, [], _∷_, _++_, map}
 use Prim.Native.Nat.{ℕ, zero, suc, _+_, _-_, _<_, _≤_}
 use native.Mathlib.Omega.{arith}
@@ -11,7 +10,7 @@ use native.Mathlib.Numerals.{add-one}
 use lib.ListN.{length, getD, List·getD-eq-default}
 use lib.Seq.{ext-getD}
 use Rattle.lists.specs.Runs.{run, allFrom, allBelow}
-use Rattle.lists.proofs.Truths.{bool?, not-both, and-left, and-right, and-both}
+use Rattle.lists.proofs.Truths.{and-left, and-right, and-both}
 
 module _ {A : Type 0} (f : ℕ → A) where
   pub length-run : (i n : ℕ) → length (run i n f) ≡ n
@@ -103,24 +102,23 @@ getD-map-within f [] j d c h = absurd (not-suc-le-zero h)
 getD-map-within f (x ∷ xs) zero d c h = refl
 getD-map-within f (x ∷ xs) (suc j) d c h = getD-map-within f xs j d c (le-of-suc-le-suc h)
 
--- A test that fails at one of the numbers fails for all of them,
-pub all-fails : (f : ℕ → Bool) (i n j : ℕ) → i ≤ j → j < i + n → f j ≡ false → allFrom i n f ≡ false
-all-fails f i n j p q e =
-    ⊎-elim (λ (t : allFrom i n f ≡ true). absurd (not-both (all-at f i n t j p q) e)) (λ (g : allFrom i n f ≡ false). g) (bool? (allFrom i n f))
-
--- and one turn of a loop that tests down to i.
-pub all-down : (f : ℕ → Bool) (i n : ℕ) → 0 < i → i ≤ n → f (i - 1) ≡ true → allFrom i (n - i) f ≡ true → allFrom (i - 1) (n - (i - 1)) f ≡ true
+-- Two tests that are the same at each of the numbers are the same for all of them,
+pub same-all : (f g : ℕ → Bool) (i n : ℕ) → ((j : ℕ) → f j ≡ g j) → allFrom i n f ≡ allFrom i n g
 unfolding allFrom
-all-down f i n h g e t =
-    let s : n - (i - 1) ≡ suc (n - i) = omega arith in
-    let u : suc (i - 1) ≡ i = omega arith in
-    rw (s, e, u) t
+same-all f g i zero h = refl
+same-all f g i (suc n) h = rw (h i, same-all f g (suc i) n h)
 
-pub all-arrived : (f : ℕ → Bool) (i n : ℕ) → i ≤ 0 → allFrom i (n - i) f ≡ true → true ≡ allBelow n f
-all-arrived f i n h t =
-    let e : i ≡ 0 = omega arith in
-    let s : n - 0 ≡ n = omega arith in
-    sym (rw (e, s) at t)
+-- and a test of two parts holds for all of them exactly when each part does.
+pub all-and : (f g : ℕ → Bool) (i n : ℕ) → allFrom i n (λ j. f j && g j) ≡ (allFrom i n f && allFrom i n g)
+unfolding allFrom
+all-and f g i zero = refl
+all-and f g i (suc n) = rw (all-and f g (suc i) n) (go (f i) (g i) (allFrom (suc i) n f) (allFrom (suc i) n g))
+  where
+    go : (a b c d : Bool) → (a && b) && (c && d) ≡ (a && c) && (b && d)
+    go false b c d = refl
+    go true b true d = refl
+    go true true false d = refl
+    go true false false d = refl
 
 -- A run up to a number: its first element and the run after it, or nothing.
 module _ {A : Type 0} (f : ℕ → A) (i n : ℕ) where

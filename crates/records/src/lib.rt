@@ -6,9 +6,9 @@ ghost use Rattle.schedule.specs.Schedule.{mostSteps};
 ghost use Rattle.schedule.specs.Running.{noStep};
 ghost use Rattle.schedule.specs.Promises.{Decodes};
 ghost use Rattle.records.specs.Filling.{filled};
+use schedule::Step;
 use schedule::decoding;
 use schedule::decoding::Decoded;
-use schedule::Step;
 use store::Answer;
 
 // A decoded record.

@@ -2,9 +2,8 @@
 use mathlib.Core.Path.{_≡_, refl, sym, _∙_}
 use mathlib.Core.Bool.{Bool, true, false, and-true, and-false, _&&_}
 use Prim.Native.Nat.{ℕ, _<_, _≤_}
-use native.Mathlib.Omega.{arith}
 use lib.Dec.{leb}
-use lib.ListN.{length, getD}
+use lib.ListN.{length}
 use borrow.Author.Tests.{eq-eqb, le-leb, lt-leb}
 use Rattle.lists.specs.Runs.{allBelow}
 use Rattle.lists.proofs.Truths.{not-both, and-left, and-right, and-both}
@@ -13,22 +12,12 @@ use Rattle.plan.specs.PlanTable.{planOf}
 use Rattle.plan.proofs.TableLaws.{plans-three}
 use Rattle.store.specs.declared.Store.{Store}
 use Rattle.store.specs.Copies.{different}
-use Rattle.store.specs.State.{lastClock, slotCount, idle, inReach}
+use Rattle.store.specs.State.{lastClock, slotCount}
 use Rattle.store.specs.Layout.{places, stateOf}
-use Rattle.store.specs.StoreRules.{
-  shapeTest,
-  planNumberTest,
-  clockTest,
-  copyTest,
-  placeTest,
-  unusedTest,
-  nodeTest,
-  stampsFrom,
-  slotTest,
-  goodStore,
-}
-use Rattle.rules.specs.Workers.{holding, nodeGood, Sized, Fitting}
-use Rattle.rules.proofs.Noding.{nodes-ordered}
+use Rattle.store.specs.StoreRules.{shapeTest, planNumberTest, clockTest, unusedTest, nodeTest, stampsFrom, goodStore}
+use Rattle.rules.specs.Workers.{holding, keyed, usedTest, tidyTest, pathsTest, slotsTest, Sized, AllOrdered}
+use Rattle.rules.proofs.Tidying.{nodes-ordered}
+use Rattle.rules.proofs.Placing.{paths-keyed, nodes-parts}
 use Rattle.rules.proofs.Sorting.{refuted}
 
 -- The plan's number.
@@ -56,12 +45,15 @@ module _ (clock : ℕ) where
   clock-in h g = rw (le-leb 1 clock h, le-leb clock lastClock g)
 
 module _ (z : Store) where
-  -- The store without its searches, and the tests of the slots.
-  abbrev pub unsearched : Store
-  unsearched = holding (z .plan) (z .clock) (z .counts) (z .keys) (z .kinds) (z .values) (z .stamps)
+  -- The tests of the nodes' own numbers, and of the paths of searches and copies.
+  abbrev pub tidy : Bool
+  tidy = allBelow mostNodes (tidyTest (holding (z .plan) (z .clock) (z .counts) (z .keys) (z .kinds) (z .values) (z .stamps)))
 
-  abbrev pub slotsGood : Bool
-  slotsGood = allBelow slotCount (λ i. slotTest (planOf (z .plan)) (getD (z .slots) i idle))
+  abbrev pub slotted : Bool
+  slotted = slotsTest (z .plan) (z .slots)
+
+  abbrev pub placed : Bool
+  placed = allBelow mostNodes (pathsTest (keyed (z .plan) (z .counts) (z .keys) (z .stamps)))
 
   shaped : Sized (z .counts) (z .keys) (z .kinds) (z .values) (z .stamps) → length (z .slots) ≡ slotCount → shapeTest z ≡ true
   unfolding shapeTest
@@ -75,10 +67,13 @@ module _ (z : Store) where
         eq-eqb (length (z .slots)) slotCount l,
       )
 
-  -- No node's test reads the searches.
-  no-search : allBelow mostNodes (nodeGood z) ≡ allBelow mostNodes (nodeGood unsearched)
-  unfolding nodeTest placeTest copyTest unusedTest stateOf inReach
+  -- No test of a node's own numbers reads the searches.
+  no-search : allBelow mostNodes (tidyTest z) ≡ tidy
+  unfolding tidyTest usedTest unusedTest
   no-search = refl
+
+  nodes-are : allBelow mostNodes (nodeTest (planOf (z .plan)) (stateOf z) z) ≡ (tidy && placed)
+  nodes-are = nodes-parts z ∙ rw (no-search, paths-keyed z)
 
   pub number-fails : planNumberTest (z .plan) ≡ false → goodStore z ≡ false
   unfolding goodStore
@@ -88,34 +83,38 @@ module _ (z : Store) where
   unfolding goodStore
   clock-fails h = rw (h, and-false (shapeTest z && planNumberTest (z .plan)))
 
-  -- The searches and the nodes.
-  abbrev pub partsGood : Bool
-  partsGood = slotsGood && allBelow mostNodes (nodeGood unsearched)
-
-  pub slots-fail : slotsGood ≡ false → false ≡ partsGood
-  slots-fail h = rw h
-
-  pub nodes-decide : slotsGood ≡ true → allBelow mostNodes (nodeGood unsearched) ≡ partsGood
-  nodes-decide h = rw h
-
-  pub parts-fail : partsGood ≡ false → goodStore z ≡ false
+  -- What a good store says of its nodes and searches.
+  nodes-good : goodStore z ≡ true → (tidy && placed) ≡ true
   unfolding goodStore
-  parts-fail h =
-      refuted (goodStore z) (λ t.
-      let slots : slotsGood ≡ true = search (and-left, and-right) depth 8 in
-      let nodes : allBelow mostNodes (nodeGood z) ≡ true = search (and-left, and-right) depth 8 in
-      not-both (and-both slots (sym no-search ∙ nodes)) h)
+  nodes-good t =
+      let n : allBelow mostNodes (nodeTest (planOf (z .plan)) (stateOf z) z) ≡ true = search (and-left, and-right) depth 8 in
+      sym nodes-are ∙ n
+
+  slots-good : goodStore z ≡ true → slotted ≡ true
+  unfolding goodStore
+  slots-good t = search (and-left, and-right) depth 8
+
+  pub tidy-fails : tidy ≡ false → goodStore z ≡ false
+  tidy-fails h = refuted (goodStore z) (λ t. not-both (and-left tidy placed (nodes-good t)) h)
+
+  pub paths-fail : (slotted && placed) ≡ false → goodStore z ≡ false
+  paths-fail h = refuted (goodStore z) (λ t. not-both (and-both (slots-good t) (and-right tidy placed (nodes-good t))) h)
 
   pub stamps-decide : Sized (z .counts) (z .keys) (z .kinds) (z .values) (z .stamps) → length (z .slots) ≡ slotCount
-      → planNumberTest (z .plan) ≡ true → clockTest (z .clock) ≡ true → partsGood ≡ true
+      → planNumberTest (z .plan) ≡ true → clockTest (z .clock) ≡ true → tidy ≡ true → (slotted && placed) ≡ true
       → goodStore z ≡ different (stampsFrom (z .counts) (z .stamps) 0 mostNodes)
   unfolding goodStore
-  stamps-decide s l number clock parts =
-      let slots = and-left slotsGood (allBelow mostNodes (nodeGood unsearched)) parts in
-      let nodes = no-search ∙ and-right slotsGood (allBelow mostNodes (nodeGood unsearched)) parts in
-      rw (shaped s l, number, clock, nodes, slots, and-true (different (stampsFrom (z .counts) (z .stamps) 0 mostNodes)))
+  stamps-decide s l number clock t q =
+      let nodes = nodes-are ∙ and-both t (and-right slotted placed q) in
+      rw (shaped s l, number, clock, nodes, and-left slotted placed q, and-true (different (stampsFrom (z .counts) (z .stamps) 0 mostNodes)))
 
-  -- Where the parts pass, each node has room for its copies.
-  pub parts-fit : planNumberTest (z .plan) ≡ true → partsGood ≡ true → Fitting (z .counts)
-  parts-fit number parts n h =
-      nodes-ordered unsearched number 0 (omega arith) (and-right slotsGood (allBelow mostNodes (nodeGood unsearched)) parts) n (omega arith) h .fits
+  -- The searches decide, and then the copies.
+  pub slots-fail : slotted ≡ false → false ≡ (slotted && placed)
+  slots-fail h = rw h
+
+  pub placed-decides : slotted ≡ true → placed ≡ (slotted && placed)
+  placed-decides h = rw h
+
+  -- Where the nodes' own numbers pass, a look in each node can go by halves.
+  pub tidy-ordered : planNumberTest (z .plan) ≡ true → tidy ≡ true → AllOrdered (z .counts) (z .keys)
+  tidy-ordered number t = nodes-ordered (holding (z .plan) (z .clock) (z .counts) (z .keys) (z .kinds) (z .values) (z .stamps)) number t

@@ -1,7 +1,8 @@
 pub mod Walking
 pub mod Resting
 pub mod Reaching
-pub mod Copying
-pub mod Noding
+pub mod Marking
+pub mod Tidying
+pub mod Placing
 pub mod Sorting
 pub mod Judging

@@ -14,10 +14,10 @@ use Rattle.plan.specs.PlanArrays.{Grid, edgesIn}
 use Rattle.plan.proofs.RowLaws.{next-of}
 use Rattle.store.specs.Copies.{member}
 use Rattle.store.specs.StoreRules.{standsAt}
-use Rattle.rules.specs.Workers.{PlanArrays}
+use Rattle.rules.specs.Workers.{ArraysOf}
 
 -- A plan's arrays give the key's next step.
-pub next-here : {plan : ℕ} {edges : List ℕ} {lows highs targets : Grid} → PlanArrays plan edges lows highs targets → (n k : ℕ) (h : Hop)
+pub next-here : {plan : ℕ} {edges : List ℕ} {lows highs targets : Grid} → ArraysOf plan edges lows highs targets → (n k : ℕ) (h : Hop)
     → h ≡ firstEdge (edgesIn edges lows highs targets n) k → h ≡ next (planOf plan) n k
 next-here {plan} {edges} {lows} {highs} {targets} a n k h e =
     e ∙ next-of plan edges lows highs targets (a .edges-of) (a .lows-of) (a .highs-of) (a .targets-of) n k

@@ -1,34 +1,28 @@
 // The check of all store rules, on lent columns. Document 01, "Store rules".
 ghost use mathlib.Core.Path.{_≡_};
 ghost use mathlib.Core.Bool.{true, _&&_};
-ghost use lib.ListN.{getD};
 ghost use Rattle.lists.specs.Runs.{allBelow};
 ghost use Rattle.plan.specs.Sizes.{mostNodes};
-ghost use Rattle.plan.specs.PlanTable.{planOf};
-ghost use Rattle.store.specs.State.{slotCount, idle};
-ghost use Rattle.store.specs.StoreRules.{planNumberTest, slotTest, goodStore};
-ghost use Rattle.rules.specs.Workers.{holding, nodeGood, Sized};
+ghost use Rattle.store.specs.StoreRules.{planNumberTest, goodStore};
+ghost use Rattle.rules.specs.Workers.{keyed, pathsTest, slotsTest, Sized, AllOrdered};
 use store::Slot;
 use store::Store;
 
-mod paths; // paths.rt: where a key's path goes
+mod nodes; // nodes.rt: a node's own numbers
+mod paths; // paths.rt: the paths of its copies
 mod searches; // searches.rt: the search slots
-mod nodes; // nodes.rt: nodes, used places and copies
 mod stamps; // stamps.rt: all stamps are different
 
-// The searches and the nodes, by the plan's arrays, which are taken once.
-fn parts_good<'a>(
+// The searches and the copies stand on their keys' paths. The plan's arrays are taken once.
+fn on_their_paths<'a>(
     plan: u32,
-    clock: u32,
     counts: &'a [u32; Store::NODES],
     keys: &'a [u32; Store::PLACES],
-    kinds: &'a [u32; Store::PLACES],
-    values: &'a [u32; Store::PLACES],
     stamps: &'a [u32; Store::PLACES],
     slots: [Slot; Store::SLOTS],
 ) -> bool
-    requires { ⌜ (planNumberTest plan ≡ true) × Sized (now counts) (now keys) (now kinds) (now values) (now stamps) ⌝ }
-    ensures { λ r. ⌜ r ≡ (allBelow slotCount (λ i. slotTest (planOf plan) (getD slots i idle)) && allBelow mostNodes (nodeGood (holding plan clock (now (counts .entry)) (now (keys .entry)) (now (kinds .entry)) (now (values .entry)) (now (stamps .entry))))) ⌝ }
+    requires { ⌜ (planNumberTest plan ≡ true) × AllOrdered (now counts) (now keys) ⌝ }
+    ensures { λ r. ⌜ r ≡ (slotsTest plan slots && allBelow mostNodes (pathsTest (keyed plan (now (counts .entry)) (now (keys .entry)) (now (stamps .entry))))) ⌝ }
 {
     let edges = plan::edge_counts_of(plan);
     let lows = plan::lowest_of(plan);
@@ -37,7 +31,7 @@ fn parts_good<'a>(
     if !searches::slots_good(plan, &edges, &lows, &highs, &targets, slots) {
         return false;
     }
-    nodes::nodes_good(plan, clock, &edges, &lows, &highs, &targets, counts, keys, kinds, values, stamps)
+    paths::nodes_placed(plan, &edges, &lows, &highs, &targets, counts, keys, stamps)
 }
 
 // Every store rule holds, of the store that has this plan number, this clock, these lent columns and these slots.
@@ -63,7 +57,10 @@ pub fn good<'a>(
     if clock < 1 {
         return false;
     }
-    if !parts_good(plan, clock, counts, keys, kinds, values, stamps, slots) {
+    if !nodes::nodes_tidy(plan, clock, counts, keys, kinds, values, stamps) {
+        return false;
+    }
+    if !on_their_paths(plan, counts, keys, stamps, slots) {
         return false;
     }
     stamps::stamps_differ(counts, stamps)
@@ -74,5 +71,14 @@ pub fn good_store(store: Store) -> bool
     ensures { λ r. ⌜ r ≡ goodStore store ⌝ }
 {
     let slots = store.slots;
-    good(store.plan, store.clock, &store.counts, &store.keys, &store.kinds, &store.values, &store.stamps, slots)
+    good(
+        store.plan,
+        store.clock,
+        &store.counts,
+        &store.keys,
+        &store.kinds,
+        &store.values,
+        &store.stamps,
+        slots,
+    )
 }

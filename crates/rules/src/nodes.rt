@@ -1,25 +1,16 @@
-// The rules of nodes, used places and copies, on lent columns. The nodes are tested from the last to the root: a copy's stamp is
-// compared with that of the key's next copy down its path, which is looked for in nodes that were tested before.
+// The rules of a node's own numbers, on lent columns: its count, its used places and the others.
 ghost use mathlib.Core.Path.{_≡_};
-ghost use mathlib.Core.Bool.{true, _&&_, _||_};
-ghost use Prim.Native.Nat.{suc, _+_, _-_, _*_, _<_, _≤_};
-ghost use lib.Dec.{leb, ltb};
-ghost use lib.ListN.{length, getD};
+ghost use mathlib.Core.Bool.{true, _&&_};
+ghost use Prim.Native.Nat.{_-_, _<_, _≤_};
+ghost use mathlib.Core.List.{[]};
+ghost use lib.ListN.{length};
 ghost use lib.Seq.{slice};
 ghost use Rattle.lists.specs.Runs.{allFrom, allBelow};
 ghost use Rattle.plan.specs.Sizes.{mostNodes};
-ghost use Rattle.plan.specs.Plan.{next as nextOf};
-ghost use Rattle.plan.specs.PlanTable.{planOf};
-ghost use Rattle.store.specs.Copies.{keyOf, find, foundOf, stampOf};
-ghost use Rattle.store.specs.State.{inReach};
-ghost use Rattle.store.specs.Layout.{width, places, nodeIn, stateOf};
+ghost use Rattle.store.specs.Layout.{places};
 ghost use Rattle.store.specs.StoreRules.{planNumberTest, kindTest, allZero};
-ghost use Rattle.rules.specs.Workers.{holding, copyGood, placeGood, nodeGood, PlanArrays, Sized, Ordered, OrderedFrom};
-use crate::paths;
-use plan::Hop;
-use plan::arrays;
+ghost use Rattle.rules.specs.Workers.{holding, markTest, keyRises, usedTest, tidyTest, Sized};
 use store::Copy;
-use store::Found;
 use store::Store;
 use store::columns;
 
@@ -36,76 +27,9 @@ fn kind_good(x: Copy) -> bool
     x.value == 0
 }
 
-// A look in one node.
-fn look_at<'a>(
-    counts: &'a [u32; Store::NODES],
-    keys: &'a [u32; Store::PLACES],
-    kinds: &'a [u32; Store::PLACES],
-    values: &'a [u32; Store::PLACES],
-    stamps: &'a [u32; Store::PLACES],
-    node: u32,
-    key: u32,
-) -> Found
-    requires { ⌜ (node < mostNodes) × Ordered (now counts) (now keys) node ⌝ }
-    ensures { λ r. ⌜ r ≡ foundOf (find keyOf (nodeIn (now (counts .entry)) (now (keys .entry)) (now (kinds .entry)) (now (values .entry)) (now (stamps .entry)) node) key) ⌝ }
-{
-    let n = node as usize;
-    let from = Store::WIDTH * n;
-    let end = from + counts[n] as usize;
-    columns::look_in(keys, kinds, values, stamps, from, end, key)
-}
-
-// The stamp of the key's first copy below a node, down its path; 0 where there is none.
-fn stamp_below<'a>(
-    plan: u32,
-    edges: &'a [u32; plan::MOST_NODES],
-    lows: &'a [[u32; plan::MOST_EDGES]; plan::MOST_NODES],
-    highs: &'a [[u32; plan::MOST_EDGES]; plan::MOST_NODES],
-    targets: &'a [[u32; plan::MOST_EDGES]; plan::MOST_NODES],
-    counts: &'a [u32; Store::NODES],
-    keys: &'a [u32; Store::PLACES],
-    kinds: &'a [u32; Store::PLACES],
-    values: &'a [u32; Store::PLACES],
-    stamps: &'a [u32; Store::PLACES],
-    node: u32,
-    key: u32,
-) -> u32
-    requires { ⌜ (planNumberTest plan ≡ true) × PlanArrays plan (now edges) (now lows) (now highs) (now targets) × OrderedFrom (now counts) (now keys) (suc node) ⌝ }
-    ensures { λ r. ⌜ r ≡ stampOf (inReach (planOf plan) (stateOf (holding plan 0 (now (counts .entry)) (now (keys .entry)) (now (kinds .entry)) (now (values .entry)) (now (stamps .entry)))) key (nextOf (planOf plan) node key)) ⌝ }
-{
-    let mut left = plan::nodes(plan);
-    let mut hop = arrays::next_in(edges, lows, highs, targets, node, key);
-    while 0 < left {
-        let Hop::To(at) = hop else {
-            return 0;
-        };
-        if let Found::Held(x) = look_at(counts, keys, kinds, values, stamps, at, key) {
-            return x.stamp;
-        }
-        hop = arrays::next_in(edges, lows, highs, targets, at, key);
-        left -= 1;
-    }
-    0
-}
-
-// A copy held in a node: kind and value, stamp, path, and a stamp above that of the next copy down its path.
-fn copy_good<'a>(
-    plan: u32,
-    clock: u32,
-    edges: &'a [u32; plan::MOST_NODES],
-    lows: &'a [[u32; plan::MOST_EDGES]; plan::MOST_NODES],
-    highs: &'a [[u32; plan::MOST_EDGES]; plan::MOST_NODES],
-    targets: &'a [[u32; plan::MOST_EDGES]; plan::MOST_NODES],
-    counts: &'a [u32; Store::NODES],
-    keys: &'a [u32; Store::PLACES],
-    kinds: &'a [u32; Store::PLACES],
-    values: &'a [u32; Store::PLACES],
-    stamps: &'a [u32; Store::PLACES],
-    node: u32,
-    x: Copy,
-) -> bool
-    requires { ⌜ (planNumberTest plan ≡ true) × PlanArrays plan (now edges) (now lows) (now highs) (now targets) × OrderedFrom (now counts) (now keys) (suc node) ⌝ }
-    ensures { λ r. ⌜ r ≡ copyGood (holding plan clock (now (counts .entry)) (now (keys .entry)) (now (kinds .entry)) (now (values .entry)) (now (stamps .entry))) node x ⌝ }
+// A copy's kind and value, and "stamps from 1 to clock − 1".
+fn mark_good(clock: u32, x: Copy) -> bool
+    ensures { λ r. ⌜ r ≡ markTest clock x ⌝ }
 {
     if !kind_good(x) {
         return false;
@@ -113,33 +37,13 @@ fn copy_good<'a>(
     if x.stamp < 1 {
         return false;
     }
-    if clock <= x.stamp {
-        return false;
-    }
-    if !paths::on_path(plan, edges, lows, highs, targets, x.key, node) {
-        return false;
-    }
-    stamp_below(
-        plan,
-        edges,
-        lows,
-        highs,
-        targets,
-        counts,
-        keys,
-        kinds,
-        values,
-        stamps,
-        node,
-        x.key,
-    )
-        < x.stamp
+    x.stamp < clock
 }
 
 // "keys strictly rising in a node": the key at a used place is below the next one's, if there is one.
-fn key_rises(keys: &[u32; Store::PLACES], i: usize, end: usize) -> bool
+fn key_rises(keys: &[u32; Store::PLACES], end: usize, i: usize) -> bool
     requires { ⌜ (i < end) × (end ≤ places) ⌝ }
-    ensures { λ r. ⌜ r ≡ (leb end (suc i) || ltb (getD (now (keys .entry)) i 0) (getD (now (keys .entry)) (suc i) 0)) ⌝ }
+    ensures { λ r. ⌜ r ≡ keyRises (now (keys .entry)) end i ⌝ }
 {
     if end <= i + 1 {
         return true;
@@ -147,94 +51,35 @@ fn key_rises(keys: &[u32; Store::PLACES], i: usize, end: usize) -> bool
     keys[i] < keys[i + 1]
 }
 
-// A used place of a node, which has those up to end.
-fn place_good<'a>(
-    plan: u32,
-    clock: u32,
-    edges: &'a [u32; plan::MOST_NODES],
-    lows: &'a [[u32; plan::MOST_EDGES]; plan::MOST_NODES],
-    highs: &'a [[u32; plan::MOST_EDGES]; plan::MOST_NODES],
-    targets: &'a [[u32; plan::MOST_EDGES]; plan::MOST_NODES],
-    counts: &'a [u32; Store::NODES],
-    keys: &'a [u32; Store::PLACES],
-    kinds: &'a [u32; Store::PLACES],
-    values: &'a [u32; Store::PLACES],
-    stamps: &'a [u32; Store::PLACES],
-    node: u32,
-    i: usize,
-    end: usize,
-) -> bool
-    requires { ⌜ (i < end) × (end ≤ places) × (end ≡ width * node + getD (now counts) node 0) × (planNumberTest plan ≡ true) × PlanArrays plan (now edges) (now lows) (now highs) (now targets) × OrderedFrom (now counts) (now keys) (suc node) ⌝ }
-    ensures { λ r. ⌜ r ≡ placeGood (holding plan clock (now (counts .entry)) (now (keys .entry)) (now (kinds .entry)) (now (values .entry)) (now (stamps .entry))) node i ⌝ }
-{
-    if !key_rises(keys, i, end) {
-        return false;
-    }
-    let key = keys[i];
-    let kind = kinds[i];
-    let value = values[i];
-    let stamp = stamps[i];
-    let x = Copy {
-        key: key,
-        kind: kind,
-        value: value,
-        stamp: stamp,
-    };
-    copy_good(
-        plan,
-        clock,
-        edges,
-        lows,
-        highs,
-        targets,
-        counts,
-        keys,
-        kinds,
-        values,
-        stamps,
-        node,
-        x,
-    )
-}
-
 // The used places of a node, from..end.
 fn used_good<'a>(
-    plan: u32,
     clock: u32,
-    edges: &'a [u32; plan::MOST_NODES],
-    lows: &'a [[u32; plan::MOST_EDGES]; plan::MOST_NODES],
-    highs: &'a [[u32; plan::MOST_EDGES]; plan::MOST_NODES],
-    targets: &'a [[u32; plan::MOST_EDGES]; plan::MOST_NODES],
-    counts: &'a [u32; Store::NODES],
     keys: &'a [u32; Store::PLACES],
     kinds: &'a [u32; Store::PLACES],
     values: &'a [u32; Store::PLACES],
     stamps: &'a [u32; Store::PLACES],
-    node: u32,
     from: usize,
     end: usize,
 ) -> bool
-    requires { ⌜ (end ≤ places) × (end ≡ width * node + getD (now counts) node 0) × (planNumberTest plan ≡ true) × PlanArrays plan (now edges) (now lows) (now highs) (now targets) × OrderedFrom (now counts) (now keys) (suc node) ⌝ }
-    ensures { λ r. ⌜ r ≡ allFrom from (end - from) (placeGood (holding plan clock (now (counts .entry)) (now (keys .entry)) (now (kinds .entry)) (now (values .entry)) (now (stamps .entry))) node) ⌝ }
+    requires { ⌜ end ≤ places ⌝ }
+    ensures { λ r. ⌜ r ≡ allFrom from (end - from) (usedTest (holding 0 clock [] (now (keys .entry)) (now (kinds .entry)) (now (values .entry)) (now (stamps .entry))) end) ⌝ }
 {
     let mut i = from;
     while i < end {
-        if !place_good(
-            plan,
-            clock,
-            edges,
-            lows,
-            highs,
-            targets,
-            counts,
-            keys,
-            kinds,
-            values,
-            stamps,
-            node,
-            i,
-            end,
-        ) {
+        if !key_rises(keys, end, i) {
+            return false;
+        }
+        let key = keys[i];
+        let kind = kinds[i];
+        let value = values[i];
+        let stamp = stamps[i];
+        let x = Copy {
+            key: key,
+            kind: kind,
+            value: value,
+            stamp: stamp,
+        };
+        if !mark_good(clock, x) {
             return false;
         }
         i += 1;
@@ -267,13 +112,9 @@ fn unused_good<'a>(
 }
 
 // A node: "counts within capacity", its used places, and the others.
-fn node_good<'a>(
+fn node_tidy<'a>(
     plan: u32,
     clock: u32,
-    edges: &'a [u32; plan::MOST_NODES],
-    lows: &'a [[u32; plan::MOST_EDGES]; plan::MOST_NODES],
-    highs: &'a [[u32; plan::MOST_EDGES]; plan::MOST_NODES],
-    targets: &'a [[u32; plan::MOST_EDGES]; plan::MOST_NODES],
     counts: &'a [u32; Store::NODES],
     keys: &'a [u32; Store::PLACES],
     kinds: &'a [u32; Store::PLACES],
@@ -281,8 +122,8 @@ fn node_good<'a>(
     stamps: &'a [u32; Store::PLACES],
     node: u32,
 ) -> bool
-    requires { ⌜ (node < mostNodes) × (planNumberTest plan ≡ true) × PlanArrays plan (now edges) (now lows) (now highs) (now targets) × Sized (now counts) (now keys) (now kinds) (now values) (now stamps) × OrderedFrom (now counts) (now keys) (suc node) ⌝ }
-    ensures { λ r. ⌜ r ≡ nodeGood (holding plan clock (now (counts .entry)) (now (keys .entry)) (now (kinds .entry)) (now (values .entry)) (now (stamps .entry))) node ⌝ }
+    requires { ⌜ (node < mostNodes) × (planNumberTest plan ≡ true) × Sized (now counts) (now keys) (now kinds) (now values) (now stamps) ⌝ }
+    ensures { λ r. ⌜ r ≡ tidyTest (holding plan clock (now (counts .entry)) (now (keys .entry)) (now (kinds .entry)) (now (values .entry)) (now (stamps .entry))) node ⌝ }
 {
     let n = node as usize;
     let count = counts[n];
@@ -291,63 +132,31 @@ fn node_good<'a>(
     }
     let from = Store::WIDTH * n;
     let end = from + count as usize;
-    if !used_good(
-        plan,
-        clock,
-        edges,
-        lows,
-        highs,
-        targets,
-        counts,
-        keys,
-        kinds,
-        values,
-        stamps,
-        node,
-        from,
-        end,
-    ) {
+    if !used_good(clock, keys, kinds, values, stamps, from, end) {
         return false;
     }
     unused_good(keys, kinds, values, stamps, end, from + Store::WIDTH)
 }
 
-// All nodes, from the last to the root.
-pub fn nodes_good<'a>(
+// All nodes.
+pub fn nodes_tidy<'a>(
     plan: u32,
     clock: u32,
-    edges: &'a [u32; plan::MOST_NODES],
-    lows: &'a [[u32; plan::MOST_EDGES]; plan::MOST_NODES],
-    highs: &'a [[u32; plan::MOST_EDGES]; plan::MOST_NODES],
-    targets: &'a [[u32; plan::MOST_EDGES]; plan::MOST_NODES],
     counts: &'a [u32; Store::NODES],
     keys: &'a [u32; Store::PLACES],
     kinds: &'a [u32; Store::PLACES],
     values: &'a [u32; Store::PLACES],
     stamps: &'a [u32; Store::PLACES],
 ) -> bool
-    requires { ⌜ (planNumberTest plan ≡ true) × PlanArrays plan (now edges) (now lows) (now highs) (now targets) × Sized (now counts) (now keys) (now kinds) (now values) (now stamps) ⌝ }
-    ensures { λ r. ⌜ r ≡ allBelow mostNodes (nodeGood (holding plan clock (now (counts .entry)) (now (keys .entry)) (now (kinds .entry)) (now (values .entry)) (now (stamps .entry)))) ⌝ }
+    requires { ⌜ (planNumberTest plan ≡ true) × Sized (now counts) (now keys) (now kinds) (now values) (now stamps) ⌝ }
+    ensures { λ r. ⌜ r ≡ allBelow mostNodes (tidyTest (holding plan clock (now (counts .entry)) (now (keys .entry)) (now (kinds .entry)) (now (values .entry)) (now (stamps .entry)))) ⌝ }
 {
-    let mut node = Store::NODES as u32;
-    while 0 < node {
-        node -= 1;
-        if !node_good(
-            plan,
-            clock,
-            edges,
-            lows,
-            highs,
-            targets,
-            counts,
-            keys,
-            kinds,
-            values,
-            stamps,
-            node,
-        ) {
+    let mut node = 0;
+    while node < Store::NODES as u32 {
+        if !node_tidy(plan, clock, counts, keys, kinds, values, stamps, node) {
             return false;
         }
+        node += 1;
     }
     true
 }

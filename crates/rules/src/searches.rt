@@ -2,12 +2,9 @@
 ghost use mathlib.Core.Path.{_≡_};
 ghost use mathlib.Core.Bool.{_&&_};
 ghost use lib.Dec.{eqb};
-ghost use lib.ListN.{getD};
-ghost use Rattle.lists.specs.Runs.{allBelow};
 ghost use Rattle.plan.specs.PlanTable.{planOf};
-ghost use Rattle.store.specs.State.{slotCount, idle};
 ghost use Rattle.store.specs.StoreRules.{slotTest};
-ghost use Rattle.rules.specs.Workers.{PlanArrays};
+ghost use Rattle.rules.specs.Workers.{slotsTest, ArraysOf};
 use crate::paths;
 use store::Slot;
 use store::Store;
@@ -34,7 +31,7 @@ fn slot_good<'a>(
     targets: &'a [[u32; plan::MOST_EDGES]; plan::MOST_NODES],
     slot: Slot,
 ) -> bool
-    requires { ⌜ PlanArrays plan (now edges) (now lows) (now highs) (now targets) ⌝ }
+    requires { ⌜ ArraysOf plan (now edges) (now lows) (now highs) (now targets) ⌝ }
     ensures { λ r. ⌜ r ≡ slotTest (planOf plan) slot ⌝ }
 {
     if slot.running == 0 {
@@ -64,8 +61,8 @@ pub fn slots_good<'a>(
     targets: &'a [[u32; plan::MOST_EDGES]; plan::MOST_NODES],
     slots: [Slot; Store::SLOTS],
 ) -> bool
-    requires { ⌜ PlanArrays plan (now edges) (now lows) (now highs) (now targets) ⌝ }
-    ensures { λ r. ⌜ r ≡ allBelow slotCount (λ i. slotTest (planOf plan) (getD slots i idle)) ⌝ }
+    requires { ⌜ ArraysOf plan (now edges) (now lows) (now highs) (now targets) ⌝ }
+    ensures { λ r. ⌜ r ≡ slotsTest plan slots ⌝ }
 {
     let mut i = 0;
     while i < Store::SLOTS {

@@ -6,7 +6,9 @@ ghost use Rattle.schedule.specs.Schedule.{stepRecord};
 ghost use Rattle.schedule.specs.Running.{noStep, stepOf};
 ghost use Rattle.schedule.specs.Promises.{Runs};
 use schedule::Step;
-use store::{Answer, Outcome, Store};
+use store::Answer;
+use store::Outcome;
+use store::Store;
 
 // One step by its numbers: each has its call, which ignores what it does not use; an unknown one is OP with the place, after BADSTORE.
 fn do_step(store: Store, number: u32, x: u32, y: u32, place: usize) -> Outcome

@@ -1,3 +1,4 @@
 pub mod DecodeWays
 pub mod ScheduleLaws
+pub mod Beginnings
 pub mod StepLaws

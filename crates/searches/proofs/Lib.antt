@@ -2,3 +2,4 @@ pub mod Descending
 pub mod Idling
 pub mod Slotting
 pub mod Ending
+pub mod Moving

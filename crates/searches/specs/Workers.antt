@@ -1,22 +1,25 @@
--- What the workers of searches and looks promise, and what they ask of the columns that they are lent.
+-- What the workers of searches and looks promise, and what they ask of the columns and slots that they are given.
 use mathlib.Core.Path.{_≡_}
-use mathlib.Core.Bool.{true}
 use mathlib.Core.Logic.{_≢_}
 use mathlib.Core.List.{List}
 use Prim.Native.Nat.{ℕ, _<_, _≤_}
 use lib.ListN.{getD, set}
 use Rattle.plan.specs.Sizes.{mostNodes}
-use Rattle.plan.specs.Plan.{path}
+use Rattle.plan.specs.Plan.{Plan, size, path}
 use Rattle.plan.specs.PlanTable.{planOf, plans}
+use Rattle.store.specs.declared.Answer.{Answer}
+use Rattle.store.specs.declared.Copy.{Copy}
 use Rattle.store.specs.declared.Slot.{Slot}
 use Rattle.store.specs.declared.Store.{Store}
+use Rattle.store.specs.Answers.{bare}
 use Rattle.store.specs.Copies.{foundOf}
 use Rattle.store.specs.State.{slotCount, idle, line, current}
 use Rattle.store.specs.Layout.{stateOf}
-use Rattle.store.specs.StoreRules.{goodStore}
+use Rattle.store.specs.Calls.{Effect}
 use Rattle.store.specs.Workers.{Ordered}
-use Rattle.steps.specs.Searches.{visitsOn}
+use Rattle.steps.specs.Searches.{startStep, stepStep, cancelStep, visitsOn}
 use Rattle.searches.specs.declared.lines.Seen.{Seen}
+use Rattle.searches.specs.declared.slots.Moved.{Moved}
 
 -- What a look down a path asks for: a plan's number, and nodes in which a look can go by halves. A good store has both.
 pub record Lookable (plan : ℕ) (counts keys : List ℕ) : Type 0 where
@@ -28,9 +31,56 @@ unfoldable pub seenIn : Store → ℕ → Seen
 seenIn z k =
     record { found = foundOf (current (planOf (z .plan)) (stateOf z) k); visits = visitsOn (line (stateOf z) k) (path (planOf (z .plan)) k) }
 
--- The store with one slot written.
-abbrev pub slotted : ℕ → Slot → Store → Store
-slotted i q z =
+-- What a step answers, and the slots after it.
+abbrev pub movedBy : Effect → Moved
+movedBy e = record { answer = e .answer; slots = e .after .slots }
+
+-- One slot is written; or a refusal, and the slots as they were.
+abbrev pub wrote : Answer → List Slot → ℕ → Slot → Moved
+wrote a slots i q = record { answer = a; slots = set slots i q }
+
+abbrev pub kept : ℕ → List Slot → Moved
+kept number slots = record { answer = bare number; slots = slots }
+
+-- A slot's search stands at a node of the plan, after fewer visits than a plan may have nodes.
+pub record Stands (plan : ℕ) (q : Slot) : Type 0 where
+  pub node : q .node < size (planOf plan)
+  pub visits : q .visits < mostNodes
+
+-- What a step asks for: that it can look, and that each running search stands. A good store has both.
+pub record Steppable (plan : ℕ) (counts keys : List ℕ) (slots : List Slot) : Type 0 where
+  pub lookable : Lookable plan counts keys
+  pub stands : (i : ℕ) → i < slotCount → getD slots i idle .running ≢ 0 → Stands plan (getD slots i idle)
+
+-- And a search in slot i.
+pub record Running (plan : ℕ) (counts keys : List ℕ) (slots : List Slot) (i : ℕ) : Type 0 where
+  pub lookable : Lookable plan counts keys
+  pub slot : i < slotCount
+  pub runs : getD slots i idle .running ≢ 0
+  pub stands : Stands plan (getD slots i idle)
+
+-- What start and cancel do with slots, whatever else a state holds,
+abbrev pub StartsIn : List Slot → ℕ → Moved → Type 0
+StartsIn slots key r =
+    (p : Plan) (clock : ℕ) (nodes : List (List Copy)) → r ≡ movedBy (startStep key p (record { clock = clock; nodes = nodes; slots = slots }))
+
+abbrev pub CancelsIn : List Slot → ℕ → Moved → Type 0
+CancelsIn slots slot r =
+    (p : Plan) (clock : ℕ) (nodes : List (List Copy)) → r ≡ movedBy (cancelStep slot p (record { clock = clock; nodes = nodes; slots = slots }))
+
+-- and a step, whatever the clock.
+abbrev pub StepsIn : ℕ → List ℕ → List ℕ → List ℕ → List ℕ → List ℕ → List Slot → ℕ → Moved → Type 0
+StepsIn plan counts keys kinds values stamps slots slot r =
+    (clock : ℕ)
+    → r
+    ≡ movedBy
+    (stepStep slot (planOf plan)
+    (stateOf
+    (record { plan = plan; clock = clock; counts = counts; keys = keys; kinds = kinds; values = values; stamps = stamps; slots = slots })))
+
+-- The store with other slots.
+abbrev pub withSlots : List Slot → Store → Store
+withSlots slots z =
     record {
       plan = z .plan;
       clock = z .clock;
@@ -39,11 +89,5 @@ slotted i q z =
       kinds = z .kinds;
       values = z .values;
       stamps = z .stamps;
-      slots = set (z .slots) i q;
+      slots = slots;
     }
-
--- A search runs in slot i of a good store.
-pub record Runs (z : Store) (i : ℕ) : Type 0 where
-  pub good : goodStore z ≡ true
-  pub slot : i < slotCount
-  pub runs : getD (z .slots) i idle .running ≢ 0

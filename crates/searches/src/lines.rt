@@ -1,8 +1,12 @@
-// A look down one line's path, on lent columns.
+// A look down one line's path, on lent columns, and the answers of an ended search or look.
 ghost use mathlib.Core.Path.{_≡_};
+ghost use mathlib.Core.Option.{none, some};
 ghost use Rattle.store.specs.Workers.{holding};
+ghost use Rattle.steps.specs.Searches.{ended};
 ghost use Rattle.searches.specs.Workers.{Lookable, seenIn};
 use plan::Hop;
+use store::Answer;
+use store::Copy;
 use store::Found;
 use store::Store;
 use store::columns;
@@ -47,4 +51,24 @@ pub fn look_down<'a>(
         found: Found::Held(copy),
         visits: visits,
     }
+}
+
+// The answer of a search or look that ended with a copy: "1 withdrawn or 2 result, then value, stamp, visits".
+pub fn held(copy: Copy, visits: u32) -> Answer
+    ensures { λ r. ⌜ r ≡ ended (some copy) visits ⌝ }
+{
+    Answer::of(
+        Answer::DONE,
+        copy.kind as u64 + 1,
+        copy.value as u64,
+        copy.stamp as u64,
+        visits as u64,
+    )
+}
+
+// And of one that ended without: "0 never".
+pub fn never(visits: u32) -> Answer
+    ensures { λ r. ⌜ r ≡ ended none visits ⌝ }
+{
+    Answer::of(Answer::DONE, 0, 0, 0, visits as u64)
 }

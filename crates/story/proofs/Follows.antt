@@ -26,7 +26,7 @@ use Rattle.schedule.specs.declared.Step.{Step}
 use Rattle.schedule.specs.Schedule.{ENTER, WITHDRAW, CARRY, START, STEP, CANCEL}
 use Rattle.schedule.specs.Running.{noStep, unknownStep, stepOf, runOutcome}
 use Rattle.image.specs.Loading.{loadOutcome}
-use Rattle.image.proofs.RoundTrips.{load-good}
+use Rattle.trips.proofs.RoundTrips.{load-good}
 use Rattle.theory.specs.Events.{Event, effect, after, answerOf, run as runEvents}
 use Rattle.theory.specs.Events.Event.{enters, withdraws, carries, starts, steps, cancels, asks}
 use Rattle.theory.proofs.EventSteps.{event-keeps}
@@ -34,52 +34,81 @@ use Rattle.story.specs.PublicCalls.{Call, accepted, replaced, storeAfter
 use Rattle.story.specs.PublicCalls.Call.{fresh, load, enter, withdraw, carry, start, step, cancel, look, save, page, serve, run}
 use Rattle.story.specs.Following.{eventOfRecord, eventOf, eventsOf, onEvent, storeIfAccepted, replacement, sameStore}
 
--- The step of a record leaves what its event leaves.
-record-event : (r : Step) (place : ℕ) (p : Plan) (s : State) → stepOf r place p s .after ≡ after p (eventOfRecord r) s
-unfolding stepOf eventOfRecord effect
-record-event r place p s =
-    go (eqb (r .number) ENTER) (eqb (r .number) WITHDRAW) (eqb (r .number) CARRY) (eqb (r .number) START) (eqb (r .number) STEP)
-    (eqb (r .number) CANCEL)
-  where
-    go : (a b c d e f : Bool)
-        → (cond a (effect p (enters (r .x) (r .y)) s)
-        (cond b (effect p (withdraws (r .x)) s)
-        (cond c (effect p (carries (r .x) (r .y)) s)
-        (cond d (effect p (starts (r .x)) s)
-        (cond e (effect p (steps (r .x)) s) (cond f (effect p (cancels (r .x)) s) (unknownStep place s))))))
-        .after)
-        ≡ after p
-        (cond a (enters (r .x) (r .y))
-        (cond b (withdraws (r .x))
-        (cond c (carries (r .x) (r .y)) (cond d (starts (r .x)) (cond e (steps (r .x)) (cond f (cancels (r .x)) asks))))))
-        s
-    go true b c d e f = refl
-    go false true c d e f = refl
-    go false false true d e f = refl
-    go false false false true e f = refl
-    go false false false false true f = refl
-    go false false false false false true = refl
-    go false false false false false false = refl
+-- The step and the event of a record, by the six tests of its number.
+stepBy : Bool → Bool → Bool → Bool → Bool → Bool → Step → ℕ → Plan → State → Effect
+stepBy a b c d e f r place p s =
+    cond a (effect p (enters (r .x) (r .y)) s)
+    (cond b (effect p (withdraws (r .x)) s)
+    (cond c (effect p (carries (r .x) (r .y)) s)
+    (cond d (effect p (starts (r .x)) s) (cond e (effect p (steps (r .x)) s) (cond f (effect p (cancels (r .x)) s) (unknownStep place s))))))
 
--- Two steps that leave the same states leave the same store.
-same-after : (f g : Plan → State → Effect) (z : Store) → ((p : Plan) (s : State) → f p s .after ≡ g p s .after) → onStore f z .store ≡ onStore g z .store
-same-after f g z h = go (bool? (goodStore z))
+eventBy : Bool → Bool → Bool → Bool → Bool → Bool → Step → Event
+eventBy a b c d e f r =
+    cond a (enters (r .x) (r .y))
+    (cond b (withdraws (r .x))
+    (cond c (carries (r .x) (r .y)) (cond d (starts (r .x)) (cond e (steps (r .x)) (cond f (cancels (r .x)) asks)))))
+
+-- Either they are one, or the step is unknown.
+by-tests : (a b c d e f : Bool) (r : Step) (place : ℕ)
+    → ((p : Plan) (s : State) → stepBy a b c d e f r place p s ≡ effect p (eventBy a b c d e f r) s)
+    ⊎ ((eventBy a b c d e f r ≡ asks) × ((p : Plan) (s : State) → stepBy a b c d e f r place p s .after ≡ s))
+unfolding stepBy eventBy
+by-tests true b c d e f r place = inl (λ p s. refl)
+by-tests false true c d e f r place = inl (λ p s. refl)
+by-tests false false true d e f r place = inl (λ p s. refl)
+by-tests false false false true e f r place = inl (λ p s. refl)
+by-tests false false false false true f r place = inl (λ p s. refl)
+by-tests false false false false false true r place = inl (λ p s. refl)
+by-tests false false false false false false r place = inr (refl, λ p s. refl)
+
+record-way : (r : Step) (place : ℕ)
+    → ((p : Plan) (s : State) → stepOf r place p s ≡ effect p (eventOfRecord r) s)
+    ⊎ ((eventOfRecord r ≡ asks) × ((p : Plan) (s : State) → stepOf r place p s .after ≡ s))
+unfolding stepOf eventOfRecord effect stepBy eventBy
+record-way r place =
+    by-tests (eqb (r .number) ENTER) (eqb (r .number) WITHDRAW) (eqb (r .number) CARRY) (eqb (r .number) START) (eqb (r .number) STEP)
+    (eqb (r .number) CANCEL) r place
+
+-- Two steps that do the same are the same call.
+same-step : (f g : Plan → State → Effect) (z : Store) → ((p : Plan) (s : State) → f p s ≡ g p s) → onStore f z ≡ onStore g z
+same-step f g z h = go (bool? (goodStore z))
   where
-    go : (goodStore z ≡ true) ⊎ (goodStore z ≡ false) → onStore f z .store ≡ onStore g z .store
+    go : (goodStore z ≡ true) ⊎ (goodStore z ≡ false) → onStore f z ≡ onStore g z
     go (inl good) =
-        ap (λ (o : Outcome). o .store) (on-good f z good)
-        ∙ (ap (storeOf (z .plan)) (h (planOf (z .plan)) (stateOf z)) ∙ sym (ap (λ (o : Outcome). o .store) (on-good g z good)))
-    go (inr bad) = ap (λ (o : Outcome). o .store) (on-bad f z bad) ∙ sym (ap (λ (o : Outcome). o .store) (on-bad g z bad))
-
-run-event : (z : Store) (list : List Step) (place : ℕ) → runOutcome z list place .store ≡ onEvent (eventOfRecord (getD list place noStep)) z .store
-unfolding runOutcome onEvent
-run-event z list place =
-    same-after (stepOf (getD list place noStep) place) (λ p s. effect p (eventOfRecord (getD list place noStep)) s) z
-    (record-event (getD list place noStep) place)
+        on-good f z good
+        ∙ (ap (λ (e : Effect). record { answer = e .answer; store = storeOf (z .plan) (e .after) }) (h (planOf (z .plan)) (stateOf z))
+        ∙ sym (on-good g z good))
+    go (inr bad) = on-bad f z bad ∙ sym (on-bad g z bad)
 
 asks-nothing : (z : Store) → onEvent asks z .store ≡ z
 unfolding onEvent effect
 asks-nothing z = store-stays (λ p s. effect p asks s) z refl
+
+-- The runner gives the very outcome of the record's call; or its step is unknown, and the store stays.
+pub run-way : (z : Store) (list : List Step) (place : ℕ)
+    → (runOutcome z list place ≡ onEvent (eventOfRecord (getD list place noStep)) z)
+    ⊎ ((eventOfRecord (getD list place noStep) ≡ asks) × (runOutcome z list place .store ≡ z))
+unfolding runOutcome onEvent
+run-way z list place = go (record-way r place)
+  where
+    r : Step
+    r = getD list place noStep
+
+    go : ((p : Plan) (s : State) → stepOf r place p s ≡ effect p (eventOfRecord r) s)
+        ⊎ ((eventOfRecord r ≡ asks) × ((p : Plan) (s : State) → stepOf r place p s .after ≡ s))
+        → (onStore (stepOf r place) z ≡ onStore (λ p s. effect p (eventOfRecord r) s) z)
+        ⊎ ((eventOfRecord r ≡ asks) × (onStore (stepOf r place) z .store ≡ z))
+    go (inl h) = inl (same-step (stepOf r place) (λ p s. effect p (eventOfRecord r) s) z h)
+    go (inr w) = inr (w .0, store-stays (stepOf r place) z (w .1 (planOf (z .plan)) (stateOf z)))
+
+run-event : (z : Store) (list : List Step) (place : ℕ) → runOutcome z list place .store ≡ onEvent (eventOfRecord (getD list place noStep)) z .store
+run-event z list place = go (run-way z list place)
+  where
+    go : (runOutcome z list place ≡ onEvent (eventOfRecord (getD list place noStep)) z)
+        ⊎ ((eventOfRecord (getD list place noStep) ≡ asks) × (runOutcome z list place .store ≡ z))
+        → runOutcome z list place .store ≡ onEvent (eventOfRecord (getD list place noStep)) z .store
+    go (inl e) = ap (λ (o : Outcome). o .store) e
+    go (inr w) = w .1 ∙ sym (ap (λ (e : Event). onEvent e z .store) (w .0) ∙ asks-nothing z)
 
 -- Every outcome of fresh has a good store, a refused one too.
 fresh-outcome-good : (plan : ℕ) → goodStore (freshOutcome plan .store) ≡ true
@@ -143,24 +172,21 @@ pub record Replaced (c : Call) (y : Store) : Type 0 where
   pub leaves : (z : Store) → storeAfter c z ≡ y
   pub good : goodStore y ≡ true
 
+pub accepted-store : (o : Outcome) (y : Store) → storeIfAccepted o ≡ some y → (o .store ≡ y) × ((z : Store) → replaced o z ≡ y)
+accepted-store o y e = go (accepted (o .answer)) e
+  where
+    go : (b : Bool) → cond b (some (o .store)) none ≡ some y → (o .store ≡ y) × ((z : Store) → cond b (o .store) z ≡ y)
+    go true e = (one-some refl e, λ z. one-some refl e)
+    go false e = absurd (not-none-and-some refl e)
+
 pub replaced-by : (c : Call) (y : Store) → replacement c ≡ some y → Replaced c y
 replaced-by c y e = go (call-way c)
   where
-    accepts : (o : Outcome) → storeIfAccepted o ≡ some y → (o .store ≡ y) × ((z : Store) → replaced o z ≡ y)
-    accepts o e = at (accepted (o .answer)) e
-      where
-        at : (b : Bool) → cond b (some (o .store)) none ≡ some y → (o .store ≡ y) × ((z : Store) → cond b (o .store) z ≡ y)
-        at true e = (one-some refl e, λ z. one-some refl e)
-        at false e = absurd (not-none-and-some refl e)
-
     go : OnEvent c ⊎ OwnOutcome c → Replaced c y
     go (inl w) = absurd (not-none-and-some (w .replaces-none) e)
     go (inr w) =
-        let a = accepts (w .outcome) (sym (w .replaces) ∙ e) in
-        record {
-          leaves = λ z. w .leaves z ∙ a .1 z;
-          good = subst (λ (z : Store). goodStore z ≡ true) (a .0) (w .good);
-        }
+        let a = accepted-store (w .outcome) y (sym (w .replaces) ∙ e) in
+        record { leaves = λ z. w .leaves z ∙ a .1 z; good = subst (λ (z : Store). goodStore z ≡ true) (a .0) (w .good) }
 
 -- An event keeps the rules, as a step.
 effect-keeps : (e : Event) → Keeps (λ p s. effect p e s)

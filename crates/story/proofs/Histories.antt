@@ -139,3 +139,14 @@ same-carries k (c ∷ cs) z good t n =
     ∙ ap (λ (y : Store). carried (planOf (y .plan)) k (eventsOf cs) (stateOf y) + (b + n)) (event-on c z e)
     ∙ rw (event-state (eventOf c) z good, event-keeps-plan (eventOf c) z) in
     rw (e, carried-same k (eventOf c) z good) (omega (arith, again))
+
+-- An accepted fresh or load starts both again: with the copies that the new store holds, and with nothing carried.
+pub replaced-history : (c : Call) (cs : List Call) (z y : Store) (h : History) → replacement c ≡ some y
+    → history (c ∷ cs) z h ≡ history cs y (held (stateOf y))
+unfolding history
+replaced-history c cs z y h e = rw (replaced-by c y e .leaves z, e)
+
+pub replaced-carries : (k : ℕ) (c : Call) (cs : List Call) (z y : Store) (n : ℕ) → replacement c ≡ some y
+    → carriesSince k (c ∷ cs) z n ≡ carriesSince k cs y 0
+unfolding carriesSince
+replaced-carries k c cs z y n e = rw (replaced-by c y e .leaves z, e)

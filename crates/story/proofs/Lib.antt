@@ -1,2 +1,7 @@
 pub mod Follows
 pub mod Histories
+pub mod CurrentResults
+pub mod CarryBound
+pub mod Recalls
+pub mod KeptPages
+pub mod Uniqueness

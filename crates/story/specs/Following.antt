@@ -6,6 +6,7 @@ use mathlib.Core.Option.{Option, none, some}
 use Prim.Native.Nat.{ℕ, _+_}
 use lib.Dec.{eqb}
 use lib.ListN.{getD}
+use Rattle.plan.specs.PlanTable.{planOf}
 use Rattle.store.specs.declared.Copy.{Copy}
 use Rattle.store.specs.declared.Outcome.{Outcome}
 use Rattle.store.specs.declared.Store.{Store}
@@ -19,7 +20,7 @@ use Rattle.image.specs.Loading.{loadOutcome}
 use Rattle.schedule.specs.declared.Step.{Step}
 use Rattle.schedule.specs.Schedule.{ENTER, WITHDRAW, CARRY, START, STEP, CANCEL}
 use Rattle.schedule.specs.Running.{noStep}
-use Rattle.theory.specs.Events.{Event, effect, optionList, held}
+use Rattle.theory.specs.Events.{Event, effect, optionList, held, rounds}
 use Rattle.theory.specs.Events.Event.{enters, withdraws, carries, starts, steps, cancels, asks}
 use Rattle.story.specs.PublicCalls.{Call, accepted, storeAfter}
 use Rattle.story.specs.PublicCalls.Call.{fresh, load, enter, withdraw, carry, start, step, cancel, look, save, page, serve, run}
@@ -137,3 +138,7 @@ callOf asks = save
 unfoldable pub callsOf : List Event → List Call
 callsOf [] = []
 callsOf (e ∷ es) = callOf e ∷ callsOf es
+
+-- The calls that reach demand 3's bound: a fresh store of the plan, then the line entered and carried down its path, so many times.
+unfoldable pub roundCalls : ℕ → ℕ → ℕ → ℕ → List Call
+roundCalls plan k v r = fresh plan ∷ callsOf (rounds (planOf plan) k v r)

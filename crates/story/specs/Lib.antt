@@ -1,2 +1,3 @@
 pub mod PublicCalls
 pub mod Following
+pub mod Recent

@@ -313,6 +313,18 @@ module _ (p : Plan) (rules : PlanRules p) where
               invariant-3 = λ n k. in-history h′ k (line s′ k n) (held-is-past k n);
             }
 
+  -- What is entered has the clock's stamp or a later one.
+  pub entered-late : (es : List Event) (s : State) → StateRules p s → (x : Copy) → List·Memᴰ x (entered p es s) → s .clock ≤ x .stamp
+  unfolding entered
+  entered-late [] s good x m = absurd (List·Memᴰ·not-nil m)
+  entered-late (e ∷ es) s good x m =
+      go (List·Memᴰ·append-cases (optionList (entryOf p e s)) m) (entered-late es (after p e s) (event-keeps p rules e s good) x)
+    where
+      go : List·Memᴰ x (optionList (entryOf p e s)) ⊎ List·Memᴰ x (entered p es (after p e s))
+          → (List·Memᴰ x (entered p es (after p e s)) → after p e s .clock ≤ x .stamp) → s .clock ≤ x .stamp
+      go (inl a) again = omega (arith, entry-stamp p e s x (member-option (entryOf p e s) x a))
+      go (inr a) again = omega (arith, again a, event-clock p rules s good e)
+
   -- Over every sequence.
   pub multicopy-run : (es : List Event) (s : State) → StateRules p s → (h : History) → Multicopy p s h → Multicopy p (run p es s) (h ++ entered p es s)
   unfolding run entered
@@ -341,3 +353,10 @@ module _ (p : Plan) (rules : PlanRules p) where
         reach-increases s good e n k h,
         reach-increases-run es (after p e s) (event-keeps p rules e s good) n k h,
       )
+
+  -- Where nothing is entered, no line's current result changes.
+  pub currents-stay : (es : List Event) (s : State) → StateRules p s → entered p es s ≡ [] → (k : ℕ) → current p (run p es s) k ≡ current p s k
+  currents-stay es s good e k =
+      let c : Multicopy p (run p es s) (held s) =
+      subst (λ (h : History). Multicopy p (run p es s) h) (ap (λ (xs : List Copy). held s ++ xs) e ∙ append-nil (held s)) (multicopy es s good) in
+      logical-one (held s) k (current p (run p es s) k) (current p s k) (c .h-unique) (c .invariant-1 k) (multicopy-held s good .invariant-1 k)

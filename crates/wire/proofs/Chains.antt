@@ -69,9 +69,6 @@ module _ {A : Type 0} {R : A → ℕ → Type 0} where
       Given (got y end) = R y end
       Given (fault number at) = Unit
 
-  pub gives-all : ((x : A) (next : ℕ) → R x next) → (m : Got A) → Gives R m
-  gives-all h m = record { each = λ x next e. h x next }
-
   pub gives-check : (test : Bool) (number at : ℕ) (rest : Got A) → (test ≡ true → Gives R rest) → Gives R (cond test rest (fault number at))
   gives-check test number at rest h = record { each = λ x next e. let p = passed test number at rest e in h (p .0) .each x next (p .1) }
 
@@ -81,6 +78,10 @@ module _ {A : Type 0} {R : A → ℕ → Type 0} where
   pub gives-cond : (test : Bool) (m k : Got A) → (test ≡ true → Gives R m) → (test ≡ false → Gives R k) → Gives R (cond test m k)
   gives-cond true m k h g = h refl
   gives-cond false m k h g = g refl
+
+-- Two properties at once.
+pub gives-both : {A : Type 0} {R S : A → ℕ → Type 0} {m : Got A} → Gives R m → Gives S m → Gives (λ x next. R x next × S x next) m
+gives-both h k = record { each = λ x next e. (h .each x next e, k .each x next e) }
 
 pub gives-any : {A : Type 0} (m : Got A) → Gives (λ x next. Unit {0}) m
 gives-any m = record { each = λ x next e. tt }

@@ -12,8 +12,7 @@ use Rattle.lists.proofs.Standing.{wrote-nil, wrote-join, wrote-length}
 
 -- Parts of any type, the bytes of each, and the bytes of a list of them; the parts are those of a run, f i for i from one number up to another.
 module _ {A : Type 0} (bytes : A → List ℕ) (all : List A → List ℕ) (none : all [] ≡ []) (more : (x : A) (xs : List A) → all (x ∷ xs) ≡ bytes x ++ all xs)
-  (f : ℕ → A) (end : ℕ) where
-
+    (f : ℕ → A) (end : ℕ) where
   -- The bytes of the parts from i on.
   abbrev pub partsFrom : ℕ → List ℕ
   partsFrom i = all (run i (end - i) f)

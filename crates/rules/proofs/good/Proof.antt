@@ -13,9 +13,10 @@ use Rattle.rules.proofs.Judging.{
   clock-in,
   number-fails,
   clock-fails,
-  parts-fail,
+  tidy-fails,
+  paths-fail,
   stamps-decide,
-  parts-fit,
+  tidy-ordered,
 }
 use borrow.Author.Needs.{needs}
 use Rattle.rules.proofs.good.Statement.{statement}
@@ -40,7 +41,7 @@ eight : (s : tie.Start) → length (s .args .slots) ≡ slotCount
 eight s = search needs
 
 returns : tie.Need-returns
-returns c = sym (number-fails (asked (c .before)) (number-low (c .before .args .plan) (c .if1 .taken)))
+returns c = sym (number-fails (asked (c .before)) (number-low (c .before .args .plan) (omega arith)))
 
 cast-if2 : tie.Need-cast-if2
 cast-if2 c = search needs
@@ -48,37 +49,52 @@ cast-if2 c = search needs
 returns-2 : tie.Need-returns-2
 returns-2 c =
     let s = c .before .before in
-    sym (number-fails (asked s) (number-high (s .args .plan) (c .if2 .taken)))
+    sym (number-fails (asked s) (number-high (s .args .plan) (omega arith)))
 
 returns-3 : tie.Need-returns-3
 returns-3 c =
     let s = c .before .before .before in
-    sym (clock-fails (asked s) (clock-low (s .args .clock) (c .if3 .taken)))
+    sym (clock-fails (asked s) (clock-low (s .args .clock) (omega arith)))
 
-parts-good-requires : tie.Need-parts-good-requires
-parts-good-requires c κs =
+nodes-tidy-requires : tie.Need-nodes-tidy-requires
+nodes-tidy-requires c κs =
     let s = c .before .before .before in
     (number-in (s .args .plan) (omega arith) (omega arith), s .pre)
 
 returns-4 : tie.Need-returns-4
 returns-4 c =
-    let parts = c .before .parts-good in
-    sym (parts-fail (asked (c .before .before .before .before .before)) (sym (parts .ensures) ∙ not-true (parts .result) (c .if4 .taken)))
+    let nodes = c .before .nodes-tidy in
+    sym (tidy-fails (asked (c .before .before .before .before .before)) (sym (nodes .ensures) ∙ not-true (nodes .result) (c .if4 .taken)))
 
-stamps-differ-requires : tie.Need-stamps-differ-requires
-stamps-differ-requires c κs =
+on-their-paths-requires : tie.Need-on-their-paths-requires
+on-their-paths-requires c κs =
     let s = c .before .before .before .before .before in
-    let parts = c .before .parts-good in
-    parts-fit (asked s) (number-in (s .args .plan) (omega arith) (omega arith)) (sym (parts .ensures) ∙ not-false (parts .result) (c .if4 .left))
+    let nodes = c .before .nodes-tidy in
+    let number = number-in (s .args .plan) (omega arith) (omega arith) in
+    (number, tidy-ordered (asked s) number (sym (nodes .ensures) ∙ not-false (nodes .result) (c .if4 .left)))
 
 returns-5 : tie.Need-returns-5
 returns-5 c =
-    let s = c .before .before .before .before .before .before in
-    let parts = c .before .before .parts-good in
+    let paths = c .before .on-their-paths in
+    sym (paths-fail (asked (c .before .before .before .before .before .before .before)) (sym (paths .ensures) ∙ not-true (paths .result) (c .if5 .taken)))
+
+stamps-differ-requires : tie.Need-stamps-differ-requires
+stamps-differ-requires c κs =
+    let s = c .before .before .before .before .before .before .before in
+    let nodes = c .before .before .before .nodes-tidy in
+    let number = number-in (s .args .plan) (omega arith) (omega arith) in
+    λ n h. tidy-ordered (asked s) number (sym (nodes .ensures) ∙ not-false (nodes .result) (c .before .before .if4 .left)) n h .fits
+
+returns-6 : tie.Need-returns-6
+returns-6 c =
+    let s = c .before .before .before .before .before .before .before .before in
+    let nodes = c .before .before .before .before .nodes-tidy in
+    let paths = c .before .before .on-their-paths in
     c .stamps-differ .ensures
     ∙ sym
     (stamps-decide (asked s) (s .pre) (eight s) (number-in (s .args .plan) (omega arith) (omega arith)) (clock-in (s .args .clock) (omega arith) (omega arith))
-    (sym (parts .ensures) ∙ not-false (parts .result) (c .before .if4 .left)))
+    (sym (nodes .ensures) ∙ not-false (nodes .result) (c .before .before .before .if4 .left))
+    (sym (paths .ensures) ∙ not-false (paths .result) (c .before .if5 .left)))
 
 pub good-spec : {M : Type 1} → statement M
 good-spec =
@@ -88,7 +104,9 @@ good-spec =
     cast-if2
     returns-2
     returns-3
-    parts-good-requires
+    nodes-tidy-requires
     returns-4
+    on-their-paths-requires
+    returns-5
     stamps-differ-requires
-    returns-5)
+    returns-6)

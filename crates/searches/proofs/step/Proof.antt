@@ -1,14 +1,18 @@
 -- `searches::step` meets its promise. Assumes nothing.
 use mathlib.Core.Path.{sym, _∙_}
-use borrow.Author.Needs.{needs}
 use borrow.Author.Tests.{not-true, not-false}
+use Rattle.plan.specs.PlanTable.{planOf}
+use Rattle.store.specs.Layout.{stateOf}
 use Rattle.store.proofs.Lifting.{on-bad}
 use Rattle.steps.specs.Searches.{stepStep}
+use Rattle.steps.proofs.LineSteps.{step-still}
+use Rattle.searches.proofs.Moving.{good-steppable, moved-out}
+use borrow.Author.Needs.{needs}
 use Rattle.searches.proofs.step.Statement.{statement}
 use Rattle.searches.proofs.step.Tie as tie
 
-good-store-requires : tie.Need-good-store-requires
-good-store-requires c κs = search needs
+good-requires : tie.Need-good-requires
+good-requires c κs = search needs
 
 refused-requires : tie.Need-refused-requires
 refused-requires c κs = search needs
@@ -16,15 +20,27 @@ refused-requires c κs = search needs
 returns : tie.Need-returns
 returns c =
     let g = c .before .before in
-    let a = g .before .args in
-    c .refused .ensures ∙ sym (on-bad (stepStep (a .slot)) (a .store) (sym (g .good-store .ensures) ∙ not-true (g .good-store .result) (c .before .if1 .taken)))
+    let s = g .before .before .before .before .before .before .before .before in
+    let bad = sym (g .good2 .ensures) ∙ not-true (g .good2 .result) (c .before .if1 .taken) in
+    c .refused .ensures ∙ sym (on-bad (stepStep (s .args .slot)) (s .args .t1) bad)
 
-good-step-requires : tie.Need-good-step-requires
-good-step-requires c κs = sym (c .before .good-store .ensures) ∙ not-false (c .before .good-store .result) (c .if1 .left)
+stepped-requires : tie.Need-stepped-requires
+stepped-requires c κs =
+    let i = c .before .before .before .before .before .before in
+    let g = i .before in
+    let s = g .before .before .before .before .before .before .before .before in
+    good-steppable (s .args .t1) (sym (g .good2 .ensures) ∙ not-false (g .good2 .result) (i .if1 .left))
 
 returns-2 : tie.Need-returns-2
-returns-2 c = search needs
+returns-2 c =
+    let w = c .before .before in
+    let i = w .before .before .before .before .before .before .before in
+    let g = i .before in
+    let s = g .before .before .before .before .before .before .before .before in
+    let z = s .args .t1 in
+    let x = s .args .slot in
+    let good = sym (g .good2 .ensures) ∙ not-false (g .good2 .result) (i .if1 .left) in
+    moved-out z good (stepStep x) (step-still x (planOf (z .plan)) (stateOf z)) (w .stepped .result) (w .stepped .ensures (z .clock))
 
 pub step-spec : {M : Type 1} → statement M
-step-spec =
-    tie.close (tie.spec good-store-requires refused-requires returns good-step-requires returns-2)
+step-spec = tie.close (tie.spec good-requires refused-requires returns stepped-requires returns-2)

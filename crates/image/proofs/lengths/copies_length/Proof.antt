@@ -69,9 +69,11 @@ loop-again : tie.Need-loop-again Inv-loop μ-loop
 loop-again c =
     let l = c .before .before .before .before .before .before in
     let start = l .before in
-    let a = start .args in
-    (search needs, search needs,
-    copies-count (copyIn (a .keys .now) (a .kinds .now) (a .values .now) (a .stamps .now)) (a .end) (l .loop .sum) (l .loop .i) (l .loop .inv .2) (c .before .before .before .before .before .loop-test .taken) (c .copy-length .ensures))
+    let a = start .args in (
+      search needs,
+      search needs,
+      copies-count (copyIn (a .keys .now) (a .kinds .now) (a .values .now) (a .stamps .now)) (a .end) (l .loop .sum) (l .loop .i) (l .loop .inv .2) (c .before .before .before .before .before .loop-test .taken) (c .copy-length .ensures),
+    )
 
 returns : tie.Need-returns Inv-loop μ-loop
 returns c =

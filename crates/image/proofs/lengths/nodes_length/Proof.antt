@@ -58,9 +58,10 @@ unfolding nodeIn
 loop-again c =
     let l = c .before .before .before in
     let start = l .before in
-    let a = start .args in
-    (search needs,
-    nodes-count (nodeIn (a .counts .now) (a .keys .now) (a .kinds .now) (a .values .now) (a .stamps .now)) (a .nodes) (l .loop .sum) (l .loop .n) (l .loop .inv .1) (c .before .before .loop-test .taken) (c .node-length .ensures))
+    let a = start .args in (
+      search needs,
+      nodes-count (nodeIn (a .counts .now) (a .keys .now) (a .kinds .now) (a .values .now) (a .stamps .now)) (a .nodes) (l .loop .sum) (l .loop .n) (l .loop .inv .1) (c .before .before .loop-test .taken) (c .node-length .ensures),
+    )
 
 returns : tie.Need-returns Inv-loop μ-loop
 returns c =

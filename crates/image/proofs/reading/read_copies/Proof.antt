@@ -14,6 +14,7 @@ Inv-loop bytes keys₀ kinds₀ values₀ stamps₀ from end at next₀ i₀ key
     (from ≤ i) × (i ≤ end)
     × ((r : Num) (after : Columns) → Lays (copiesAt bytes (end - i) next) noNumber (columns keys kinds values stamps) i r after
     → Lays (copiesAt bytes (end - from) at) noNumber (columns keys₀ kinds₀ values₀ stamps₀) from r after)
+
 abbrev μ-loop : tie.MeasureT-loop
 μ-loop bytes keys₀ kinds₀ values₀ stamps₀ from end at next₀ i₀ keys kinds values stamps next i = end - i
 
@@ -63,10 +64,12 @@ loop-less c = search needs
 loop-again : tie.Need-loop-again Inv-loop μ-loop
 loop-again c =
     let l = c .before .before .before .before .before in
-    let start = l .before .before in
-    (search needs, search needs,
-    λ r after f. l .loop .inv .2 r after
-    (lays-turn (start .args .bytes .now) (start .args .end) (l .loop .keys) (l .loop .kinds) (l .loop .values) (l .loop .stamps) (l .loop .i) (l .loop .next) _ r after (c .before .before .before .before .loop-test .taken) (copy-got _ (c .before .before .before .read-copy .ensures) (not-false _ (c .before .if1 .left))) f))
+    let start = l .before .before in (
+      search needs,
+      search needs,
+      λ r after f. l .loop .inv .2 r after
+          (lays-turn (start .args .bytes .now) (start .args .end) (l .loop .keys) (l .loop .kinds) (l .loop .values) (l .loop .stamps) (l .loop .i) (l .loop .next) _ r after (c .before .before .before .before .loop-test .taken) (copy-got _ (c .before .before .before .read-copy .ensures) (not-false _ (c .before .if1 .left))) f),
+    )
 
 returns-2 : tie.Need-returns-2 Inv-loop μ-loop
 returns-2 c =

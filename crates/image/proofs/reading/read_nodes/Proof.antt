@@ -70,9 +70,10 @@ loop-again c =
     let size = l .before in
     let start = size .before .before in
     let more = c .before .before .before .before .before .before .before .before .loop-test .taken in
-    let fits = plan-fits (start .args .plan) (l .loop .n) (start .pre .0) (omega (arith, size .nodes .ensures)) in
-    (search needs,
-    sofar-turn (l .loop .inv .1) (omega (arith, size .nodes .ensures)) (c .before .before .before .before .before .before .before .capacity .ensures) (fits .0) (omega (arith, c .before .before .before .before .before .before .before .capacity .ensures, fits .1)) (c .before .before .read-node .ensures) (not-false _ (c .if1 .left)))
+    let fits = plan-fits (start .args .plan) (l .loop .n) (start .pre .0) (omega (arith, size .nodes .ensures)) in (
+      search needs,
+      sofar-turn (l .loop .inv .1) (omega (arith, size .nodes .ensures)) (c .before .before .before .before .before .before .before .capacity .ensures) (fits .0) (omega (arith, c .before .before .before .before .before .before .before .capacity .ensures, fits .1)) (c .before .before .read-node .ensures) (not-false _ (c .if1 .left)),
+    )
 
 returns-2 : tie.Need-returns-2 Inv-loop μ-loop
 returns-2 c =

@@ -40,9 +40,11 @@ write-nodes-requires c κs =
     let plan = clock .before .before .before .before in
     let format = plan .before .before .before .before in
     let start = format .before .before .before in
-    let a = start .args in
-    (omega (arith, c .nodes .ensures, plan-few (a .plan) (start .pre .0)), start .pre .1,
-    nodes-fit (a .plan) (a .clock) (a .counts .now) (columns (a .keys .now) (a .kinds .now) (a .values .now) (a .stamps .now)) (a .buffer .now) (start .pre .2) (format .write-at .ensures) (plan .write-at2 .ensures) (clock .write-at3 .ensures) (c .nodes .ensures))
+    let a = start .args in (
+      omega (arith, c .nodes .ensures, plan-few (a .plan) (start .pre .0)),
+      start .pre .1,
+      nodes-fit (a .plan) (a .clock) (a .counts .now) (columns (a .keys .now) (a .kinds .now) (a .values .now) (a .stamps .now)) (a .buffer .now) (start .pre .2) (format .write-at .ensures) (plan .write-at2 .ensures) (clock .write-at3 .ensures) (c .nodes .ensures),
+    )
 
 same-length : tie.Need-same-length
 same-length c = search needs

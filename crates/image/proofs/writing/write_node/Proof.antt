@@ -22,9 +22,11 @@ write-copies-requires : tie.Need-write-copies-requires
 write-copies-requires c κs =
     let count = c .before .before .before in
     let start = count .before .before .before in
-    let a = start .args in
-    (search needs, search needs,
-    copies-fit (copyIn (a .keys .now) (a .kinds .now) (a .values .now) (a .stamps .now)) (width * a .node) (a .count) (a .buffer .now) (a .at) (start .pre .2) (count .write-at .ensures))
+    let a = start .args in (
+      search needs,
+      search needs,
+      copies-fit (copyIn (a .keys .now) (a .kinds .now) (a .values .now) (a .stamps .now)) (width * a .node) (a .count) (a .buffer .now) (a .at) (start .pre .2) (count .write-at .ensures),
+    )
 
 same-length : tie.Need-same-length
 same-length c = search needs

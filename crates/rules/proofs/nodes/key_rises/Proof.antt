@@ -1,5 +1,6 @@
 -- `rules::nodes::key_rises` meets its contract. Assumes nothing.
-use Rattle.rules.proofs.Copying.{rises-last, rises-next}
+use native.Mathlib.Omega.{arith}
+use Rattle.rules.proofs.Marking.{rises-last, rises-next}
 use borrow.Author.Needs.{needs}
 use Rattle.rules.proofs.nodes.key_rises.Statement.{statement}
 use Rattle.rules.proofs.nodes.key_rises.Tie as tie
@@ -8,7 +9,7 @@ add-if1 : tie.Need-add-if1
 add-if1 c = search needs
 
 returns : tie.Need-returns
-returns c = rises-last (c .before .args .keys .now) (c .before .args .i) (c .before .args .end) (c .if1 .taken)
+returns c = rises-last (c .before .args .keys .now) (c .before .args .end) (c .before .args .i) (omega arith)
 
 mul-result : tie.Need-mul-result
 mul-result c = search needs
@@ -28,7 +29,7 @@ element-copy-out-result-2 c = search needs
 returns-2 : tie.Need-returns-2
 returns-2 c =
     let s = c .before .before .before in
-    rises-next (s .args .keys .now) (s .args .i) (s .args .end) (c .before .before .if1 .left)
+    rises-next (s .args .keys .now) (s .args .end) (s .args .i) (omega arith)
 
 pub key-rises-spec : {M : Type 1} → statement M
 key-rises-spec =

@@ -1,17 +1,18 @@
 -- `rules::nodes::kind_good` meets its contract. Assumes nothing.
 use mathlib.Core.Path.{sym}
-use Rattle.rules.proofs.Copying.{kind-result, kind-strange, kind-withdrawn}
+use native.Mathlib.Omega.{arith}
+use Rattle.rules.proofs.Marking.{kind-result, kind-strange, kind-withdrawn}
 use Rattle.rules.proofs.nodes.kind_good.Statement.{statement}
 use Rattle.rules.proofs.nodes.kind_good.Tie as tie
 
 returns : tie.Need-returns
-returns c = sym (kind-result (c .before .before .args .x) (c .if1 .taken))
+returns c = sym (kind-result (c .before .before .args .x) (omega arith))
 
 returns-2 : tie.Need-returns-2
-returns-2 c = sym (kind-strange (c .before .before .before .before .args .x) (c .before .before .if1 .left) (c .if2 .taken))
+returns-2 c = sym (kind-strange (c .before .before .before .before .args .x) (omega arith) (omega arith))
 
 returns-3 : tie.Need-returns-3
-returns-3 c = sym (kind-withdrawn (c .before .before .before .before .before .args .x) (c .before .before .before .if1 .left) (c .before .if2 .left))
+returns-3 c = sym (kind-withdrawn (c .before .before .before .before .before .args .x) (omega arith) (omega arith))
 
 pub kind-good-spec : {M : Type 1} → statement M
 kind-good-spec = tie.close (tie.spec returns returns-2 returns-3)

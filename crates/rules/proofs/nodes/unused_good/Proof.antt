@@ -6,7 +6,7 @@ use Prim.Native.Nat.{ℕ}
 use lib.Seq.{slice}
 use borrow.Author.Tests.{not-true, not-false}
 use Rattle.store.specs.StoreRules.{allZero}
-use Rattle.rules.proofs.Noding.{first-fails, second-fails, third-fails, fourth-decides}
+use Rattle.rules.proofs.Tidying.{first-fails, second-fails, third-fails, fourth-decides}
 use borrow.Author.Needs.{needs}
 use Rattle.rules.proofs.nodes.unused_good.Statement.{statement}
 use Rattle.rules.proofs.nodes.unused_good.Tie as tie

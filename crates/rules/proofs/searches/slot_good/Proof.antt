@@ -1,5 +1,6 @@
 -- `rules::searches::slot_good` meets its contract. Assumes nothing.
 use mathlib.Core.Path.{sym, _∙_}
+use native.Mathlib.Omega.{arith}
 use Rattle.plan.specs.PlanTable.{planOf}
 use Rattle.rules.proofs.Resting.{slot-rests, slot-strange, slot-runs}
 use borrow.Author.Needs.{needs}
@@ -12,12 +13,12 @@ rests-requires c κs = search needs
 returns : tie.Need-returns
 returns c =
     let a = c .before .before .before .args in
-    c .rests .ensures ∙ sym (slot-rests (planOf (a .plan)) (a .slot) (c .before .if1 .taken))
+    c .rests .ensures ∙ sym (slot-rests (planOf (a .plan)) (a .slot) (omega arith))
 
 returns-2 : tie.Need-returns-2
 returns-2 c =
     let a = c .before .before .before .before .args in
-    sym (slot-strange (planOf (a .plan)) (a .slot) (c .before .before .if1 .left) (c .if2 .taken))
+    sym (slot-strange (planOf (a .plan)) (a .slot) (omega arith) (omega arith))
 
 stands-at-requires : tie.Need-stands-at-requires
 stands-at-requires c κs = search needs
@@ -25,7 +26,7 @@ stands-at-requires c κs = search needs
 returns-3 : tie.Need-returns-3
 returns-3 c =
     let a = c .before .before .before .before .before .args in
-    c .stands-at .ensures ∙ sym (slot-runs (planOf (a .plan)) (a .slot) (c .before .before .before .if1 .left) (c .before .if2 .left))
+    c .stands-at .ensures ∙ sym (slot-runs (planOf (a .plan)) (a .slot) (omega arith) (omega arith))
 
 pub slot-good-spec : {M : Type 1} → statement M
 slot-good-spec = tie.close (tie.spec rests-requires returns returns-2 stands-at-requires returns-3)

@@ -26,8 +26,10 @@ returns : tie.Need-returns
 returns c =
     let s = c .before .before .before .before .before in
     let a = s .args in
-    let seek = c .before .before .before .seek in (
-      sym (ap not (put-there (a .sorted .now) (a .held) (s .pre .2) (a .stamp) (seek .result) (seek .ensures) (c .before .before .if1 .taken) (eqb-true (numberIn (a .sorted .now) (seek .result)) (a .stamp) (c .if2 .taken)))),
+    let seek = c .before .before .before .seek in
+    let w = place-bounds (a .sorted .now) 0 (a .held) (omega arith) (a .stamp) in
+    let e = seek .ensures in (
+      sym (ap not (put-there (a .sorted .now) (a .held) (s .pre .2) (a .stamp) (seek .result) e (omega arith) (eqb-true (numberIn (a .sorted .now) (seek .result)) (a .stamp) (c .if2 .taken)))),
       λ q. absurd (not-both q refl),
     )
 

@@ -1,0 +1,48 @@
+-- Why the runner gives what it promises: one law for each way out. Assumes nothing.
+use mathlib.Core.Path.{_≡_, sym, ap, _∙_}
+use mathlib.Core.Bool.{true, false, cond}
+use mathlib.Core.List.{List}
+use Prim.Native.Nat.{ℕ}
+use lib.ListN.{getD}
+use Rattle.plan.specs.Plan.{Plan}
+use Rattle.plan.specs.PlanTable.{planOf}
+use Rattle.store.specs.declared.Answer.{Answer}
+use Rattle.store.specs.declared.Outcome.{Outcome}
+use Rattle.store.specs.declared.Store.{Store}
+use Rattle.store.specs.Answers.{BADSTORE, OP, answer, bare}
+use Rattle.store.specs.State.{State}
+use Rattle.store.specs.Layout.{stateOf, storeOf}
+use Rattle.store.specs.StoreRules.{goodStore}
+use Rattle.store.specs.Calls.{Effect, onStore}
+use Rattle.store.proofs.Lifting.{on-bad, on-way, good-back}
+use Rattle.schedule.specs.declared.Step.{Step}
+use Rattle.schedule.specs.Schedule.{stepRecord}
+use Rattle.schedule.specs.Running.{noStep, stepOf, unknownStep, runOutcome}
+
+-- The record at a place, taken apart.
+pub runs-record : (z : Store) (list : List Step) (place : ℕ) {r : Outcome}
+    → r ≡ onStore (stepOf (stepRecord (getD list place noStep .number) (getD list place noStep .x) (getD list place noStep .y)) place) z
+    → r ≡ runOutcome z list place
+unfolding runOutcome
+runs-record z list place e = e
+
+module _ (z : Store) (number x y place : ℕ) where
+  -- The step does what one of the calls does.
+  pub runs-call : (f : Plan → State → Effect) {r : Outcome} → ((p : Plan) (s : State) → stepOf (stepRecord number x y) place p s ≡ f p s)
+      → r ≡ onStore f z → r ≡ onStore (stepOf (stepRecord number x y) place) z
+  unfolding onStore
+  runs-call f same e =
+      e ∙ ap (λ (w : Effect). cond (goodStore z) (record { answer = w .answer; store = storeOf (z .plan) (w .after) }) (record { answer = bare BADSTORE; store = z }))
+      (sym (same (planOf (z .plan)) (stateOf z)))
+
+  -- BADSTORE, also for an unknown step.
+  pub runs-bad : {r : Outcome} → goodStore z ≡ false → r ≡ record { answer = bare BADSTORE; store = z }
+      → r ≡ onStore (stepOf (stepRecord number x y) place) z
+  runs-bad bad e = e ∙ sym (on-bad (stepOf (stepRecord number x y) place) z bad)
+
+  -- OP with the place.
+  pub runs-unknown : {a : Answer} → goodStore z ≡ true → a ≡ answer OP place 0 0 0
+      → ((p : Plan) (s : State) → stepOf (stepRecord number x y) place p s ≡ unknownStep place s)
+      → record { answer = a; store = z } ≡ onStore (stepOf (stepRecord number x y) place) z
+  runs-unknown good e same =
+      rw e (on-way (stepOf (stepRecord number x y) place) z good (answer OP place 0 0 0) (stateOf z) z (same (planOf (z .plan)) (stateOf z)) (sym (good-back z good)))

@@ -1,0 +1,53 @@
+-- Start, step and cancel on a good store: what they ask for is there, and their answer and slots are the call's outcome. Assumes nothing.
+use mathlib.Core.Path.{_≡_, refl, sym, ap, _∙_}
+use mathlib.Core.Bool.{true}
+use mathlib.Core.Logic.{_≢_}
+use Prim.Native.Nat.{ℕ, _<_}
+use native.Mathlib.Omega.{arith}
+use lib.ListN.{getD}
+use Rattle.plan.specs.Plan.{Plan}
+use Rattle.plan.specs.PlanTable.{planOf}
+use Rattle.plan.proofs.PathLaws.{path-within}
+use Rattle.store.specs.declared.Store.{Store}
+use Rattle.store.specs.State.{State, slotCount, idle}
+use Rattle.store.specs.StateRules.{OnPath}
+use Rattle.store.specs.Layout.{stateOf, storeOf}
+use Rattle.store.specs.StoreRules.{goodStore}
+use Rattle.store.specs.Calls.{Effect, onStore}
+use Rattle.store.proofs.Lifting.{plan-good, state-good, good-back, on-way}
+use Rattle.steps.proofs.LineSteps.{Still}
+use Rattle.steps.proofs.OnPaths.{on-path-in-plan}
+use Rattle.searches.specs.declared.slots.Moved.{Moved}
+use Rattle.searches.specs.Workers.{Stands, Steppable, movedBy, withSlots}
+use Rattle.searches.proofs.Ending.{good-lookable}
+
+module _ (z : Store) (good : goodStore z ≡ true) where
+  -- A running search stands on its key's path, so at a node of the plan, after fewer visits than a plan may have nodes.
+  good-stands : (i : ℕ) → i < slotCount → getD (z .slots) i idle .running ≢ 0 → Stands (z .plan) (getD (z .slots) i idle)
+  unfolding stateOf
+  good-stands i h runs =
+      let q = getD (z .slots) i idle in
+      let rules = plan-good z good in
+      let o : OnPath (planOf (z .plan)) (q .key) (q .node) (q .visits) = state-good z good .running-searches-on-their-paths i h runs .1 in
+      record {
+        node = on-path-in-plan (planOf (z .plan)) rules (q .key) (q .node) (q .visits) o;
+        visits = omega (arith, o .inside, path-within (planOf (z .plan)) rules (q .key), rules .two-to-eight-nodes);
+      }
+
+  pub good-steppable : Steppable (z .plan) (z .counts) (z .keys) (z .slots)
+  good-steppable = record { lookable = good-lookable z good; stands = good-stands }
+
+  -- The store of a state that differs from the store's own in its slots alone.
+  still-store : (t : State) → Still (stateOf z) t → storeOf (z .plan) t ≡ withSlots (t .slots) z
+  unfolding stateOf storeOf
+  still-store t still =
+      (λ j. storeOf (z .plan) (record { clock = still .clock j; nodes = still .nodes j; slots = t .slots }))
+      ∙ ap (withSlots (t .slots)) (good-back z good)
+
+  -- A step that leaves nodes and clock: its answer and slots give the call's outcome.
+  pub moved-out : (f : Plan → State → Effect) → Still (stateOf z) (f (planOf (z .plan)) (stateOf z) .after)
+      → (m : Moved) → m ≡ movedBy (f (planOf (z .plan)) (stateOf z)) → record { answer = m .answer; store = withSlots (m .slots) z } ≡ onStore f z
+  moved-out f still m e =
+      let w = f (planOf (z .plan)) (stateOf z) in
+      ap (λ (n : Moved). record { answer = n .answer; store = withSlots (n .slots) z }) e
+      ∙ on-way f z good (w .answer) (w .after) (withSlots (w .after .slots) z) refl (sym (still-store (w .after) still))

@@ -1,0 +1,161 @@
+// What start, step and cancel do with the search slots, on lent columns. They alter nothing else of a store.
+ghost use mathlib.Core.Path.{_≡_};
+ghost use Prim.Native.Nat.{_<_};
+ghost use Rattle.store.specs.State.{slotCount, idle};
+ghost use Rattle.steps.specs.Searches.{running};
+ghost use Rattle.searches.specs.Workers.{wrote, kept, Steppable, Running, StartsIn, CancelsIn, StepsIn};
+use crate::lines;
+use plan::Hop;
+use store::Answer;
+use store::Found;
+use store::Slot;
+use store::Store;
+use store::columns;
+
+// An answer, and the slots after it.
+pub struct Moved {
+    pub answer: Answer,
+    pub slots: [Slot; Store::SLOTS],
+}
+
+// A running search: its key, the node that it stands at, and the nodes visited.
+fn search_at(key: u32, node: u32, visits: u32) -> Slot
+    ensures { λ r. ⌜ r ≡ running key node visits ⌝ }
+{
+    Slot {
+        running: 1,
+        key: key,
+        node: node,
+        visits: visits,
+    }
+}
+
+// One slot is written.
+fn written(answer: Answer, mut slots: [Slot; Store::SLOTS], i: usize, slot: Slot) -> Moved
+    requires { ⌜ i < slotCount ⌝ }
+    ensures { λ r. ⌜ r ≡ wrote answer slots i slot ⌝ }
+{
+    slots[i] = slot;
+    Moved {
+        answer: answer,
+        slots: slots,
+    }
+}
+
+// "Ending makes the slot idle."
+fn freed(answer: Answer, slots: [Slot; Store::SLOTS], i: usize) -> Moved
+    requires { ⌜ i < slotCount ⌝ }
+    ensures { λ r. ⌜ r ≡ wrote answer slots i idle ⌝ }
+{
+    let idle = Slot {
+        running: 0,
+        key: 0,
+        node: 0,
+        visits: 0,
+    };
+    written(answer, slots, i, idle)
+}
+
+// A refusal leaves the slots as they were.
+fn refused(number: u32, slots: [Slot; Store::SLOTS]) -> Moved
+    ensures { λ r. ⌜ r ≡ kept number slots ⌝ }
+{
+    Moved {
+        answer: Answer::bare(number),
+        slots: slots,
+    }
+}
+
+// "The lowest idle slot takes the key, at the root, 0 visits." SLOTS where none is idle.
+pub fn started(slots: [Slot; Store::SLOTS], key: u32) -> Moved
+    ensures { λ r. ⌜ StartsIn slots key r ⌝ }
+{
+    let mut n = 0;
+    let slot = loop {
+        if Store::SLOTS <= n {
+            return refused(Answer::SLOTS, slots);
+        }
+        if slots[n].running == 0 {
+            break n;
+        }
+        n += 1;
+    };
+    written(
+        Answer::of(Answer::DONE, slot as u64, 0, 0, 0),
+        slots,
+        slot,
+        search_at(key, 0, 0),
+    )
+}
+
+// "One node is visited" by the search in slot i. Found ends it; nothing sends it to the key's next node, or ends it as never entered.
+fn visited<'a>(
+    plan: u32,
+    counts: &'a [u32; Store::NODES],
+    keys: &'a [u32; Store::PLACES],
+    kinds: &'a [u32; Store::PLACES],
+    values: &'a [u32; Store::PLACES],
+    stamps: &'a [u32; Store::PLACES],
+    slots: [Slot; Store::SLOTS],
+    i: usize,
+) -> Moved
+    requires { ⌜ Running plan (now counts) (now keys) slots i ⌝ }
+    ensures { λ r. ⌜ StepsIn plan (now (counts .entry)) (now (keys .entry)) (now (kinds .entry)) (now (values .entry)) (now (stamps .entry)) slots i r ⌝ }
+{
+    let search = slots[i];
+    let visits = search.visits + 1;
+    let Found::Held(copy) = columns::look_at(
+        counts,
+        keys,
+        kinds,
+        values,
+        stamps,
+        search.node,
+        search.key,
+    ) else {
+        let Hop::To(to) = plan::next(plan, search.node, search.key) else {
+            return freed(lines::never(visits), slots, i);
+        };
+        let answer = Answer::of(Answer::GOING, to as u64, visits as u64, 0, 0);
+        return written(answer, slots, i, search_at(search.key, to, visits));
+    };
+    freed(lines::held(copy, visits), slots, i)
+}
+
+// A step of the search in a slot. SLOT before IDLE.
+pub fn stepped<'a>(
+    plan: u32,
+    counts: &'a [u32; Store::NODES],
+    keys: &'a [u32; Store::PLACES],
+    kinds: &'a [u32; Store::PLACES],
+    values: &'a [u32; Store::PLACES],
+    stamps: &'a [u32; Store::PLACES],
+    slots: [Slot; Store::SLOTS],
+    slot: u32,
+) -> Moved
+    requires { ⌜ Steppable plan (now counts) (now keys) slots ⌝ }
+    ensures { λ r. ⌜ StepsIn plan (now (counts .entry)) (now (keys .entry)) (now (kinds .entry)) (now (values .entry)) (now (stamps .entry)) slots slot r ⌝ }
+{
+    let i = slot as usize;
+    if Store::SLOTS <= i {
+        return refused(Answer::SLOT, slots);
+    }
+    if slots[i].running == 0 {
+        return refused(Answer::IDLE, slots);
+    }
+    visited(plan, counts, keys, kinds, values, stamps, slots, i)
+}
+
+// "The slot becomes idle." SLOT before IDLE.
+pub fn cancelled(slots: [Slot; Store::SLOTS], slot: u32) -> Moved
+    ensures { λ r. ⌜ CancelsIn slots slot r ⌝ }
+{
+    let at = slot as usize;
+    if Store::SLOTS <= at {
+        return refused(Answer::SLOT, slots);
+    }
+    if slots[at].running == 0 {
+        return refused(Answer::IDLE, slots);
+    }
+    freed(Answer::bare(Answer::DONE), slots, at)
+}

@@ -1,0 +1,120 @@
+-- The harm, over sequences of public calls in which the store is not replaced: bytes that were a sample's page are not served once a result
+-- entered since is the current one of a line of the sample, nor once a line that they show is withdrawn; and they are served while nothing
+-- was entered. Assumes nothing.
+use mathlib.Core.Path.{_≡_, sym, ap, _∙_}
+use mathlib.Core.Bool.{true, false, _&&_, and-false}
+use mathlib.Core.List.{List, [], _++_, List·Memᴰ, Memᴰ·append-left}
+use mathlib.Core.Option.{some}
+use Prim.Native.Nat.{ℕ, _<_, _≤_}
+use lib.Dec.{leb}
+use denote.Ref.{RefT}
+use borrow.Author.Tests.{le-leb}
+use Rattle.lists.proofs.Truths.{and-both}
+use Rattle.plan.specs.Plan.{Plan}
+use Rattle.image.specs.Image.{lastValue}
+use Rattle.plan.specs.PlanRules.{PlanRules}
+use Rattle.plan.specs.PlanTable.{planOf}
+use Rattle.store.specs.declared.Copy.{Copy}
+use Rattle.store.specs.declared.Store.{Store}
+use Rattle.store.specs.Copies.{WITHDRAWN, RESULT}
+use Rattle.store.specs.State.{State, current}
+use Rattle.store.specs.StateRules.{StateRules}
+use Rattle.store.specs.Layout.{stateOf}
+use Rattle.store.specs.StoreRules.{goodStore}
+use Rattle.store.proofs.Lifting.{plan-good, state-good}
+use Rattle.page.specs.Page.{analytes, lastSample, keyFor, pageOf, begins}
+use Rattle.page.specs.Promises.{pageNow, fresh?, served}
+use Rattle.page.proofs.PageBytes.{rest-begins}
+use Rattle.page.proofs.PageLines.{Bounded}
+use Rattle.page.proofs.Stale.{stale-by-result, stale-by-withdrawal, same-page, serves-kept, serves-notice}
+use Rattle.theory.specs.Events.{run as runEvents, entered, held}
+use Rattle.theory.specs.Paper.{History, Multicopy}
+use Rattle.theory.proofs.EventSteps.{run-keeps}
+use Rattle.theory.proofs.Invariants.{history-in, multicopy-held, multicopy, entered-late, currents-stay}
+use Rattle.story.specs.PublicCalls.{Call, storeAfterAll}
+use Rattle.story.specs.Following.{eventsOf, sameStore}
+use Rattle.story.specs.Recent.{currentIn}
+use Rattle.story.proofs.Follows.{calls-keep-good, follows-events}
+
+-- A state with a history of 32-bit values: what a page can show of it has 32 bits.
+bounded : (p : Plan) (s : State) (h : History) → StateRules p s → Multicopy p s h → ((x : Copy) → List·Memᴰ x h → x .value ≤ lastValue) → Bounded p s
+bounded p s h good c small =
+    record {
+      values = λ k x e. small x (history-in h k (current p s k) x (c .invariant-1 k .in-history) e .1);
+      stamps = λ k x e. c .h-clock x (history-in h k (current p s k) x (c .invariant-1 k .in-history) e .1);
+      clock = good .clock-1-to-last .1;
+    }
+
+module _ (z : Store) (good : goodStore z ≡ true) (cs : List Call) (stays : sameStore cs ≡ true)
+    (small : (x : Copy) → List·Memᴰ x (held (stateOf z) ++ entered (planOf (z .plan)) (eventsOf cs) (stateOf z)) → x .value ≤ lastValue)
+    (sample : ℕ) (h : sample ≤ lastSample) where
+  -- The store after the calls, and the states and the plan of both.
+  abbrev y : Store
+  y = storeAfterAll cs z
+
+  abbrev p : Plan
+  p = planOf (z .plan)
+
+  abbrev s : State
+  s = stateOf z
+
+  abbrev t : State
+  t = runEvents p (eventsOf cs) s
+
+  good-y : goodStore y ≡ true
+  good-y = calls-keep-good cs z good
+
+  rules : PlanRules p
+  rules = plan-good z good
+
+  before : Bounded p s
+  before =
+      bounded p s (held s) (state-good z good) (multicopy-held p rules s (state-good z good))
+      (λ x m. small x (Memᴰ·append-left (entered p (eventsOf cs) s) m))
+
+  now : Bounded p t
+  now =
+      bounded p t (held s ++ entered p (eventsOf cs) s) (run-keeps p rules (eventsOf cs) s (state-good z good))
+      (multicopy p rules (eventsOf cs) s (state-good z good)) small
+
+  page-then : (k : ℕ) → currentIn y k ≡ current p t k
+  page-then k = let f = follows-events cs z good stays in rw (f .state, f .plan)
+
+  page-now : pageNow y sample ≡ pageOf p t sample
+  page-now = let f = follows-events cs z good stays in rw (f .state, f .plan)
+
+  -- Kept bytes that do not begin with the page as it is now are not served.
+  not-served : (kept notice : RefT (List ℕ)) (rest : List ℕ) → kept .now ≡ pageNow z sample ++ rest
+      → begins (pageOf p s sample ++ rest) (pageOf p t sample) ≡ false → served y sample kept notice ≡ (notice .ptr, notice .now)
+  unfolding fresh?
+  not-served kept notice rest e b =
+      let c : begins (kept .now) (pageNow y sample) ≡ false = rw (e, page-now) b in
+      serves-notice y sample kept notice (rw (c, and-false (goodStore y && leb sample lastSample)))
+
+  -- Not after a result was entered: it is the current one of a line of the sample.
+  pub not-after-a-result : (a : ℕ) → a < analytes → (x : Copy) → List·Memᴰ x (entered p (eventsOf cs) s)
+      → currentIn y (keyFor sample a) ≡ some x → x .kind ≡ RESULT
+      → (kept notice : RefT (List ℕ)) (rest : List ℕ) → kept .now ≡ pageNow z sample ++ rest → served y sample kept notice ≡ (notice .ptr, notice .now)
+  not-after-a-result a g x m e r kept notice rest begun =
+      not-served kept notice rest begun
+      (stale-by-result p s t sample a h g before now x (sym (page-then (keyFor sample a)) ∙ e) r
+      (entered-late p rules (eventsOf cs) s (state-good z good) x m) rest)
+
+  -- Not after a line that was shown is withdrawn.
+  pub not-after-a-withdrawal : (a : ℕ) → a < analytes → (x w : Copy) → currentIn z (keyFor sample a) ≡ some w → w .kind ≡ RESULT
+      → currentIn y (keyFor sample a) ≡ some x → x .kind ≡ WITHDRAWN
+      → (kept notice : RefT (List ℕ)) (rest : List ℕ) → kept .now ≡ pageNow z sample ++ rest → served y sample kept notice ≡ (notice .ptr, notice .now)
+  not-after-a-withdrawal a g x w d r e v kept notice rest begun =
+      not-served kept notice rest begun
+      (stale-by-withdrawal p s t sample a h g before now x w (sym (page-then (keyFor sample a)) ∙ e) v d r rest)
+
+  -- While nothing was entered, whatever was carried and searched, the kept page is served.
+  pub served-while-true : entered p (eventsOf cs) s ≡ [] → (kept notice : RefT (List ℕ)) (rest : List ℕ) → kept .now ≡ pageNow z sample ++ rest
+      → served y sample kept notice ≡ (kept .ptr, pageNow z sample)
+  unfolding fresh?
+  served-while-true none-entered kept notice rest begun =
+      let same : pageNow y sample ≡ pageNow z sample =
+      page-now ∙ same-page p s t (currents-stay p rules (eventsOf cs) s (state-good z good) none-entered) sample in
+      let begins-now : begins (kept .now) (pageNow y sample) ≡ true = rw (begun, same) (rest-begins (pageNow z sample) rest) in
+      serves-kept y sample kept notice (and-both (and-both good-y (le-leb sample lastSample h)) begins-now)
+      ∙ ap (λ (l : List ℕ). (kept .ptr, l)) same

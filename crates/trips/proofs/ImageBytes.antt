@@ -1,0 +1,57 @@
+-- Each byte of an image is a byte. Assumes nothing.
+use mathlib.Core.Bool.{Bool, true, false, cond}
+use mathlib.Core.List.{List, [], _∷_}
+use Prim.Native.Nat.{ℕ, suc, _<_}
+use native.Mathlib.Omega.{arith}
+use lib.Dec.{eqb, lit≤}
+use lib.ListN.{length, getD}
+use Rattle.number.specs.Number.{Bytes, form}
+use Rattle.number.proofs.Meaning.{form-bytes}
+use Rattle.plan.specs.Plan.{Plan}
+use Rattle.plan.specs.PlanTable.{planOf}
+use Rattle.plan.proofs.TableLaws.{plans-three}
+use Rattle.store.specs.declared.Copy.{Copy}
+use Rattle.store.specs.declared.Store.{Store}
+use Rattle.store.specs.Copies.{RESULT, noCopy}
+use Rattle.store.specs.Layout.{stateOf}
+use Rattle.store.specs.StoreRules.{StoreRules}
+use Rattle.wire.proofs.ByteStrings.{no-bytes, bytes-join}
+use Rattle.image.specs.Image.{formatNumber, valueBytes, copyBytes, copiesBytes, nodeBytes, nodesBytes, imageOf, image, Declared}
+use Rattle.trips.proofs.ImageParts.{kind-small, Writable, WritableNodes, rest-writable}
+use Rattle.trips.proofs.ImageReads.{nodes-writable}
+
+copy-bytes : (x : Copy) → Writable x → Bytes (copyBytes x)
+unfolding copyBytes valueBytes
+copy-bytes x w =
+    bytes-join (form (x .key)) _ (form-bytes (x .key) (w .key))
+    (bytes-join (form (x .kind)) _ (form-bytes (x .kind) (omega (arith, kind-small x (w .kind-and-value))))
+    (bytes-join (valueBytes (x .kind) (x .value)) _ (value (eqb (x .kind) RESULT)) (form-bytes (x .stamp) (w .stamp))))
+  where
+    value : (t : Bool) → Bytes (cond t (form (x .value)) [])
+    value true = form-bytes (x .value) (w .value)
+    value false = no-bytes
+
+copies-bytes : (xs : List Copy) → ((i : ℕ) → i < length xs → Writable (getD xs i noCopy)) → Bytes (copiesBytes xs)
+unfolding copiesBytes
+copies-bytes [] w = no-bytes
+copies-bytes (x ∷ xs) w =
+    bytes-join (copyBytes x) (copiesBytes xs) (copy-bytes x (w 0 (omega arith))) (copies-bytes xs (λ i h. w (suc i) (omega arith)))
+
+nodes-bytes : (p : Plan) (ns : List (List Copy)) → WritableNodes p ns → Bytes (nodesBytes ns)
+unfolding nodesBytes nodeBytes
+nodes-bytes p [] w = no-bytes
+nodes-bytes [] (xs ∷ ns) w = absurd (omega (arith, w .lists))
+nodes-bytes (n ∷ p) (xs ∷ ns) w =
+    let r = w .room 0 (omega arith) in
+    bytes-join (nodeBytes xs) (nodesBytes ns)
+    (bytes-join (form (length xs)) (copiesBytes xs) (form-bytes (length xs) (omega arith)) (copies-bytes xs (λ i h. w .copies 0 i (omega arith) h)))
+    (nodes-bytes p ns (rest-writable w))
+
+-- The image of a store that keeps the rules is a byte string.
+pub image-bytes : (z : Store) → StoreRules z → Declared z → Bytes (image z)
+unfolding imageOf stateOf
+image-bytes z rules declared =
+    bytes-join (form formatNumber) _ (form-bytes formatNumber (lit≤ tt))
+    (bytes-join (form (z .plan)) _ (form-bytes (z .plan) (omega (arith, rules .plan-1-to-3 .1, plans-three)))
+    (bytes-join (form (z .clock)) _ (form-bytes (z .clock) (rules .state-rules .clock-1-to-last .1))
+    (nodes-bytes (planOf (z .plan)) (stateOf z .nodes) (nodes-writable z rules declared))))

@@ -1,0 +1,5 @@
+pub mod ImageParts
+pub mod ImageReads
+pub mod ImageBytes
+pub mod LoadWays
+pub mod RoundTrips

@@ -1,0 +1,1 @@
+// Save and load, there and back: theorems, no code.
