@@ -1,0 +1,17 @@
+// The C interface (include/olipranj.h): the public calls over a store behind a pointer. Each reads the store whole, calls, and writes it back.
+ghost use Rattle.steps.specs.Promises.{Looks};
+ghost use Rattle.image.specs.Promises.{Saves};
+ghost use Rattle.page.specs.Promises.{Pages};
+ghost use Rattle.export.specs.Promises.{FreshensBehind, StepsBehind, LoadsBehind};
+use store::Answer;
+use store::Store;
+
+// One step by its number; an unknown one is OP with a 0, after BADSTORE.
+#[no_mangle]
+pub extern "C" fn olipranj_step(store: &mut Store, number: u32, x: u32, y: u32) -> Answer
+    ensures { λ r. ⌜ StepsBehind (now (store .entry)) number x y r (now (store .exit)) ⌝ }
+{
+    let outcome = runner::do_step(*store, number, x, y, 0);
+    *store = outcome.store;
+    outcome.answer
+}
