@@ -6,6 +6,16 @@ ghost use Rattle.export.specs.Promises.{FreshensBehind, StepsBehind, Loa
 use store::Answer;
 use store::Store;
 
+// A fresh store of the plan, or PLAN and a fresh store of plan 1.
+#[no_mangle]
+pub extern "C" fn olipranj_fresh(store: &mut Store, plan: u32) -> Answer
+    ensures { λ r. ⌜ FreshensBehind plan r (now (store .exit)) ⌝ }
+{
+    let outcome = Store::fresh(plan);
+    *store = outcome.store;
+    outcome.answer
+}
+
 // One step by its number; an unknown one is OP with a 0, after BADSTORE.
 #[no_mangle]
 pub extern "C" fn olipranj_step(store: &mut Store, number: u32, x: u32, y: u32) -> Answer
