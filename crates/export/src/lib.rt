@@ -25,3 +25,11 @@ pub extern "C" fn olipranj_step(store: &mut Store, number: u32, x: u32, y: u32) 
     *store = outcome.store;
     outcome.answer
 }
+
+// A whole search at once.
+#[no_mangle]
+pub extern "C" fn olipranj_look(store: &Store, key: u32) -> Answer
+    ensures { λ r. ⌜ Looks (now (store .entry)) key r ⌝ }
+{
+    searches::look(*store, key)
+}
