@@ -33,3 +33,13 @@ pub extern "C" fn olipranj_look(store: &Store, key: u32) -> Answer
 {
     searches::look(*store, key)
 }
+
+// The store of an image, or the first fault and a fresh store of plan 1.
+#[no_mangle]
+pub extern "C" fn olipranj_load(store: &mut Store, bytes: &[u8]) -> Answer
+    ensures { λ r. ⌜ LoadsBehind (now (bytes .entry)) r (now (store .exit)) ⌝ }
+{
+    let outcome = image::load(bytes);
+    *store = outcome.store;
+    outcome.answer
+}
