@@ -43,3 +43,11 @@ pub extern "C" fn olipranj_load(store: &mut Store, bytes: &[u8]) -> Answer
     *store = outcome.store;
     outcome.answer
 }
+
+// The store's image into the buffer.
+#[no_mangle]
+pub extern "C" fn olipranj_save(store: &Store, buffer: &mut [u8]) -> Answer
+    ensures { λ r. ⌜ Saves (now (store .entry)) (now (buffer .entry)) r (now (buffer .exit)) ⌝ }
+{
+    image::save(*store, buffer)
+}
