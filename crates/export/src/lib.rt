@@ -34,6 +34,14 @@ pub extern "C" fn olipranj_look(store: &Store, key: u32) -> Answer
     searches::look(*store, key)
 }
 
+// The store's image into the buffer.
+#[no_mangle]
+pub extern "C" fn olipranj_save(store: &Store, buffer: &mut [u8]) -> Answer
+    ensures { λ r. ⌜ Saves (now (store .entry)) (now (buffer .entry)) r (now (buffer .exit)) ⌝ }
+{
+    image::save(*store, buffer)
+}
+
 // The store of an image, or the first fault and a fresh store of plan 1.
 #[no_mangle]
 pub extern "C" fn olipranj_load(store: &mut Store, bytes: &[u8]) -> Answer
@@ -44,10 +52,10 @@ pub extern "C" fn olipranj_load(store: &mut Store, bytes: &[u8]) -> Answer
     outcome.answer
 }
 
-// The store's image into the buffer.
+// The page of a sample into the buffer.
 #[no_mangle]
-pub extern "C" fn olipranj_save(store: &Store, buffer: &mut [u8]) -> Answer
-    ensures { λ r. ⌜ Saves (now (store .entry)) (now (buffer .entry)) r (now (buffer .exit)) ⌝ }
+pub extern "C" fn olipranj_page(store: &Store, sample: u32, buffer: &mut [u8]) -> Answer
+    ensures { λ r. ⌜ Pages (now (store .entry)) sample (now (buffer .entry)) r (now (buffer .exit)) ⌝ }
 {
-    image::save(*store, buffer)
+    page::page(*store, sample, buffer)
 }
