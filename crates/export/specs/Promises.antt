@@ -1,5 +1,5 @@
 -- The promises of the calls that write the store behind a pointer: each fixes the answer and the store at exit. Of the others the promises
--- are those of the calls themselves: Looks, Saves, Pages, Shows.
+-- are those of the calls themselves: Looks, Saves, Pages and ServesLength.
 use mathlib.Core.Path.{_≡_}
 use mathlib.Core.List.{List}
 use Prim.Native.Nat.{ℕ}

@@ -1,7 +1,7 @@
 // The C interface (include/olipranj.h): the public calls over a store behind a pointer. Each reads the store whole, calls, and writes it back.
 ghost use Rattle.steps.specs.Promises.{Looks};
 ghost use Rattle.image.specs.Promises.{Saves};
-ghost use Rattle.page.specs.Promises.{Pages};
+ghost use Rattle.page.specs.Promises.{Pages, ServesLength};
 ghost use Rattle.export.specs.Promises.{FreshensBehind, StepsBehind, LoadsBehind};
 use store::Answer;
 use store::Store;
@@ -58,4 +58,12 @@ pub extern "C" fn olipranj_page(store: &Store, sample: u32, buffer: &mut [u8]) -
     ensures { λ r. ⌜ Pages (now (store .entry)) sample (now (buffer .entry)) r (now (buffer .exit)) ⌝ }
 {
     page::page(*store, sample, buffer)
+}
+
+// How many bytes of the kept page to show; none: the notice is due.
+#[no_mangle]
+pub extern "C" fn olipranj_serve(store: &Store, sample: u32, kept: &[u8]) -> usize
+    ensures { λ r. ⌜ ServesLength (now (store .entry)) sample (now (kept .entry)) r ⌝ }
+{
+    page::served_length(*store, sample, kept)
 }

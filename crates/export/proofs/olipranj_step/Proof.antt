@@ -50,10 +50,10 @@ use Rattle.store.proofs.Outcome as O
 use Rattle.store.proofs.Outcome.Laws as O′
 use Rattle.store.proofs.Answer as R
 use Rattle.store.proofs.Answer.Laws as R′
-use Rattle.runner.proofs.do_step as step
-use Rattle.runner.proofs.do_step.Symbol as step-def
+use Rattle.runner.proofs.do_step as call
+use Rattle.runner.proofs.do_step.Symbol as call-def
 use Rattle.runner.proofs.do_step.Symbol.{name as #runner·do-step}
-use Rattle.runner.proofs.do_step.Met as step-thm
+use Rattle.runner.proofs.do_step.Met as call-thm
 use Rattle.export.proofs.Values.{store-val, answer-val, spelled}
 use Rattle.export.proofs.olipranj_step.Key.{name as #export·olipranj-step}
 use Rattle.export.proofs.olipranj_step as f
@@ -68,8 +68,8 @@ stayed = (stay-ref (0 ∷ []) tt (plain (λ _. S.the-row)), (stay-none (λ _. u3
 
 module _ {M : Type 1} (𝓤 : URA M) (H : Heap 𝓤) (A : Atoms 𝓤) (at-mem : Memory → SProp 𝓤) (run : Routine → Fun 𝓤) where
   -- the contract that the proof cites
-  abbrev Do : Contract 𝓤
-  Do = tripleOf 𝓤 H A step.signature (step.spec 𝓤 H A at-mem run)
+  abbrev Call : Contract 𝓤
+  Call = tripleOf 𝓤 H A call.signature (call.spec 𝓤 H A at-mem run)
 
 module _ {M : Type 1} (𝓤 : URA M) (H : Heap 𝓤) (A : Atoms 𝓤) (W : Given 𝓤 H A) (at-mem : Memory → SProp 𝓤) (run : Routine → Fun 𝓤) (κ : Lft) (q : Share) (b o : ℕ) (γ : GName) (h : Store) (n i j : ℕ) where
   abbrev x : Arg
@@ -88,20 +88,20 @@ module _ {M : Type 1} (𝓤 : URA M) (H : Heap 𝓤) (A : Atoms 𝓤) (W : Given
   abbrev nums : Store × (ℕ × (ℕ × (ℕ × (ℕ × Unit {0}))))
   nums = (h, (n, (i, (j, (0, tt)))))
 
-  abbrev passed : Vals step.signature tt
+  abbrev passed : Vals call.signature tt
   passed = (store-val h ∷ [], (vint w32 n ∷ [], (vint w32 i ∷ [], (vint w32 j ∷ [], (vint w64 0 ∷ [], tt)))))
 
-  abbrev to-do : Do 𝓤 H A at-mem run .Ghost
-  to-do = ((tt, tt, tt, nums, passed), tt)
+  abbrev to-call : Call 𝓤 H A at-mem run .Ghost
+  to-call = ((tt, tt, tt, nums, passed), tt)
 
-  goes-do : Is S.the-row h (store-val h ∷ []) → n < 2 ^ 32 → i < 2 ^ 32 → j < 2 ^ 32 → ent 𝓤 (emp 𝓤) (Do 𝓤 H A at-mem run .pre to-do)
-  goes-do is gn gi gj =
+  goes-call : Is S.the-row h (store-val h ∷ []) → n < 2 ^ 32 → i < 2 ^ 32 → j < 2 ^ 32 → ent 𝓤 (emp 𝓤) (Call 𝓤 H A at-mem run .pre to-call)
+  goes-call is gn gi gj =
       qed W [] ∵ nothing ! $ owned ! usize (Is usize) (uint-makes 𝓤 H A W w64) 0 _ (refl, lit< tt) $ fjoin ! $
       owned ! u32 (Is u32) (uint-makes 𝓤 H A W w32) j _ (refl, gj) $ fjoin ! $ owned ! u32 (Is u32) (uint-makes 𝓤 H A W w32) i _ (refl, gi) $ fjoin ! $ owned ! u32 (Is u32) (uint-makes 𝓤 H A W w32) n _ (refl, gn) $ fjoin ! $
       owned ! S.the-row (Is S.the-row) (LL.makes S.the-type S′.the-plain 𝓤 H A) h _ is $ fjoin ! $ nothing ! $ join ! $ frame ! $ done !
 
-  do-said : (r : Outcome) → ent 𝓤 (ensured 𝓤 H A step.ended (step.clauses 𝓤 H A at-mem run) tt nums tt r) (fact 𝓤 (r ≡ does))
-  do-said r = exE 𝓤 _ (λ ws. snd∗ 𝓤 (sem 𝓤 H A (lasts step.ended tt nums ws)) (fact 𝓤 (r ≡ does)))
+  said : (r : Outcome) → ent 𝓤 (ensured 𝓤 H A call.ended (call.clauses 𝓤 H A at-mem run) tt nums tt r) (fact 𝓤 (r ≡ does))
+  said r = exE 𝓤 _ (λ ws. snd∗ 𝓤 (sem 𝓤 H A (lasts call.ended tt nums ws)) (fact 𝓤 (r ≡ does)))
 
   exits : (r : Outcome) → n < 2 ^ 32 → i < 2 ^ 32 → j < 2 ^ 32 → Is R.the-row (r .answer) (answer-val (r .answer) ∷ []) → r ≡ does
       → ent 𝓤 (sep 𝓤 (A .obs γ (S.the-row .coded .code (r .store))) (sep 𝓤 (A .bor κ (Body (mem S.the-row) b o γ)) (A .lft κ q))) (Post (answer-val (r .answer)))
@@ -113,7 +113,7 @@ module _ {M : Type 1} (𝓤 : URA M) (H : Heap 𝓤) (A : Atoms 𝓤) (W : Given
       owned ! u32 (Is u32) (uint-makes 𝓤 H A W w32) i _ (refl, gi) $ fjoin ! $ owned ! u32 (Is u32) (uint-makes 𝓤 H A W w32) n _ (refl, gn) $ fjoin ! $ move ! (1 ∷ 0 ∷ []) $ fjoin ! $
       owned ! R.the-row (Is R.the-row) (LL.makes R.the-type R′.the-plain 𝓤 H A) (r .answer) _ ia $ move ! (1 ∷ 0 ∷ []) $ done !
 
-  module _ (C : Calls 𝓤 H) (Λ : Loops 𝓤 H) (fm : FmC 𝓤 H (W .laws) C) (known : Triple 𝓤 (C #runner·do-step) (Do 𝓤 H A at-mem run)) where
+  module _ (C : Calls 𝓤 H) (Λ : Loops 𝓤 H) (fm : FmC 𝓤 H (W .laws) C) (known : Triple 𝓤 (C #runner·do-step) (Call 𝓤 H A at-mem run)) where
     walk : n < 2 ^ 32 → i < 2 ^ 32 → j < 2 ^ 32 → ent 𝓤 (onEntry 𝓤 H A f.signature (κ, tt) (q, tt) x at) (WpFn 𝓤 H C Λ code.function (vptr b o ∷ vint w32 n ∷ vint w32 i ∷ vint w32 j ∷ []) Post)
     walk gn gi gj =
         qed W ((‵ (flft κ q) ⊛ ‵ ftrue) ∷ ‵ (owns (MutRef (named 0) κ S.the-row ∷ u32 ∷ u32 ∷ u32 ∷ []) x at) ∷ []) ∵ split ! $ move ! (2 ∷ []) $ fsplit ! $ fsplit3 ! $ drop ! $ move ! (0 ∷ 1 ∷ 3 ∷ []) $
@@ -125,11 +125,11 @@ module _ {M : Type 1} (𝓤 : URA M) (H : Heap 𝓤) (A : Atoms 𝓤) (W : Given
         move ! (1 ∷ []) $ peeks ! S.the-row (Is S.the-row) (shows 𝓤 H A S.the-row) h (LL.vals S.the-type S′.the-laws h) (λ was. move ! (1 ∷ 0 ∷ []) $
         -- [the store's cell; what a Store owns; the open borrow; obs; auth; _6; …; _0; …]
         assigns ! (of-opd ! (load ! (from ! (hop ! (look ! 15 refl) (stop !))) (look-raw ! 0 refl))) (from ! (stop !)) (init ! 5 refl (LL.lawful S.the-type S′.the-laws 𝓤 H A W .typed h _ was .0)) $
-        use0 W (raw (Do 𝓤 H A at-mem run .pre to-do)) (goes-do was gn gi gj) $
-        calls-at ! fm (Do 𝓤 H A at-mem run) known to-do
+        use0 W (raw (Call 𝓤 H A at-mem run .pre to-call)) (goes-call was gn gi gj) $
+        calls-at ! fm (Call 𝓤 H A at-mem run) known to-call
         (and-then ! (load ! (from ! (stop !)) (look ! 6 refl)) (and-then ! (load ! (from ! (stop !)) (look ! 14 refl)) (and-then ! (load ! (from ! (stop !)) (look ! 12 refl)) (and-then ! (load ! (from ! (stop !)) (look ! 10 refl)) (and-then ! (lit ! tt) (no-more !)))))) (λ u.
-        use1 W (later (some (λ (r : Outcome). (‵ ftrue ⊛ ‵ (O.the-row .own r (u ∷ []))) ⊛ raw (ensured 𝓤 H A step.ended (step.clauses 𝓤 H A at-mem run) tt nums tt r)))) (id⊢ 𝓤 _) $ await ! tt $ pick ! (λ r.
-        split ! $ move ! (1 ∷ []) $ use1 W (raw (fact 𝓤 (r ≡ does))) (do-said r) $ heard ! (r ≡ does) (λ e. split ! $ drop ! $
+        use1 W (later (some (λ (r : Outcome). (‵ ftrue ⊛ ‵ (O.the-row .own r (u ∷ []))) ⊛ raw (ensured 𝓤 H A call.ended (call.clauses 𝓤 H A at-mem run) tt nums tt r)))) (id⊢ 𝓤 _) $ await ! tt $ pick ! (λ r.
+        split ! $ move ! (1 ∷ []) $ use1 W (raw (fact 𝓤 (r ≡ does))) (said r) $ heard ! (r ≡ does) (λ e. split ! $ drop ! $
         peeks ! O.the-row (Is O.the-row) (shows 𝓤 H A O.the-row) r (u ∷ []) (λ ir.
         land ! (from ! (stop !)) (init ! 8 refl (LL.lawful O.the-type O′.the-laws 𝓤 H A W .typed r _ ir .0)) $
         rewrite ! 8 (λ (w : Val). ‵ (fat fullShare O′.mir l₅ 0 w)) (spelled r u ir) refl $ drop ! $
@@ -142,7 +142,7 @@ module _ {M : Type 1} (𝓤 : URA M) (H : Heap 𝓤) (A : Atoms 𝓤) (W : Given
         keep ! (0 ∷ 1 ∷ 2 ∷ []) $ by ! (exits r gn gi gj (LL.owed O.the-type O′.the-laws r _ ir .0) e))))))))))))))
 
 module _ {M : Type 1} (𝓤 : URA M) (H : Heap 𝓤) (A : Atoms 𝓤) (W : Given 𝓤 H A) (at-mem : Memory → SProp 𝓤) (run : Routine → Fun 𝓤) where
-  f-walks : (C : Calls 𝓤 H) (Λ : Loops 𝓤 H) → FmC 𝓤 H (W .laws) C → Triple 𝓤 (C #runner·do-step) (Do 𝓤 H A at-mem run) → Walks 𝓤 H A f.ended stayed (WpFn 𝓤 H C Λ code.function) (f.clauses 𝓤 H A at-mem run)
+  f-walks : (C : Calls 𝓤 H) (Λ : Loops 𝓤 H) → FmC 𝓤 H (W .laws) C → Triple 𝓤 (C #runner·do-step) (Call 𝓤 H A at-mem run) → Walks 𝓤 H A f.ended stayed (WpFn 𝓤 H C Λ code.function) (f.clauses 𝓤 H A at-mem run)
   f-walks C Λ fm known = walked 𝓤 H A f.ended stayed (f.clauses 𝓤 H A at-mem run) (WpFn 𝓤 H C Λ code.function) (λ κs. (ptr-vals, (uint-vals w32, (uint-vals w32, (uint-vals w32, tt))))) (λ κs. (mut-tells (named 0) (κs .0) S.the-row, (uint-tells w32, (uint-tells w32, (uint-tells w32, tt)))))
       (λ κs qs bounds a g are. via 𝓤 _ (fst∗ 𝓤 _ (emp 𝓤)) (walk 𝓤 H A W at-mem run (κs .0) (qs .0) (a .0 .ptr .0) (a .0 .ptr .1) (a .0 .name) (a .0 .now) (a .1 .0) (a .1 .1 .0) (a .1 .1 .1 .0) C Λ fm known (are .1 .0 .1) (are .1 .1 .0 .1) (are .1 .1 .1 .0 .1)))
 
@@ -150,7 +150,7 @@ module _ {M : Type 1} (𝓤 : URA M) (H : Heap 𝓤) (A : Atoms 𝓤) (W : Given
   goes = (goes-ref 𝓤 H A W 1 0 tt (plain (λ _. S.the-row)), (goes-none 𝓤 H A W 1 (λ _. u32) yes (λ κs x f. refl), (goes-none 𝓤 H A W 1 (λ _. u32) yes (λ κs x f. refl), (goes-none 𝓤 H A W 1 (λ _. u32) yes (λ κs x f. refl), tt))))
 
 f-meets : {M : Type 1} (𝓤 : URA M) (H : Heap 𝓤) (A : Atoms 𝓤) (W : Given 𝓤 H A) (at-mem : Memory → SProp 𝓤) (run : Routine → Fun 𝓤) (𝓣 : Tables 𝓤 H)
-    → Triple 𝓤 (𝓣 .C #runner·do-step) (Do 𝓤 H A at-mem run) → Meets 𝓤 H A f.signature (WpFn 𝓤 H (𝓣 .C) (𝓣 .Λ) code.function) (f.spec 𝓤 H A at-mem run)
+    → Triple 𝓤 (𝓣 .C #runner·do-step) (Call 𝓤 H A at-mem run) → Meets 𝓤 H A f.signature (WpFn 𝓤 H (𝓣 .C) (𝓣 .Λ) code.function) (f.spec 𝓤 H A at-mem run)
 f-meets 𝓤 H A W at-mem run 𝓣 known = walk-meets 𝓤 H A f.ended stayed W (goes 𝓤 H A W at-mem run) (f.clauses 𝓤 H A at-mem run) (WpFn 𝓤 H (𝓣 .C) (𝓣 .Λ) code.function) (WpFn-mono 𝓤 H (W .laws) 𝓣 code.function) (f-walks 𝓤 H A W at-mem run (𝓣 .C) (𝓣 .Λ) (fmOf 𝓤 H (W .laws) 𝓣) known)
 
 pub olipranj-step-spec : {M : Type 1} → stated.statement M
@@ -159,4 +159,4 @@ olipranj-step-spec 𝓤 H 𝓜 𝓖 𝓡 =
     entered 𝓤 H (tripleOf 𝓤 H (𝓖 .A) f.signature (f.spec 𝓤 H (𝓖 .A) (𝓜 .mem) (𝓡 .run)))
     (tables 𝓤 H 𝓜 𝓡 code.env .C) (tables 𝓤 H 𝓜 𝓡 code.env .Λ) #export·olipranj-step code.function (code.unfolded 𝓤 H 𝓜 𝓡)
     (f-meets 𝓤 H (𝓖 .A) (givenOf 𝓤 H 𝓜 𝓖) (𝓜 .mem) (𝓡 .run) (tablesOf 𝓤 H 𝓜 (tables 𝓤 H 𝓜 𝓡 code.env))
-    (cited 𝓤 H (Do 𝓤 H (𝓖 .A) (𝓜 .mem) (𝓡 .run)) 𝓜 𝓡 code.env #runner·do-step step-def.routine code.calls-runner·do-step (step-thm.met 𝓤 H 𝓜 𝓖 𝓡)))
+    (cited 𝓤 H (Call 𝓤 H (𝓖 .A) (𝓜 .mem) (𝓡 .run)) 𝓜 𝓡 code.env #runner·do-step call-def.routine code.calls-runner·do-step (call-thm.met 𝓤 H 𝓜 𝓖 𝓡)))
