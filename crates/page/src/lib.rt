@@ -42,7 +42,17 @@ fn write_now<'a>(
 pub fn page(store: Store, sample: u32, buffer: &mut [u8]) -> Answer
     ensures { λ r. ⌜ Pages store sample (now (buffer .entry)) r (now (buffer .exit)) ⌝ }
 {
-    if !rules::good_store(store) {
+    let slots = store.slots;
+    if !rules::good(
+        store.plan,
+        store.clock,
+        &store.counts,
+        &store.keys,
+        &store.kinds,
+        &store.values,
+        &store.stamps,
+        slots,
+    ) {
         return Answer::bare(Answer::BADSTORE);
     }
     if LAST_SAMPLE < sample {
@@ -71,7 +81,17 @@ pub fn page(store: Store, sample: u32, buffer: &mut [u8]) -> Answer
 pub fn serve<'a>(store: Store, sample: u32, kept: &'a [u8], notice: &'a [u8]) -> &'a [u8]
     ensures { λ r. ⌜ Serves store sample (kept .entry) (notice .entry) r ⌝ }
 {
-    if !rules::good_store(store) {
+    let slots = store.slots;
+    if !rules::good(
+        store.plan,
+        store.clock,
+        &store.counts,
+        &store.keys,
+        &store.kinds,
+        &store.values,
+        &store.stamps,
+        slots,
+    ) {
         return notice;
     }
     if LAST_SAMPLE < sample {
