@@ -19,7 +19,7 @@ use Rattle.store.specs.declared.Store.{Store}
 use Rattle.store.specs.Answers.{DONE, BADSTORE, CLOCK, FULL, answer, bare}
 use Rattle.store.specs.Copies.{copy, noCopy, keyOf, find}
 use Rattle.store.specs.State.{State, nodeAt, lastClock}
-use Rattle.store.specs.Layout.{width, countOf, stateOf, column, storeOf}
+use Rattle.store.specs.Layout.{width, countOf, stateOf, column}
 use Rattle.store.specs.StoreRules.{goodStore}
 use Rattle.store.specs.Calls.{onStore}
 use Rattle.store.specs.Workers.{below, placeIn, RisesIn, opened}
@@ -44,13 +44,10 @@ pub acceptance-made : (at end count clock : ℕ) {a : Answer} → a ≡ answer D
     → record { answer = a; accepted = true; at = at; end = end; count = count; clock = clock + 1 } ≡ acceptance at end count clock
 acceptance-made at end count clock e = rw e
 
--- A column with the number put in, if the entry is accepted; or as it was.
+-- A column with the number put in, where the entry is accepted.
 pub column-put : (d : Decision) (column : List ℕ) (number : ℕ) → d .accepted ≡ true → {after : List ℕ}
     → after ≡ opened column (d .at) (d .end) number → after ≡ columnBy d column number
 column-put d column number h e = rw h e
-
-pub column-kept : (d : Decision) (column : List ℕ) (number : ℕ) → d .accepted ≡ false → column ≡ columnBy d column number
-column-kept d column number h = rw h
 
 -- Four columns written by a decision are the outcome by it.
 pub outcome-by : (z : Store) (key kind v : ℕ) (d : Decision) → Decides z key d → {keys kinds values stamps : List ℕ}
@@ -71,10 +68,11 @@ pub outcome-by : (z : Store) (key kind v : ℕ) (d : Decision) → Decides z key
     } ≡ onStore (entry kind key v) z
 outcome-by z key kind v d h a b c e = rw (a, b, c, e) (h .right kind v)
 
--- A refusal, the store as it was: its count is written back.
+-- A refusal leaves the store as it was: the count that was there is written,
 kept : (z : Store) (number kind key v : ℕ) → outcomeBy (refusal number (countOf z 0) (z .clock)) z kind key v ≡ record { answer = bare number; store = z }
 kept z number kind key v = rw (set-getD (z .counts) 0 0)
 
+-- and so it is decided where the entry is refused.
 refused-by : (z : Store) (number key : ℕ) (d : Decision) → d ≡ refusal number (countOf z 0) (z .clock)
     → ((kind v : ℕ) → record { answer = bare number; store = z } ≡ onStore (entry kind key v) z) → Decides z key d
 refused-by z number key d e h = rw e (record { in-root = (omega arith, omega arith); right = λ kind v. kept z number kind key v ∙ h kind v })
@@ -130,7 +128,7 @@ module _ (z : Store) (good : goodStore z ≡ true) where
   root-key i h = rw zero-add at (sym (ap keyOf (state-copy z 0 i (root-there z good) h)))
 
   -- A place that is free by the root's capacity is one of its places.
-  pub has-place : (most : ℕ) → most ≡ capacityOf p 0 → countOf z 0 < most → countOf z 0 < width
+  has-place : (most : ℕ) → most ≡ capacityOf p 0 → countOf z 0 < most → countOf z 0 < width
   has-place most e h = omega (arith, plan-good z good .capacity-1-to-64 0 (root-there z good))
 
   -- "CLOCK: entry at clock 4294967295"
@@ -145,7 +143,7 @@ module _ (z : Store) (good : goodStore z ≡ true) where
         let e = node-place z 0 0 (countOf z 0) k (omega arith) (omega arith) in
         rw (state-node z 0 (root-there z good)) (omega arith)
 
-    pub at-most : at ≤ countOf z 0
+    at-most : at ≤ countOf z 0
     at-most = omega (arith, at-below, below-length keyOf root k, root-count)
 
     module _ (kind v : ℕ) (early : z .clock < lastClock) where

@@ -1,6 +1,6 @@
 -- `entries::put` meets its contract. Assumes nothing.
 use borrow.Author.Needs.{needs}
-use Rattle.entries.proofs.Entering.{column-put, column-kept}
+use Rattle.entries.proofs.Entering.{column-put}
 use Rattle.entries.proofs.put.Statement.{statement}
 use Rattle.entries.proofs.put.Tie as tie
 
