@@ -1,4 +1,5 @@
--- An entry, way by way: a bad store, the clock at its last value, a copy replaced, a copy added, and a full root. Assumes nothing.
+-- The decision of an entry, way by way: a bad store, the clock at its last value, a copy replaced, a copy added, and a full root.
+-- Assumes nothing.
 use mathlib.Core.Path.{_≡_, refl, sym, ap, _∙_}
 use mathlib.Core.Bool.{true, false}
 use mathlib.Core.List.{List, _∷_, _++_}
@@ -14,44 +15,76 @@ use Rattle.plan.specs.Plan.{Plan, capacityOf}
 use Rattle.plan.specs.PlanTable.{planOf}
 use Rattle.store.specs.declared.Answer.{Answer}
 use Rattle.store.specs.declared.Copy.{Copy}
-use Rattle.store.specs.declared.Outcome.{Outcome}
 use Rattle.store.specs.declared.Store.{Store}
 use Rattle.store.specs.Answers.{DONE, BADSTORE, CLOCK, FULL, answer, bare}
 use Rattle.store.specs.Copies.{copy, noCopy, keyOf, find}
 use Rattle.store.specs.State.{State, nodeAt, lastClock}
-use Rattle.store.specs.Layout.{width, countOf, stateOf, column, storeOf}
+use Rattle.store.specs.Layout.{width, countOf, stateOf, column}
 use Rattle.store.specs.StoreRules.{goodStore}
 use Rattle.store.specs.Calls.{onStore}
 use Rattle.store.specs.Workers.{below, placeIn, RisesIn, opened}
-use Rattle.store.proofs.Laying.{set-one, counts-written, copy-written, store-is, length-nodes, state-node, state-count, state-copy, state-clock, state-slots}
+use Rattle.store.proofs.Laying.{set-one, length-column, counts-written, copy-written, store-is, length-nodes, state-node, state-count, state-copy, state-clock, state-slots}
+use Rattle.store.proofs.Opening.{opened-start, opened-set}
 use Rattle.store.proofs.Seeking.{below-length, find-rising, find-none}
 use Rattle.store.proofs.Lifting.{on-bad, plan-good, state-good, on-way, on-refusal}
 use Rattle.store.proofs.GoodNodes.{node-place, root-there, count-fits, node-rises, counts-are, keys-are, kinds-are, values-are, stamps-are}
 use Rattle.steps.specs.Entries.{put, room, refused, entered, entry}
 use Rattle.steps.proofs.NodeLists.{room-has, room-free, room-none}
 use Rattle.steps.proofs.Putting.{put-replaced, put-added}
-use Rattle.entries.specs.Columns.{overCopy, withCopy}
+use Rattle.entries.specs.declared.decision.Decision.{Decision}
+use Rattle.entries.specs.Decisions.{refusal, acceptance, columnBy, outcomeBy, Decides}
 use Rattle.entries.proofs.Shifting.{copy-opened}
 
--- Four columns with a number put in are the store with the copy.
-pub four-opened : (z : Store) (at end k kind v : ℕ) {keys kinds values stamps : List ℕ} → keys ≡ opened (z .keys) at end k
-    → kinds ≡ opened (z .kinds) at end kind → values ≡ opened (z .values) at end v → stamps ≡ opened (z .stamps) at end (z .clock)
+-- A refusal and an accepted entry, as they are made.
+pub refusal-made : (number count clock : ℕ) {a : Answer} → a ≡ bare number
+    → record { answer = a; accepted = false; at = 0; end = 0; count = count; clock = clock } ≡ refusal number count clock
+refusal-made number count clock e = rw e
+
+pub acceptance-made : (at end count clock : ℕ) {a : Answer} → a ≡ answer DONE clock 0 0 0
+    → record { answer = a; accepted = true; at = at; end = end; count = count; clock = clock + 1 } ≡ acceptance at end count clock
+acceptance-made at end count clock e = rw e
+
+-- A column with the number put in, where the entry is accepted.
+pub column-put : (d : Decision) (column : List ℕ) (number : ℕ) → d .accepted ≡ true → {after : List ℕ}
+    → after ≡ opened column (d .at) (d .end) number → after ≡ columnBy d column number
+column-put d column number h e = rw h e
+
+-- Four columns written by a decision are the outcome by it.
+pub outcome-by : (z : Store) (key kind v : ℕ) (d : Decision) → Decides z key d → {keys kinds values stamps : List ℕ}
+    → keys ≡ columnBy d (z .keys) key → kinds ≡ columnBy d (z .kinds) kind → values ≡ columnBy d (z .values) v
+    → stamps ≡ columnBy d (z .stamps) (z .clock)
     → record {
-      plan = z .plan;
-      clock = z .clock + 1;
-      counts = set (z .counts) 0 (end + 1);
-      keys = keys;
-      kinds = kinds;
-      values = values;
-      stamps = stamps;
-      slots = z .slots;
-    } ≡ withCopy z at end k kind v
-four-opened z at end k kind v a b c d = rw (a, b, c, d)
+      answer = d .answer;
+      store = record {
+        plan = z .plan;
+        clock = d .clock;
+        counts = set (z .counts) 0 (d .count);
+        keys = keys;
+        kinds = kinds;
+        values = values;
+        stamps = stamps;
+        slots = z .slots;
+      };
+    } ≡ onStore (entry kind key v) z
+outcome-by z key kind v d h a b c e = rw (a, b, c, e) (h .right kind v)
+
+-- A refusal leaves the store as it was: the count that was there is written,
+kept : (z : Store) (number kind key v : ℕ) → outcomeBy (refusal number (countOf z 0) (z .clock)) z kind key v ≡ record { answer = bare number; store = z }
+kept z number kind key v = rw (set-getD (z .counts) 0 0)
+
+-- and so it is decided where the entry is refused.
+refused-by : (z : Store) (number key : ℕ) (d : Decision) → d ≡ refusal number (countOf z 0) (z .clock)
+    → ((kind v : ℕ) → record { answer = bare number; store = z } ≡ onStore (entry kind key v) z) → Decides z key d
+refused-by z number key d e h = rw e (record { in-root = (omega arith, omega arith); right = λ kind v. kept z number kind key v ∙ h kind v })
+
+-- Opened for one place alone, a column is stored into.
+opened-one : (c : List ℕ) (at x : ℕ) → at < length c → opened c at at x ≡ set c at x
+opened-one c at x h =
+    sym (opened-set c at 0 h at (getD c at 0) x (omega arith)) ∙ ap (λ (l : List ℕ). set l at x) (sym (opened-start c at 0 h))
 
 -- BADSTORE comes first, and leaves the store as it was.
-pub entry-bad : (z : Store) (kind k v : ℕ) → goodStore z ≡ false → (r : Outcome) → r ≡ record { answer = bare BADSTORE; store = z }
-    → r ≡ onStore (entry kind k v) z
-entry-bad z kind k v bad r e = e ∙ sym (on-bad (entry kind k v) z bad)
+pub decides-bad : (z : Store) (key : ℕ) (d : Decision) → goodStore z ≡ false → d ≡ refusal BADSTORE (countOf z 0) (z .clock) → Decides z key d
+decides-bad z key d bad e = refused-by z BADSTORE key d e (λ kind v. sym (on-bad (entry kind key v) z bad))
 
 -- The three ways of an entry on a state.
 module _ (kind k v : ℕ) (p : Plan) (s : State) where
@@ -95,14 +128,13 @@ module _ (z : Store) (good : goodStore z ≡ true) where
   root-key i h = rw zero-add at (sym (ap keyOf (state-copy z 0 i (root-there z good) h)))
 
   -- A place that is free by the root's capacity is one of its places.
-  pub has-place : (most : ℕ) → most ≡ capacityOf p 0 → countOf z 0 < most → countOf z 0 < width
+  has-place : (most : ℕ) → most ≡ capacityOf p 0 → countOf z 0 < most → countOf z 0 < width
   has-place most e h = omega (arith, plan-good z good .capacity-1-to-64 0 (root-there z good))
 
   -- "CLOCK: entry at clock 4294967295"
-  pub entry-at-last : (kind k v : ℕ) → lastClock ≤ z .clock → (r : Outcome) → r ≡ record { answer = bare CLOCK; store = z }
-      → r ≡ onStore (entry kind k v) z
+  pub decides-late : (key : ℕ) (d : Decision) → lastClock ≤ z .clock → d ≡ refusal CLOCK (countOf z 0) (z .clock) → Decides z key d
   unfolding stateOf
-  entry-at-last kind k v h r e = e ∙ on-refusal (entry kind k v) z good CLOCK (at-last kind k v p s h)
+  decides-late key d h e = refused-by z CLOCK key d e (λ kind v. on-refusal (entry kind key v) z good CLOCK (at-last kind key v p s h))
 
   -- The place of the key among the root's.
   module _ (k at : ℕ) (place : at ≡ placeIn (z .keys) 0 (countOf z 0) k) where
@@ -111,7 +143,7 @@ module _ (z : Store) (good : goodStore z ≡ true) where
         let e = node-place z 0 0 (countOf z 0) k (omega arith) (omega arith) in
         rw (state-node z 0 (root-there z good)) (omega arith)
 
-    pub at-most : at ≤ countOf z 0
+    at-most : at ≤ countOf z 0
     at-most = omega (arith, at-below, below-length keyOf root k, root-count)
 
     module _ (kind v : ℕ) (early : z .clock < lastClock) where
@@ -121,33 +153,20 @@ module _ (z : Store) (good : goodStore z ≡ true) where
       abbrev after : List (List Copy)
       after = set (s .nodes) 0 (put keyOf x root)
 
-      -- A store with the columns of the nodes after the entry.
-      made : (counts keys kinds values stamps : List ℕ) → counts ≡ set (z .counts) 0 (length (put keyOf x root))
-          → keys ≡ column (λ (y : Copy). y .key) after → kinds ≡ column (λ (y : Copy). y .kind) after
-          → values ≡ column (λ (y : Copy). y .value) after → stamps ≡ column (λ (y : Copy). y .stamp) after
-          → record {
-            plan = z .plan;
-            clock = z .clock + 1;
-            counts = counts;
-            keys = keys;
-            kinds = kinds;
-            values = values;
-            stamps = stamps;
-            slots = z .slots;
-          } ≡ storeOf (z .plan) (entered x s)
-      unfolding entered
-      made counts keys kinds values stamps n a b c d =
-          store-is (z .plan) (entered x s) _ refl (omega (arith, state-clock z))
-          (n ∙ ap (λ (l : List ℕ). set l 0 (length (put keyOf x root))) (counts-are z good)
+      -- An entry that the root has room for: its count and its columns are those of the nodes after the entry.
+      done : (end count : ℕ) → room keyOf (capacityOf p 0) root k ≡ true → count ≡ length (put keyOf x root)
+          → ((part : Copy → ℕ) (c : List ℕ) → c ≡ column part (s .nodes) → opened c at end (part x) ≡ column part after)
+          → outcomeBy (acceptance at end count (z .clock)) z kind k v ≡ onStore (entry kind k v) z
+      unfolding stateOf entered
+      done end count h n each =
+          on-way (entry kind k v) z good (answer DONE (z .clock) 0 0 0) (entered x s) _ (has-room kind k v p s early h)
+          (store-is (z .plan) (entered x s) _ refl (omega (arith, state-clock z))
+          (ap (λ (m : ℕ). set (z .counts) 0 m) n ∙ ap (λ (l : List ℕ). set l 0 (length (put keyOf x root))) (counts-are z good)
           ∙ sym (counts-written (set-one (s .nodes) 0 (put keyOf x root) root-listed)))
-          a b c d (sym (state-slots z))
-
-      -- An entry that the root has room for.
-      done : (a : Answer) (r : Store) → a ≡ answer DONE (z .clock) 0 0 0 → r ≡ storeOf (z .plan) (entered x s)
-          → room keyOf (capacityOf p 0) root k ≡ true → record { answer = a; store = r } ≡ onStore (entry kind k v) z
-      unfolding stateOf
-      done a r e q h =
-          rw e (on-way (entry kind k v) z good (answer DONE (z .clock) 0 0 0) (entered x s) r (has-room kind k v p s early h) q)
+          (each (λ (y : Copy). y .key) (z .keys) (keys-are z good))
+          (each (λ (y : Copy). y .kind) (z .kinds) (kinds-are z good))
+          (each (λ (y : Copy). y .value) (z .values) (values-are z good))
+          (each (λ (y : Copy). y .stamp) (z .stamps) (stamps-are z good)) (sym (state-slots z)))
 
       -- The root has the key: each column is stored into at the place.
       module _ (held : at < countOf z 0) (same : getD (z .keys) at 0 ≡ k) where
@@ -157,31 +176,21 @@ module _ (z : Store) (good : goodStore z ≡ true) where
         over : put keyOf x root ≡ set root at x
         over = put-replaced keyOf noCopy x root at at-below (omega (arith, root-count)) its-key
 
-        over-column : (part : Copy → ℕ) (c : List ℕ) → c ≡ column part (s .nodes) → set c at (part x) ≡ column part after
+        over-column : (part : Copy → ℕ) (c : List ℕ) → c ≡ column part (s .nodes) → opened c at at (part x) ≡ column part after
         over-column part c e =
-            ap (λ (l : List ℕ). set l at (part x)) e
+            ap (λ (l : List ℕ). opened l at at (part x)) e
+            ∙ opened-one (column part (s .nodes)) at (part x) (omega (arith, length-column part (s .nodes), root-fits))
             ∙ (rw zero-add at
             (copy-written part (s .nodes) 0 at x root-listed (omega arith) (omega (arith, root-count)) (omega (arith, root-fits))))
             ∙ ap (λ (ys : List Copy). column part (set (s .nodes) 0 ys)) (sym over)
 
-        over-store : overCopy z at kind v ≡ storeOf (z .plan) (entered x s)
-        over-store =
-            made (z .counts) (z .keys) (set (z .kinds) at kind) (set (z .values) at v) (set (z .stamps) at (z .clock))
-            (sym (set-getD (z .counts) 0 0) ∙ ap (λ (n : ℕ). set (z .counts) 0 n) (sym (ap length over ∙ length-set root at x ∙ root-count)))
-            (sym (set-getD (z .keys) at 0) ∙ ap (λ (n : ℕ). set (z .keys) at n) same
-            ∙ over-column (λ (y : Copy). y .key) (z .keys) (keys-are z good))
-            (over-column (λ (y : Copy). y .kind) (z .kinds) (kinds-are z good))
-            (over-column (λ (y : Copy). y .value) (z .values) (values-are z good))
-            (over-column (λ (y : Copy). y .stamp) (z .stamps) (stamps-are z good))
-
         found : find keyOf root k ≡ some (getD root at noCopy)
         found = find-rising keyOf noCopy root (state-good z good .keys-strictly-rise 0) k at (omega (arith, root-count)) its-key
 
-        -- "A root copy of that key is replaced",
-        pub entry-replaced : (a : Answer) (r : Store) → a ≡ answer DONE (z .clock) 0 0 0 → r ≡ overCopy z at kind v
-            → record { answer = a; store = r } ≡ onStore (entry kind k v) z
-        entry-replaced a r e q =
-            done a r e (q ∙ over-store) (room-has keyOf (capacityOf p 0) root k (getD root at noCopy) found)
+        entry-replaced : outcomeBy (acceptance at at (countOf z 0) (z .clock)) z kind k v ≡ onStore (entry kind k v) z
+        entry-replaced =
+            done at (countOf z 0) (room-has keyOf (capacityOf p 0) root k (getD root at noCopy) found)
+            (sym (ap length over ∙ length-set root at x ∙ root-count)) over-column
 
       -- The root lacks the key: each column is opened at the place.
       module _ (lacks : at < countOf z 0 → getD (z .keys) at 0 ≡ k → ⊥) where
@@ -191,40 +200,46 @@ module _ (z : Store) (good : goodStore z ≡ true) where
         between : put keyOf x root ≡ take at root ++ x ∷ drop at root
         between = put-added keyOf noCopy x root at at-below no-key
 
-        with-column : (part : Copy → ℕ) (c : List ℕ) → c ≡ column part (s .nodes) → countOf z 0 < width
+        with-column : countOf z 0 < width → (part : Copy → ℕ) (c : List ℕ) → c ≡ column part (s .nodes)
             → opened c at (countOf z 0) (part x) ≡ column part after
-        with-column part c e h =
+        with-column h part c e =
             ap (λ (l : List ℕ). opened l at (countOf z 0) (part x)) e
             ∙ (rw (zero-add, zero-add, root-count) at
             (copy-opened part (s .nodes) 0 at x root-listed (omega arith) (omega (arith, at-most, root-count)) (omega (arith, root-count))))
             ∙ ap (λ (ys : List Copy). column part (set (s .nodes) 0 ys)) (sym between)
-
-        with-store : countOf z 0 < width → withCopy z at (countOf z 0) k kind v ≡ storeOf (z .plan) (entered x s)
-        with-store h =
-            made _ _ _ _ _
-            (ap (λ (n : ℕ). set (z .counts) 0 n)
-            (omega (arith, root-count, ap length between, length-put-in x root at (omega (arith, at-most, root-count)))))
-            (with-column (λ (y : Copy). y .key) (z .keys) (keys-are z good) h)
-            (with-column (λ (y : Copy). y .kind) (z .kinds) (kinds-are z good) h)
-            (with-column (λ (y : Copy). y .value) (z .values) (values-are z good) h)
-            (with-column (λ (y : Copy). y .stamp) (z .stamps) (stamps-are z good) h)
 
         missing : find keyOf root k ≡ none
         missing =
             find-none keyOf noCopy root (state-good z good .keys-strictly-rise 0) k
             (λ h e. let b = at-below in no-key (omega arith) (rw at-below e))
 
-        module _ (most : ℕ) (capacity : most ≡ capacityOf p 0) where
-          -- "otherwise one is added if the root has a free place".
-          pub entry-added : countOf z 0 < most → (a : Answer) (r : Store) → a ≡ answer DONE (z .clock) 0 0 0
-              → r ≡ withCopy z at (countOf z 0) k kind v → record { answer = a; store = r } ≡ onStore (entry kind k v) z
-          entry-added h a r e q =
-              done a r e (q ∙ with-store (has-place most capacity h)) (room-free keyOf (capacityOf p 0) root k (omega (arith, root-count)))
+        entry-added : countOf z 0 < capacityOf p 0 → countOf z 0 < width
+            → outcomeBy (acceptance at (countOf z 0) (countOf z 0 + 1) (z .clock)) z kind k v ≡ onStore (entry kind k v) z
+        entry-added h w =
+            done (countOf z 0) (countOf z 0 + 1) (room-free keyOf (capacityOf p 0) root k (omega (arith, root-count)))
+            (omega (arith, root-count, ap length between, length-put-in x root at (omega (arith, at-most, root-count)))) (with-column w)
 
-          -- "FULL: root full and lacks the key"
-          pub entry-full : most ≤ countOf z 0 → (r : Outcome) → r ≡ record { answer = bare FULL; store = z } → r ≡ onStore (entry kind k v) z
-          unfolding stateOf
-          entry-full h r e =
-              e
-              ∙ on-refusal (entry kind k v) z good FULL
-              (no-room kind k v p s early (room-none keyOf (capacityOf p 0) root k missing (omega (arith, root-count))))
+        entry-full : capacityOf p 0 ≤ countOf z 0 → record { answer = bare FULL; store = z } ≡ onStore (entry kind k v) z
+        unfolding stateOf
+        entry-full h =
+            on-refusal (entry kind k v) z good FULL
+            (no-room kind k v p s early (room-none keyOf (capacityOf p 0) root k missing (omega (arith, root-count))))
+
+    module _ (early : z .clock < lastClock) (d : Decision) where
+      -- "A root copy of that key is replaced",
+      pub decides-replaced : at < countOf z 0 → getD (z .keys) at 0 ≡ k → d ≡ acceptance at at (countOf z 0) (z .clock) → Decides z k d
+      decides-replaced held same e =
+          rw e
+          (record { in-root = (omega arith, omega (arith, root-fits)); right = λ kind v. entry-replaced kind v early held same })
+
+      module _ (lacks : at < countOf z 0 → getD (z .keys) at 0 ≡ k → ⊥) (most : ℕ) (capacity : most ≡ capacityOf p 0) where
+        -- "otherwise one is added if the root has a free place".
+        pub decides-added : countOf z 0 < most → d ≡ acceptance at (countOf z 0) (countOf z 0 + 1) (z .clock) → Decides z k d
+        decides-added h e =
+            let w = has-place most capacity h in
+            rw e
+            (record { in-root = (at-most, w); right = λ kind v. entry-added kind v early lacks (omega arith) w })
+
+        -- "FULL: root full and lacks the key"
+        pub decides-full : most ≤ countOf z 0 → d ≡ refusal FULL (countOf z 0) (z .clock) → Decides z k d
+        decides-full h e = refused-by z FULL k d e (λ kind v. entry-full kind v early lacks (omega arith))

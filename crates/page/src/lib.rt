@@ -42,7 +42,17 @@ fn write_now<'a>(
 pub fn page(store: Store, sample: u32, buffer: &mut [u8]) -> Answer
     ensures { λ r. ⌜ Pages store sample (now (buffer .entry)) r (now (buffer .exit)) ⌝ }
 {
-    if !rules::good_store(store) {
+    let slots = store.slots;
+    if !rules::good(
+        store.plan,
+        store.clock,
+        &store.counts,
+        &store.keys,
+        &store.kinds,
+        &store.values,
+        &store.stamps,
+        slots,
+    ) {
         return Answer::bare(Answer::BADSTORE);
     }
     if LAST_SAMPLE < sample {
@@ -70,7 +80,17 @@ pub fn page(store: Store, sample: u32, buffer: &mut [u8]) -> Answer
 pub fn served_length(store: Store, sample: u32, kept: &[u8]) -> usize
     ensures { λ r. ⌜ ServesLength store sample (now (kept .entry)) r ⌝ }
 {
-    if !rules::good_store(store) {
+    let slots = store.slots;
+    if !rules::good(
+        store.plan,
+        store.clock,
+        &store.counts,
+        &store.keys,
+        &store.kinds,
+        &store.values,
+        &store.stamps,
+        slots,
+    ) {
         return 0;
     }
     if LAST_SAMPLE < sample {

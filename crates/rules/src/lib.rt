@@ -65,20 +65,3 @@ pub fn good<'a>(
     }
     stamps::stamps_differ(counts, stamps)
 }
-
-// The same of a store in one piece, as the public calls take it. Its columns are lent where they lie.
-pub fn good_store(store: Store) -> bool
-    ensures { λ r. ⌜ r ≡ goodStore store ⌝ }
-{
-    let slots = store.slots;
-    good(
-        store.plan,
-        store.clock,
-        &store.counts,
-        &store.keys,
-        &store.kinds,
-        &store.values,
-        &store.stamps,
-        slots,
-    )
-}

@@ -1,5 +1,5 @@
 -- Why the runner gives what it promises: one law for each way out. Assumes nothing.
-use mathlib.Core.Path.{_≡_, sym, ap, _∙_}
+use mathlib.Core.Path.{_≡_, refl, sym, ap, _∙_}
 use mathlib.Core.Bool.{true, false, cond}
 use mathlib.Core.List.{List}
 use Prim.Native.Nat.{ℕ}
@@ -35,14 +35,13 @@ module _ (z : Store) (number x y place : ℕ) where
       e ∙ ap (λ (w : Effect). cond (goodStore z) (record { answer = w .answer; store = storeOf (z .plan) (w .after) }) (record { answer = bare BADSTORE; store = z }))
       (sym (same (planOf (z .plan)) (stateOf z)))
 
-  -- BADSTORE, also for an unknown step.
-  pub runs-bad : {r : Outcome} → goodStore z ≡ false → r ≡ record { answer = bare BADSTORE; store = z }
-      → r ≡ onStore (stepOf (stepRecord number x y) place) z
-  runs-bad bad e = e ∙ sym (on-bad (stepOf (stepRecord number x y) place) z bad)
+-- An unknown step: BADSTORE,
+module _ (z : Store) (place : ℕ) where
+  pub unknown-bad : {r : Outcome} → goodStore z ≡ false → r ≡ record { answer = bare BADSTORE; store = z }
+      → r ≡ onStore (λ p s. unknownStep place s) z
+  unknown-bad bad e = e ∙ sym (on-bad (λ p s. unknownStep place s) z bad)
 
-  -- OP with the place.
-  pub runs-unknown : {a : Answer} → goodStore z ≡ true → a ≡ answer OP place 0 0 0
-      → ((p : Plan) (s : State) → stepOf (stepRecord number x y) place p s ≡ unknownStep place s)
-      → record { answer = a; store = z } ≡ onStore (stepOf (stepRecord number x y) place) z
-  runs-unknown good e same =
-      rw e (on-way (stepOf (stepRecord number x y) place) z good (answer OP place 0 0 0) (stateOf z) z (same (planOf (z .plan)) (stateOf z)) (sym (good-back z good)))
+  -- or OP with the place.
+  pub unknown-op : {a : Answer} → goodStore z ≡ true → a ≡ answer OP place 0 0 0
+      → record { answer = a; store = z } ≡ onStore (λ p s. unknownStep place s) z
+  unknown-op good e = rw e (on-way (λ p s. unknownStep place s) z good (answer OP place 0 0 0) (stateOf z) z refl (sym (good-back z good)))

@@ -3,14 +3,37 @@ ghost use mathlib.Core.Path.{_≡_};
 ghost use lib.ListN.{getD};
 ghost use Rattle.store.specs.Calls.{onStore};
 ghost use Rattle.schedule.specs.Schedule.{stepRecord};
-ghost use Rattle.schedule.specs.Running.{noStep, stepOf};
+ghost use Rattle.schedule.specs.Running.{noStep, unknownStep, stepOf};
 ghost use Rattle.schedule.specs.Promises.{Runs};
 use schedule::Step;
 use store::Answer;
 use store::Outcome;
 use store::Store;
 
-// One step by its numbers: each has its call, which ignores what it does not use; an unknown one is OP with the place, after BADSTORE.
+// An unknown step: OP with the place, after BADSTORE. The store is lent here alone, so that no other step copies it for that.
+fn unknown(store: Store, place: usize) -> Outcome
+    ensures { λ r. ⌜ r ≡ onStore (λ p s. unknownStep place s) store ⌝ }
+{
+    let slots = store.slots;
+    if !rules::good(
+        store.plan,
+        store.clock,
+        &store.counts,
+        &store.keys,
+        &store.kinds,
+        &store.values,
+        &store.stamps,
+        slots,
+    ) {
+        return Outcome::refused(Answer::BADSTORE, store);
+    }
+    Outcome {
+        answer: Answer::of(Answer::OP, place as u64, 0, 0, 0),
+        store,
+    }
+}
+
+// One step by its numbers: each has its call, which ignores what it does not use.
 pub fn do_step(store: Store, number: u32, x: u32, y: u32, place: usize) -> Outcome
     ensures { λ r. ⌜ r ≡ onStore (stepOf (stepRecord number x y) place) store ⌝ }
 {
@@ -32,13 +55,7 @@ pub fn do_step(store: Store, number: u32, x: u32, y: u32, place: usize) -> Outco
     if number == Step::CANCEL {
         return searches::cancel(store, x);
     }
-    if !rules::good_store(store) {
-        return Outcome::refused(Answer::BADSTORE, store);
-    }
-    Outcome {
-        answer: Answer::of(Answer::OP, place as u64, 0, 0, 0),
-        store,
-    }
+    unknown(store, place)
 }
 
 // The record at a place; outside the list the record of zeros, whose step number is unknown.

@@ -13,16 +13,20 @@ use Rattle.page.proofs.PageWays.{Holds, page-held, page-bad-store, page
 use Rattle.page.proofs.page.Statement.{statement}
 use Rattle.page.proofs.page.Tie as tie
 
+-- The call's beginning, seen from the check.
+abbrev first : tie.After-good2 → tie.Start
+first g = g .before .before .before .before .before .before .before .before .before
+
 -- Past the first test the store is good,
-good : (i : tie.Else1) → goodStore (i .before .before .before .args .t1) ≡ true
-good i = sym (i .before .good-store .ensures) ∙ not-false (i .before .good-store .result) (i .if1 .left)
+good : (i : tie.Else1) → goodStore (first (i .before) .args .t1) ≡ true
+good i = sym (i .before .good2 .ensures) ∙ not-false (i .before .good2 .result) (i .if1 .left)
 
 -- past the second the sample is not too large, and past the writing of the scratch it begins with the sample's page.
 abbrev test : tie.After-write-now → tie.Else1
 test w = w .before .before .before .before .before .before .before .before .before
 
 abbrev entry : tie.After-write-now → tie.Start
-entry w = w .before .before .before .before .before .before .before .before .before .before .before .before
+entry w = first (test w .before)
 
 small : (w : tie.After-write-now) → entry w .args .sample ≤ lastSample
 small w = search needs
@@ -30,8 +34,8 @@ small w = search needs
 held : (w : tie.After-write-now) → Holds (pageNow (entry w .args .t1) (entry w .args .sample)) (w .write-now .result) (w .write-now .last .0)
 held w = page-held (entry w .args .t1) (entry w .args .sample) (small w) (search needs) (w .write-now .ensures)
 
-good-store-requires : tie.Need-good-store-requires
-good-store-requires c κs = search needs
+good-requires : tie.Need-good-requires
+good-requires c κs = search needs
 
 bare-requires : tie.Need-bare-requires
 bare-requires c κs = search needs
@@ -39,8 +43,8 @@ bare-requires c κs = search needs
 returns : tie.Need-returns
 returns c =
     let g = c .before .before in
-    let a = g .before .before .args in
-    page-bad-store (a .t1) (a .sample) (a .buffer .now) (sym (g .good-store .ensures) ∙ not-true (g .good-store .result) (c .before .if1 .taken)) (c .bare .ensures)
+    let a = first g .args in
+    page-bad-store (a .t1) (a .sample) (a .buffer .now) (sym (g .good2 .ensures) ∙ not-true (g .good2 .result) (c .before .if1 .taken)) (c .bare .ensures)
 
 bare-requires-2 : tie.Need-bare-requires-2
 bare-requires-2 c κs = search needs
@@ -48,7 +52,7 @@ bare-requires-2 c κs = search needs
 returns-2 : tie.Need-returns-2
 returns-2 c =
     let i = c .before .before in
-    let a = i .before .before .before .args in
+    let a = first (i .before) .args in
     page-bad-sample (a .t1) (a .sample) (a .buffer .now) (good i) (search needs) (c .bare2 .ensures)
 
 slice-aggregate-write-now : tie.Need-slice-aggregate-write-now
@@ -57,7 +61,7 @@ slice-aggregate-write-now c = search needs
 write-now-requires : tie.Need-write-now-requires
 write-now-requires c κs =
     let i = c .before .before .before .before .before .before .before .before in
-    (good-lookable (i .before .before .before .args .t1) (good i), search needs, search needs)
+    (good-lookable (first (i .before) .args .t1) (good i), search needs, search needs)
 
 of-requires : tie.Need-of-requires
 of-requires c κs = search needs
@@ -93,7 +97,7 @@ pub page-spec : {M : Type 1} → statement M
 page-spec =
     tie.close
     (tie.spec
-    good-store-requires
+    good-requires
     bare-requires
     returns
     bare-requires-2

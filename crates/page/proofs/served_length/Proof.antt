@@ -13,16 +13,20 @@ use Rattle.page.proofs.PageWays.{Holds, page-held, length-bad-store, le
 use Rattle.page.proofs.served_length.Statement.{statement}
 use Rattle.page.proofs.served_length.Tie as tie
 
+-- The call's beginning, seen from the check.
+abbrev first : tie.After-good2 → tie.Start
+first g = g .before .before .before .before .before .before .before .before .before
+
 -- Past the first test the store is good,
-good : (i : tie.Else1) → goodStore (i .before .before .before .args .t1) ≡ true
-good i = sym (i .before .good-store .ensures) ∙ not-false (i .before .good-store .result) (i .if1 .left)
+good : (i : tie.Else1) → goodStore (first (i .before) .args .t1) ≡ true
+good i = sym (i .before .good2 .ensures) ∙ not-false (i .before .good2 .result) (i .if1 .left)
 
 -- past the second the sample is not too large, and past the writing of the scratch it begins with the sample's page.
 abbrev test : tie.After-write-now → tie.Else1
 test w = w .before .before .before .before .before .before .before .before .before
 
 abbrev entry : tie.After-write-now → tie.Start
-entry w = w .before .before .before .before .before .before .before .before .before .before .before .before
+entry w = first (test w .before)
 
 small : (w : tie.After-write-now) → entry w .args .sample ≤ lastSample
 small w = search needs
@@ -30,19 +34,19 @@ small w = search needs
 held : (w : tie.After-write-now) → Holds (pageNow (entry w .args .t1) (entry w .args .sample)) (w .write-now .result) (w .write-now .last .0)
 held w = page-held (entry w .args .t1) (entry w .args .sample) (small w) (search needs) (w .write-now .ensures)
 
-good-store-requires : tie.Need-good-store-requires
-good-store-requires c κs = search needs
+good-requires : tie.Need-good-requires
+good-requires c κs = search needs
 
 returns : tie.Need-returns
 returns c =
     let g = c .before in
-    let a = g .before .before .args in
-    length-bad-store (a .t1) (a .sample) (a .kept .now) (sym (g .good-store .ensures) ∙ not-true (g .good-store .result) (c .if1 .taken))
+    let a = first g .args in
+    length-bad-store (a .t1) (a .sample) (a .kept .now) (sym (g .good2 .ensures) ∙ not-true (g .good2 .result) (c .if1 .taken))
 
 returns-2 : tie.Need-returns-2
 returns-2 c =
     let i = c .before in
-    let a = i .before .before .before .args in
+    let a = first (i .before) .args in
     length-bad-sample (a .t1) (a .sample) (a .kept .now) (good i) (search needs)
 
 slice-aggregate-write-now : tie.Need-slice-aggregate-write-now
@@ -51,7 +55,7 @@ slice-aggregate-write-now c = search needs
 write-now-requires : tie.Need-write-now-requires
 write-now-requires c κs =
     let i = c .before .before .before .before .before .before .before .before in
-    (good-lookable (i .before .before .before .args .t1) (good i), search needs, search needs)
+    (good-lookable (first (i .before) .args .t1) (good i), search needs, search needs)
 
 array-share-prefix-scratch : tie.Need-array-share-prefix-scratch
 array-share-prefix-scratch c = held (c .before) .room
@@ -80,7 +84,7 @@ pub served-length-spec : {M : Type 1} → statement M
 served-length-spec =
     tie.close
     (tie.spec
-    good-store-requires
+    good-requires
     returns
     returns-2
     slice-aggregate-write-now

@@ -1,11 +1,10 @@
 -- `runner::do_step` meets its contract. Assumes nothing.
-use mathlib.Core.Path.{sym, _∙_}
-use borrow.Author.Tests.{not-true, not-false}
 use Rattle.steps.specs.Entries.{enterStep, withdrawStep}
 use Rattle.steps.specs.Carries.{carryStep}
 use Rattle.steps.specs.Searches.{startStep, stepStep, cancelStep}
+use Rattle.schedule.specs.Running.{unknownStep}
 use Rattle.schedule.proofs.StepLaws.{does-enter, does-withdraw, does-carry, does-start, does-step, does-cancel, does-unknown}
-use Rattle.runner.proofs.RunWays.{runs-call, runs-bad, runs-unknown}
+use Rattle.runner.proofs.RunWays.{runs-call}
 use borrow.Author.Needs.{needs}
 use Rattle.runner.proofs.do_step.Statement.{statement}
 use Rattle.runner.proofs.do_step.Tie as tie
@@ -58,25 +57,16 @@ returns-6 c =
     let a = c .before .before .before .before .before .before .before .args in
     runs-call (a .store) (a .number) (a .x) (a .y) (a .place) (cancelStep (a .x)) (λ p s. does-cancel (a .number) (a .x) (a .y) (a .place) p s (c .before .if6 .taken)) (c .cancel .ensures)
 
-good-store-requires : tie.Need-good-store-requires
-good-store-requires c κs = search needs
-
-refused-requires : tie.Need-refused-requires
-refused-requires c κs = search needs
+unknown-requires : tie.Need-unknown-requires
+unknown-requires c κs = search needs
 
 returns-7 : tie.Need-returns-7
 returns-7 c =
-    let a = c .before .before .before .before .before .before .before .before .before .args in
-    runs-bad (a .store) (a .number) (a .x) (a .y) (a .place) (sym (c .before .before .good-store .ensures) ∙ not-true _ (c .before .if7 .taken)) (c .refused .ensures)
-
-of-requires : tie.Need-of-requires
-of-requires c κs = search needs
-
-returns-8 : tie.Need-returns-8
-returns-8 c =
-    let a = c .before .before .before .before .before .before .before .before .before .args in
-    runs-unknown (a .store) (a .number) (a .x) (a .y) (a .place) (sym (c .before .before .good-store .ensures) ∙ not-false _ (c .before .if7 .left)) (c .of .ensures)
-    (λ p s. does-unknown (a .number) (a .x) (a .y) (a .place) p s (c .before .before .before .before .before .before .before .before .if1 .left) (c .before .before .before .before .before .before .before .if2 .left) (c .before .before .before .before .before .before .if3 .left) (c .before .before .before .before .before .if4 .left) (c .before .before .before .before .if5 .left) (c .before .before .before .if6 .left))
+    let e = c .before in
+    let a = e .before .before .before .before .before .before .args in
+    runs-call (a .store) (a .number) (a .x) (a .y) (a .place) (λ p s. unknownStep (a .place) s)
+    (λ p s. does-unknown (a .number) (a .x) (a .y) (a .place) p s (e .before .before .before .before .before .if1 .left) (e .before .before .before .before .if2 .left) (e .before .before .before .if3 .left) (e .before .before .if4 .left) (e .before .if5 .left) (e .if6 .left))
+    (c .unknown .ensures)
 
 pub do-step-spec : {M : Type 1} → statement M
 do-step-spec =
@@ -94,8 +84,5 @@ do-step-spec =
     returns-5
     cancel-requires
     returns-6
-    good-store-requires
-    refused-requires
-    returns-7
-    of-requires
-    returns-8)
+    unknown-requires
+    returns-7)
