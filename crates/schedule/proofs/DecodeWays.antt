@@ -183,7 +183,7 @@ module _ {s : List ℕ} {from : ℕ} {list : List Step} {count at : ℕ} (sofar 
                 ∙ after-step d x (stepsAt s (mostSteps - (count + 1)) next);
           }
 
--- ---- decode_list, decode_into
+-- ---- read_schedule, decode_into
 
 module _ (s : List ℕ) where
   pub schedule-no-plan : {k a : ℕ} → numberAt s 0 ≡ fault k a → decodedOf (fault k a) ≡ decodedOf (scheduleAt s)

@@ -160,7 +160,7 @@ fn read_steps(bytes: &[u8], plan: u32, from: usize) -> Decoded
 }
 
 // A schedule: its plan, then its steps.
-pub fn decode_list(bytes: &[u8]) -> Decoded
+fn read_schedule(bytes: &[u8]) -> Decoded
     ensures { λ r. ⌜ r ≡ decodedOf (scheduleAt (now (bytes .entry))) ⌝ }
 {
     let plan = wire::read_number(bytes, 0);
@@ -180,5 +180,5 @@ pub fn decode_into(bytes: &[u8], room: usize) -> Decoded
     if room < Step::MOST {
         return refused(Answer::SMALL, Step::MOST);
     }
-    decode_list(bytes)
+    read_schedule(bytes)
 }
