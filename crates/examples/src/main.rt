@@ -314,7 +314,7 @@ fn decode(bytes: &[u8]) {
     print(13, records::decode_list(bytes, list).answer);
 }
 
-// Decode into a list of 255 records.
+// Decode into a list of 255 records: a list of 256 by value is never SMALL.
 fn decode_short(bytes: &[u8], mut list: [Step; 255]) -> Answer
     ensures { λ r. ⌜ r ≡ decodeAnswer (now (bytes .entry)) list ⌝ }
 {

@@ -46,7 +46,7 @@ pub struct Listed {
     pub list: [Step; Step::MOST],
 }
 
-// The same for whoever has the list by value.
+// The same for whoever has the list by value: it is lent, and comes back.
 pub fn decode_list(bytes: &[u8], mut list: [Step; Step::MOST]) -> Listed
     ensures { λ r. ⌜ Decodes (now (bytes .entry)) list (r .answer) (r .list) ⌝ }
 {
