@@ -2,7 +2,10 @@
 //
 // The calls' numbers: 1 fresh, 2 enter, 3 withdraw, 4 carry, 5 start, 6 step, 7 cancel, 8 look, 9 save, 10 load, 11 page,
 // 12 serve (0, and the length of what came back), 13 decode, 14 run.
+ghost use mathlib.Core.Path.{_≡_};
+ghost use Rattle.schedule.specs.Schedule.{decodeAnswer};
 use libc::STDOUT_FILENO;
+use schedule::Step;
 use store::Answer;
 use store::Store;
 
@@ -296,9 +299,26 @@ fn served() {
     serve(broken(), 1, &kept);
 }
 
-// One line of decode.
+// The record of zeros.
+fn no_step() -> Step {
+    Step {
+        number: 0,
+        x: 0,
+        y: 0,
+    }
+}
+
+// One line of decode, into a list of 256 records.
 fn decode(bytes: &[u8]) {
-    print(13, schedule::decoding::decode_list(bytes).answer);
+    let list = [no_step(); Step::MOST];
+    print(13, records::decode_list(bytes, list).answer);
+}
+
+// Decode into a list of 255 records: a list of 256 by value is never SMALL.
+fn decode_short(bytes: &[u8], mut list: [Step; 255]) -> Answer
+    ensures { λ r. ⌜ r ≡ decodeAnswer (now (bytes .entry)) list ⌝ }
+{
+    records::decode(bytes, &mut list)
 }
 
 // Decode: CUT, NUMBER, PLAN, OP.
@@ -319,20 +339,55 @@ fn decoded() {
     decode(&most);
     let many = [2; 514];
     decode(&many);
-    print(13, schedule::decoding::decode_into(&many, 255).answer);
+    print(13, decode_short(&many, [no_step(); 255]));
 }
 
-// Run: the steps of a schedule, OP for a place outside it, BADSTORE before OP.
+// Run: the steps of a schedule, OP for the record of zeros after them and for a place outside the list, BADSTORE before OP.
 fn ran() {
     let bytes = [1, 1, 33, 180, 1, 3, 0, 0];
-    let read = schedule::decoding::decode_list(&bytes);
+    let read = records::decode_list(&bytes, [no_step(); Step::MOST]);
     print(13, read.answer);
-    let steps = read.steps;
+    let steps = read.list;
     let first = runner::run_list(fresh(1), steps, 0);
     print(14, first.answer);
     print(14, runner::run_list(first.store, steps, 1).answer);
+    print(14, runner::run_list(first.store, steps, 2).answer);
     print(14, runner::run_list(first.store, steps, 256).answer);
     print(14, runner::run_list(broken(), steps, 256).answer);
+}
+
+// One line of run: a schedule's first step.
+fn run(store: Store, bytes: &[u8]) {
+    let read = records::decode_list(bytes, [no_step(); Step::MOST]);
+    let steps = read.list;
+    print(14, runner::run_list(store, steps, 0).answer);
+}
+
+// Run: DONE, CLOCK, FULL for a withdrawal; NODE, EDGE.
+fn ran_entries() {
+    let withdraw = [1, 2, 8];
+    run(fresh(1), &withdraw);
+    run(at_clock(fresh(1), LAST), &withdraw);
+    run(with_eight(fresh(1), 0), &withdraw);
+    let node = [1, 3, 4, 0];
+    run(fresh(1), &node);
+    let edge = [1, 3, 0, 1];
+    run(fresh(1), &edge);
+}
+
+// Run: DONE, SLOTS for a start; GOING; DONE, IDLE, SLOT for a cancel.
+fn ran_searches() {
+    let start = [1, 4, 33];
+    run(fresh(1), &start);
+    let all = with_searches(with_searches(fresh(1)));
+    run(all, &start);
+    let step = [1, 5, 0];
+    run(all, &step);
+    let cancel = [1, 6, 7];
+    run(all, &cancel);
+    run(fresh(1), &cancel);
+    let slot = [1, 6, 8];
+    run(fresh(1), &slot);
 }
 
 // The examples, in the order of the calls' numbers.
@@ -357,4 +412,6 @@ fn main() {
     not_decoded();
     decoded();
     ran();
+    ran_entries();
+    ran_searches();
 }

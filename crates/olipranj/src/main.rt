@@ -35,13 +35,18 @@ fn print_steps(plan: u32, count: usize, steps: [Step; Step::MOST]) {
 fn main() {
     let mut input = io::large_buffer();
     let n = io::read_full(STDIN_FILENO, &mut input);
-    let decoded = schedule::decoding::decode_list(&input[..n]);
+    let none = Step {
+        number: 0,
+        x: 0,
+        y: 0,
+    };
+    let decoded = records::decode_list(&input[..n], [none; Step::MOST]);
     let answer = decoded.answer;
-    let steps = decoded.steps;
+    let steps = decoded.list;
     if !print(0, Answer::of(answer.number, answer.a, 0, 0, 0)) {
         return;
     }
     if answer.number == Answer::DONE {
-        print_steps(decoded.plan, decoded.count, steps);
+        print_steps(answer.b as u32, answer.a as usize, steps);
     }
 }

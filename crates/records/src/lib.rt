@@ -39,3 +39,17 @@ pub fn decode(bytes: &[u8], list: &mut [Step]) -> Answer
     fill(list, d, d.count);
     d.answer
 }
+
+// A list of records by value, and decode's answer over it.
+pub struct Listed {
+    pub answer: Answer,
+    pub list: [Step; Step::MOST],
+}
+
+// The same for whoever has the list by value: it is lent, and comes back.
+pub fn decode_list(bytes: &[u8], mut list: [Step; Step::MOST]) -> Listed
+    ensures { λ r. ⌜ Decodes (now (bytes .entry)) list (r .answer) (r .list) ⌝ }
+{
+    let answer = decode(bytes, &mut list);
+    Listed { answer, list }
+}

@@ -91,7 +91,7 @@ step-fault (fault number at) e h = rw e
 -- ---- refused
 
 pub refused-whole : (number at : ℕ)
-    → record { answer = answer number at 0 0 0; plan = 0; count = 0; steps = noSteps } ≡ decodedOf (fault number at)
+    → record { answer = answer number at 0 0 0; count = 0; steps = noSteps } ≡ decodedOf (fault number at)
 unfolding decodedOf laid
 refused-whole number at = refl
 
@@ -145,7 +145,7 @@ module _ (s : List ℕ) (at : ℕ) where
 module _ {s : List ℕ} {from : ℕ} {list : List Step} {count at : ℕ} (sofar : Sofar s from list count at) where
   -- The bytes end.
   pub steps-end : (plan : ℕ) → length s ≤ at
-      → record { answer = answer DONE count plan 0 0; plan = plan; count = count; steps = list } ≡ decodedOf (planned plan (stepsAt s mostSteps from))
+      → record { answer = answer DONE count plan 0 0; count = count; steps = list } ≡ decodedOf (planned plan (stepsAt s mostSteps from))
   unfolding decodedOf planned bind
   steps-end plan h =
       let g : stepsAt s mostSteps from ≡ got (sofar .done) at =
@@ -183,7 +183,7 @@ module _ {s : List ℕ} {from : ℕ} {list : List Step} {count at : ℕ} (sofar 
                 ∙ after-step d x (stepsAt s (mostSteps - (count + 1)) next);
           }
 
--- ---- decode_list, decode_into
+-- ---- read_schedule, decode_into
 
 module _ (s : List ℕ) where
   pub schedule-no-plan : {k a : ℕ} → numberAt s 0 ≡ fault k a → decodedOf (fault k a) ≡ decodedOf (scheduleAt s)

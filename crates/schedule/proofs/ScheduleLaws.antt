@@ -3,13 +3,14 @@
 use mathlib.Core.Path.{_≡_, refl, ap, _∙_}
 use mathlib.Core.Bool.{Bool, true, false, cond}
 use mathlib.Core.List.{List, [], _∷_}
-use Prim.Native.Nat.{ℕ, zero, suc, _+_, _*_, _<_, _≤_}
+use mathlib.Core.Logic.{⊎-elim}
+use Prim.Native.Nat.{ℕ, zero, suc, _+_, _*_, _^_, _<_, _≤_}
 use native.Mathlib.Omega.{arith}
 use native.Mathlib.Nat.{le-of-suc-le-suc, not-suc-le-zero}
-use lib.Dec.{leb}
+use lib.Dec.{leb, ltb, lit<}
 use lib.ListN.{length, getD}
 use borrow.Author.Tests.{leb-true}
-use Rattle.lists.proofs.Truths.{not-both, both-le}
+use Rattle.lists.proofs.Truths.{bool?, not-both, both-le}
 use Rattle.lists.proofs.Standing.{stands-fits-some}
 use Rattle.number.specs.declared.Reading.{Reading}
 use Rattle.number.specs.declared.Reading.the-variants.{Value, Cut, Malformed}
@@ -17,12 +18,13 @@ use Rattle.number.specs.Number.{Bytes, form, moreBytes, readAt}
 use Rattle.number.proofs.Forms.{form-one, form-some, form-length}
 use Rattle.plan.specs.Sizes.{lastKey}
 use Rattle.plan.specs.PlanTable.{planTable, plans}
+use Rattle.store.specs.declared.Answer.{Answer}
 use Rattle.store.specs.Answers.{PLAN, OP, MANY}
 use Rattle.store.specs.StoreRules.{planNumberTest}
 use Rattle.wire.specs.Reading.{Got, got, fault, bind, numbered, numberAt}
 use Rattle.wire.proofs.Chains.{got-or-fault, Gives, gives-got, gives-fault, gives-any, gives-cond, gives-check, gives-bind, gives-both, number-gives}
 use Rattle.schedule.specs.declared.Step.{Step}
-use Rattle.schedule.specs.Schedule.{ENTER, CANCEL, mostSteps, Schedule, knownStep, hasTwo, secondAt, stepAt, stepsAt, scheduleAt, recordsOf}
+use Rattle.schedule.specs.Schedule.{ENTER, CANCEL, mostSteps, Schedule, knownStep, hasTwo, secondAt, stepAt, stepsAt, scheduleAt, scheduleAnswer, recordsOf, decodeAnswer}
 use Rattle.schedule.specs.Running.{noStep}
 
 -- ---- at most 256 steps, of any list
@@ -107,6 +109,31 @@ known-between number t = both-le ENTER number number CANCEL t
 pub plan-small : (plan : ℕ) → planNumberTest plan ≡ true → plan < 128
 unfolding planNumberTest plans planTable
 plan-small plan t = let k = both-le 1 plan plan plans t in omega arith
+
+plan-gives : (s : List ℕ) → Gives (λ d end. d .plan < 128) (scheduleAt s)
+unfolding scheduleAt
+plan-gives s =
+    gives-bind (numberAt s 0) _ (gives-any _) λ plan a u.
+    gives-check (planNumberTest plan) PLAN 0 _ λ t.
+    gives-bind (stepsAt s mostSteps a) _ (gives-any _) λ xs b h. gives-got (plan-small plan t)
+
+schedule-plan-small : (s : List ℕ) → scheduleAnswer (scheduleAt s) .b < 128
+schedule-plan-small s = go (scheduleAt s) (plan-gives s)
+  where
+    go : (g : Got Schedule) → Gives (λ d end. d .plan < 128) g → scheduleAnswer g .b < 128
+    go (got d end) h = h .each d end refl
+    go (fault number at) h = omega arith
+
+-- So decode's b is a number of 32 bits.
+pub decode-b-fits : (s : List ℕ) (before : List Step) {r : Answer} → r ≡ decodeAnswer s before → r .b < 2 ^ 32
+unfolding decodeAnswer
+decode-b-fits s before {r} e = ⊎-elim small large (bool? (ltb (length before) mostSteps))
+  where
+    small : ltb (length before) mostSteps ≡ true → r .b < 2 ^ 32
+    small t = rw (e, t) (lit< tt)
+
+    large : ltb (length before) mostSteps ≡ false → r .b < 2 ^ 32
+    large t = let h = schedule-plan-small s in rw (e, t) (omega arith)
 
 module _ (s : List ℕ) where
   no-steps : (at : ℕ) → length s ≤ at → StepsGiven s at [] at

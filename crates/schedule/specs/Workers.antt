@@ -25,19 +25,13 @@ planned plan g = bind g λ xs b. got (record { plan = plan; steps = xs }) b
 abbrev pub noSteps : List Step
 noSteps = replicate mostSteps noStep
 
--- A schedule's plan; 0 for a refused one.
-abbrev pub planIn : Got Schedule → ℕ
-planIn (got d end) = d .plan
-planIn (fault number at) = 0
-
 -- Records at the beginning of a list.
 unfoldable pub laid : List Step → List Step → List Step
 laid xs before = xs ++ drop (length xs) before
 
--- A schedule by value: the answer, the plan, the number of steps, and the records at the beginning of a list of zeros.
+-- A schedule by value: the answer, the number of steps, and the records at the beginning of a list of zeros.
 unfoldable pub decodedOf : Got Schedule → Decoded
-decodedOf g =
-    record { answer = scheduleAnswer g; plan = planIn g; count = length (recordsOf g); steps = laid (recordsOf g) noSteps }
+decodedOf g = record { answer = scheduleAnswer g; count = length (recordsOf g); steps = laid (recordsOf g) noSteps }
 
 -- The same for a list of so many records.
 unfoldable pub decodedInto : List ℕ → ℕ → Decoded

@@ -16,10 +16,9 @@ pub struct StepRead {
     pub step: Step,
 }
 
-// A decoded schedule by value: the answer, the plan, the number of steps and their records; a refused one has none.
+// A decoded schedule by value: the answer, the number of steps and their records; a refused one has none.
 pub struct Decoded {
     pub answer: Answer,
-    pub plan: u32,
     pub count: usize,
     pub steps: [Step; Step::MOST],
 }
@@ -120,7 +119,6 @@ fn refused(number: u32, at: usize) -> Decoded
     let steps = [none; Step::MOST];
     Decoded {
         answer: Answer::of(number, at as u64, 0, 0, 0),
-        plan: 0,
         count: 0,
         steps,
     }
@@ -153,14 +151,13 @@ fn read_steps(bytes: &[u8], plan: u32, from: usize) -> Decoded
     }
     Decoded {
         answer: Answer::of(Answer::DONE, count as u64, plan as u64, 0, 0),
-        plan,
         count,
         steps,
     }
 }
 
 // A schedule: its plan, then its steps.
-pub fn decode_list(bytes: &[u8]) -> Decoded
+fn read_schedule(bytes: &[u8]) -> Decoded
     ensures { λ r. ⌜ r ≡ decodedOf (scheduleAt (now (bytes .entry))) ⌝ }
 {
     let plan = wire::read_number(bytes, 0);
@@ -180,5 +177,5 @@ pub fn decode_into(bytes: &[u8], room: usize) -> Decoded
     if room < Step::MOST {
         return refused(Answer::SMALL, Step::MOST);
     }
-    decode_list(bytes)
+    read_schedule(bytes)
 }

@@ -11,11 +11,11 @@ refused-requires c κs = search needs
 returns : tie.Need-returns
 returns c = let start = c .before .before .before in c .refused .ensures ∙ into-small (start .args .bytes .now) (start .args .room) (c .before .if1 .taken)
 
-decode-list-requires : tie.Need-decode-list-requires
-decode-list-requires c κs = search needs
+read-schedule-requires : tie.Need-read-schedule-requires
+read-schedule-requires c κs = search needs
 
 returns-2 : tie.Need-returns-2
-returns-2 c = let start = c .before .before .before in c .decode-list .ensures ∙ into-list (start .args .bytes .now) (start .args .room) (c .before .if1 .left)
+returns-2 c = let start = c .before .before .before in c .read-schedule .ensures ∙ into-list (start .args .bytes .now) (start .args .room) (c .before .if1 .left)
 
 pub decode-into-spec : {M : Type 1} → statement M
-decode-into-spec = tie.close (tie.spec refused-requires returns decode-list-requires returns-2)
+decode-into-spec = tie.close (tie.spec refused-requires returns read-schedule-requires returns-2)

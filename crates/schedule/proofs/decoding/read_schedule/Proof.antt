@@ -1,11 +1,11 @@
--- `schedule::decoding::decode_list` meets its contract. Assumes nothing.
+-- `schedule::decoding::read_schedule` meets its contract. Assumes nothing.
 use mathlib.Core.Path.{sym, _∙_}
 use borrow.Author.Tests.{not-true, not-false}
 use Rattle.wire.proofs.Chains.{num-got, num-fault}
 use Rattle.schedule.proofs.DecodeWays.{schedule-no-plan, schedule-bad-plan, schedule-steps}
 use borrow.Author.Needs.{needs}
-use Rattle.schedule.proofs.decoding.decode_list.Statement.{statement}
-use Rattle.schedule.proofs.decoding.decode_list.Tie as tie
+use Rattle.schedule.proofs.decoding.read_schedule.Statement.{statement}
+use Rattle.schedule.proofs.decoding.read_schedule.Tie as tie
 
 read-number-requires : tie.Need-read-number-requires
 read-number-requires c κs = search needs
@@ -43,8 +43,8 @@ returns-3 c =
     ∙ schedule-steps (plan .before .before .args .bytes .now) (num-got _ (plan .read-number .ensures) (not-false _ (test .before .if1 .left)))
     (sym (test .is-plan .ensures) ∙ not-false _ (c .before .if2 .left))
 
-pub decode-list-spec : {M : Type 1} → statement M
-decode-list-spec =
+pub read-schedule-spec : {M : Type 1} → statement M
+read-schedule-spec =
     tie.close
     (tie.spec
     read-number-requires
