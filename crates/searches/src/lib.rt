@@ -3,7 +3,6 @@
 // cancel have one way out, so that the store is moved into the outcome once.
 ghost use Rattle.steps.specs.Promises.{Starts, Steps, Cancels, Looks};
 use store::Answer;
-use store::Found;
 use store::Outcome;
 use store::Store;
 
@@ -102,7 +101,7 @@ pub fn look(store: Store, key: u32) -> Answer
     ) {
         return Answer::bare(Answer::BADSTORE);
     }
-    let seen = lines::look_down(
+    lines::looked(
         store.plan,
         &store.counts,
         &store.keys,
@@ -110,11 +109,5 @@ pub fn look(store: Store, key: u32) -> Answer
         &store.values,
         &store.stamps,
         key,
-    );
-    let visits = seen.visits;
-    let found = seen.found;
-    let Found::Held(copy) = found else {
-        return lines::never(visits);
-    };
-    lines::held(copy, visits)
+    )
 }
