@@ -5,7 +5,7 @@ use mathlib.Core.List.{List, [], _∷_, _++_, map}
 use Prim.Native.Nat.{ℕ, _+_, _-_, _*_, _<_, _≤_}
 use native.Mathlib.Omega.{arith}
 use lib.ListN.{length, getD, set, take, replicate, length-map, length-set}
-use lib.Seq.{sets, set-comm, length-take-le, getD-set-other}
+use lib.Seq.{sets, set-comm, set-getD, length-take-le, getD-set-other}
 use borrow.Author.Tests.{lt-ltb, le-ltb}
 use Rattle.lists.specs.Runs.{run}
 use Rattle.lists.proofs.Running.{map-run}
@@ -32,7 +32,9 @@ use Rattle.steps.proofs.Merges.{merging, stay-short, target-long}
 use Rattle.steps.proofs.CarryLaws.{carry-done}
 use Rattle.carries.specs.declared.decision.Merge.{Merge}
 use Rattle.carries.specs.Decisions.{span, Within, Ready, Decided}
+use Rattle.carries.specs.declared.settling.Settled.{Settled}
 use Rattle.carries.specs.Writings.{gather, Movable, carriedColumn}
+use Rattle.carries.specs.Settlings.{nothing, settledColumn, settledStore, Settles}
 use Rattle.carries.proofs.Passing.{span-length}
 use Rattle.carries.proofs.Mapping.{mapped, merge-map, count-map}
 use Rattle.carries.proofs.InPlace.{together, movable}
@@ -150,12 +152,8 @@ module _ (z : Store) (good : goodStore z ≡ true) (n i : ℕ) (d : IsEdge (plan
       got-is =
           sym (length-take-le (m .got) target (omega (arith, decided .gets .long, decided .gets .counted))) ∙ ap length (decided .gets .listed)
 
-      -- The counts are the lengths of the lists.
-      pub kept-listed : m .kept ≡ length (take (m .kept) stay)
+      kept-listed : m .kept ≡ length (take (m .kept) stay)
       kept-listed = kept-is ∙ ap length (sym (decided .stays .listed))
-
-      pub got-listed : m .got ≡ length (take (m .got) target)
-      got-listed = got-is ∙ ap length (sym (decided .gets .listed))
 
       -- The node's count falls, the target's rises, by no more.
       pub counts-go : (m .kept ≤ countOf z n) × (countOf z t ≤ m .got) × (m .got - countOf z t ≤ countOf z n - m .kept)
@@ -272,6 +270,30 @@ module _ (z : Store) (good : goodStore z ≡ true) (n i : ℕ) (d : IsEdge (plan
               ∙ ap₂ (λ (j k : ℕ). set (set (run 0 mostNodes (λ l. length (nodeAt s l))) n j) t k) (sym stay-count) (sym target-count)
               ∙ sym (both-counts (s .nodes) n t xs ys (omega arith) (omega arith) node-apart)
 
+      -- What is settled along the edge.
+      pub settled-along : (a : Answer) (left : ℕ) → a ≡ answer DONE (countOf z n - m .kept) (countOf z n - m .kept - (m .got - countOf z t)) left 0
+          → left ≡ countHeld (numberIn (z .keys)) e (take (m .kept) stay)
+          → Settles z n i stay target (record {
+            answer = a;
+            node = n;
+            from = width * n;
+            had = countOf z n;
+            kept = m .kept;
+            remains = m .kept;
+            target = t;
+            start = width * t;
+            got = m .got;
+            holds = m .got;
+          })
+      settled-along a left a-is left-is =
+          record {
+            nodes = (node-few, target-few);
+            stays = (decided .stays .long, decided .stays .counted);
+            gets = (decided .gets .long, decided .gets .counted);
+            movable = column-movable;
+            outcome = carry-is a left _ _ _ _ a-is left-is refl refl refl refl;
+          }
+
 -- The refusals of a carry on a good store.
 module _ (z : Store) (good : goodStore z ≡ true) (n i : ℕ) where
   -- NODE: "plan has no such node"
@@ -287,3 +309,88 @@ module _ (z : Store) (good : goodStore z ≡ true) (n i : ℕ) where
       rw e
       (on-refusal (carryStep n i) z good EDGE
       (rw (lt-ltb n (size (planOf (z .plan))) h, le-ltb i (length (edgesOf (planOf (z .plan)) n)) g)))
+
+-- A refusal: no place is written, and a count that is there already, so the store stays as it is.
+both-stay : (counts : List ℕ) → set (set counts 0 (getD counts 0 0)) 0 (getD counts 0 0) ≡ counts
+both-stay counts = ap (λ (l : List ℕ). set l 0 (getD counts 0 0)) (set-getD counts 0 0) ∙ set-getD counts 0 0
+
+module _ (z : Store) (n i : ℕ) (stay target : List ℕ) (long : length stay ≡ width) (large : length target ≡ width) where
+  none-movable : Movable (take 0 stay) (take 0 target) 0 0 0
+  none-movable =
+      record {
+        stays = omega arith;
+        apart = omega arith;
+        room = omega arith;
+        under = λ j h. omega arith;
+        over = λ j h. omega arith;
+        low = λ j h. omega arith;
+      }
+
+  as-it-was : (number : ℕ) → settledStore stay target (nothing number (getD (z .counts) 0 0)) z ≡ z
+  unfolding carriedColumn
+  as-it-was number =
+      ap (λ (l : List ℕ).
+      record {
+        plan = z .plan;
+        clock = z .clock;
+        counts = l;
+        keys = z .keys;
+        kinds = z .kinds;
+        values = z .values;
+        stamps = z .stamps;
+        slots = z .slots;
+      })
+      (both-stay (z .counts))
+
+  pub settled-none : (number : ℕ) → record { answer = bare number; store = z } ≡ onStore (carryStep n i) z
+      → (r : Settled) → r ≡ nothing number (getD (z .counts) 0 0) → Settles z n i stay target r
+  settled-none number out r e =
+      rw e
+      (record {
+        nodes = (omega arith, omega arith);
+        stays = (long, omega arith);
+        gets = (large, omega arith);
+        movable = none-movable;
+        outcome = ap (λ (y : Store). record { answer = bare number; store = y }) (as-it-was number) ∙ out;
+      })
+
+-- What is settled, once it is written.
+module _ {z : Store} {n i : ℕ} {stay target : List ℕ} {r : Settled} (settled : Settles z n i stay target r) where
+  -- The counts are the lengths of the lists.
+  pub kept-long : r .kept ≡ length (take (r .kept) stay)
+  kept-long = sym (length-take-le (r .kept) stay (omega (arith, settled .stays .0, settled .stays .1)))
+
+  pub got-long : r .got ≡ length (take (r .got) target)
+  got-long = sym (length-take-le (r .got) target (omega (arith, settled .gets .0, settled .gets .1)))
+
+  pub settled-out : (keys kinds values stamps : List ℕ) → keys ≡ settledColumn stay target r (z .keys) → kinds ≡ settledColumn stay target r (z .kinds)
+      → values ≡ settledColumn stay target r (z .values) → stamps ≡ settledColumn stay target r (z .stamps)
+      → record {
+        answer = r .answer;
+        store = record {
+          plan = z .plan;
+          clock = z .clock;
+          counts = set (set (z .counts) (r .node) (r .remains)) (r .target) (r .holds);
+          keys = keys;
+          kinds = kinds;
+          values = values;
+          stamps = stamps;
+          slots = z .slots;
+        };
+      } ≡ onStore (carryStep n i) z
+  settled-out keys kinds values stamps a b c d =
+      (λ j.
+      record {
+        answer = r .answer;
+        store = record {
+          plan = z .plan;
+          clock = z .clock;
+          counts = set (set (z .counts) (r .node) (r .remains)) (r .target) (r .holds);
+          keys = a j;
+          kinds = b j;
+          values = c j;
+          stamps = d j;
+          slots = z .slots;
+        };
+      })
+      ∙ settled .outcome

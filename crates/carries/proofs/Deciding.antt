@@ -5,8 +5,8 @@ use mathlib.Core.List.{List, append-nil}
 use Prim.Native.Nat.{ℕ, suc, _+_, _-_, _<_, _≤_}
 use native.Mathlib.Omega.{arith}
 use native.Mathlib.Numerals.{add-one}
-use lib.ListN.{length, set, take, drop, drop-of-length-le, length-set}
-use lib.Seq.{drop-cons}
+use lib.ListN.{length, set, take, length-set, length-take, drop-of-length-le}
+use lib.Seq.{slice, slice-cons, getD-take, length-take-le}
 use Rattle.lists.proofs.Running.{run-off}
 use Rattle.plan.specs.declared.Edge.{Edge}
 use Rattle.plan.specs.Plan.{holds}
@@ -14,7 +14,7 @@ use Rattle.store.specs.Layout.{width}
 use Rattle.store.specs.Workers.{numberIn, itself}
 use Rattle.steps.specs.Carries.{Merged, merge, countHeld}
 use Rattle.carries.specs.declared.decision.Merge.{Merge}
-use Rattle.carries.specs.Decisions.{span, standing, outcome, Going, Ready, Lists, Decided}
+use Rattle.carries.specs.Decisions.{span, standing, outcome, Going, Ready, Lists, Decided, Within}
 use Rattle.carries.proofs.Turning.{stood, own-stands}
 
 -- The rest of the target's own places: one more,
@@ -79,19 +79,27 @@ decided {keys} {capacity} e {to} {end} {stay} {target} {m} g h l l-is r target�
       gets = gets;
     })
 
+-- The first places of a list: each is one of its own.
+pub first-within : (list : List ℕ) (first bound : ℕ) → length list ≡ width → first ≤ width → Within (take first list) bound
+    → (i : ℕ) → i < first → numberIn list i < bound
+first-within list first bound long few within i h =
+    rw (getD-take first list i 0 h) at (within i (omega (arith, length-take-le first list (omega arith))))
+
 -- One more place is counted if the edge holds its key,
-module _ (keys : List ℕ) (e : Edge) (list : List ℕ) (i : ℕ) (h : i < length list) where
+module _ (keys : List ℕ) (e : Edge) (list : List ℕ) (first i : ℕ) (few : first ≤ length list) (h : i < first) where
   pub count-one : holds e (numberIn keys (numberIn list i)) ≡ true
-      → countHeld (numberIn keys) e (drop i list) ≡ suc (countHeld (numberIn keys) e (drop (i + 1) list))
+      → countHeld (numberIn keys) e (slice i first list) ≡ suc (countHeld (numberIn keys) e (slice (i + 1) first list))
   unfolding countHeld
-  count-one t = rw (drop-cons list i 0 h, t, add-one) (omega arith)
+  count-one t = rw (slice-cons i first list 0 h few, t, add-one) (omega arith)
 
   pub count-none : holds e (numberIn keys (numberIn list i)) ≡ false
-      → countHeld (numberIn keys) e (drop i list) ≡ countHeld (numberIn keys) e (drop (i + 1) list)
+      → countHeld (numberIn keys) e (slice i first list) ≡ countHeld (numberIn keys) e (slice (i + 1) first list)
   unfolding countHeld
-  count-none t = rw (drop-cons list i 0 h, t, add-one) (omega arith)
+  count-none t = rw (slice-cons i first list 0 h few, t, add-one) (omega arith)
 
 -- and after the last there is none.
-pub count-end : (keys : List ℕ) (e : Edge) (list : List ℕ) (i : ℕ) → length list ≤ i → countHeld (numberIn keys) e (drop i list) ≡ 0
+pub count-end : (keys : List ℕ) (e : Edge) (list : List ℕ) (first i : ℕ) → first ≤ i → countHeld (numberIn keys) e (slice i first list) ≡ 0
 unfolding countHeld
-count-end keys e list i h = rw (drop-of-length-le list h)
+count-end keys e list first i h =
+    let short : length (take first list) ≤ i = simp length-take (omega arith) in
+    rw (drop-of-length-le (take first list) short)

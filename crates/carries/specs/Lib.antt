@@ -1,2 +1,3 @@
 pub mod Decisions
 pub mod Writings
+pub mod Settlings

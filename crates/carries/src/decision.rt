@@ -2,7 +2,7 @@
 // The two nodes are walked through once, side by side, by rising key.
 ghost use mathlib.Core.Path.{_≡_};
 ghost use Prim.Native.Nat.{_+_, _-_, _<_, _≤_};
-ghost use lib.ListN.{length, set};
+ghost use lib.ListN.{length, set, take};
 ghost use Rattle.plan.specs.Plan.{holds as heldBy};
 ghost use Rattle.store.specs.Layout.{width, places};
 ghost use Rattle.store.specs.Workers.{numberIn};
@@ -129,14 +129,19 @@ pub fn decide(
     rest(target, m, end)
 }
 
-// How many places of a list have a key that the edge holds.
-pub fn count_held(keys: &[u32; Store::PLACES], list: &[usize], edge: Edge) -> usize
-    requires { ⌜ Within (now list) places ⌝ }
-    ensures { λ r. ⌜ r ≡ countHeld (numberIn (now (keys .entry))) edge (now (list .entry)) ⌝ }
+// How many of the first places of a list have a key that the edge holds.
+pub fn count_held(
+    keys: &[u32; Store::PLACES],
+    list: &[usize; Store::WIDTH],
+    first: usize,
+    edge: Edge,
+) -> usize
+    requires { ⌜ (length (now list) ≡ width) × (first ≤ width) × Within (take first (now list)) places ⌝ }
+    ensures { λ r. ⌜ r ≡ countHeld (numberIn (now (keys .entry))) edge (take first (now (list .entry))) ⌝ }
 {
     let mut count = 0;
     let mut i = 0;
-    while i < list.len() {
+    while i < first {
         let place = list[i];
         if holds(edge, keys[place]) {
             count += 1;

@@ -59,7 +59,7 @@ fn with_line(mut lines: Lines, analyte: u32, found: Found) -> Lines
     lines
 }
 
-// "for each analyte, rising, whose look gives a result"
+// "for each analyte, rising, whose look gives a result". The plan's arrays are taken once for all looks.
 pub fn gather<'a>(
     plan: u32,
     counts: &'a [u32; Store::NODES],
@@ -72,11 +72,19 @@ pub fn gather<'a>(
     requires { ⌜ Lookable plan (now counts) (now keys) × (sample ≤ lastSample) ⌝ }
     ensures { λ r. ⌜ linesIn r ≡ linesOf (planOf plan) (stateOf (holding plan 0 (now (counts .entry)) (now (keys .entry)) (now (kinds .entry)) (now (values .entry)) (now (stamps .entry)))) sample ⌝ }
 {
+    let edges = plan::edge_counts_of(plan);
+    let lows = plan::lowest_of(plan);
+    let highs = plan::highest_of(plan);
+    let targets = plan::targets_of(plan);
     let mut lines = no_lines();
     let mut analyte = 0;
     while analyte < ANALYTES {
         let seen = look_down(
             plan,
+            &edges,
+            &lows,
+            &highs,
+            &targets,
             counts,
             keys,
             kinds,

@@ -30,27 +30,27 @@ held-answer x visits = rw add-one
 pub good-lookable : (z : Store) → goodStore z ≡ true → Lookable (z .plan) (z .counts) (z .keys)
 good-lookable z good = record { known = good-rules z good .plan-1-to-3; ordered = good-ordered z good }
 
--- What is seen in the columns lent is what is seen in the store,
-pub seen-lent : (z : Store) (k : ℕ) → seenIn (holding (z .plan) 0 (z .counts) (z .keys) (z .kinds) (z .values) (z .stamps)) k ≡ seenIn z k
-unfolding seenIn inReach stateOf
-seen-lent z k = refl
-
--- the line's current copy,
+-- What is seen is the line's current copy,
 pub seen-current : (z : Store) (k : ℕ) (seen : Seen) → seen ≡ seenIn z k → seen .found ≡ foundOf (current (planOf (z .plan)) (stateOf z) k)
 unfolding seenIn
 seen-current z k seen e = ap (λ (w : Seen). w .found) e
 
--- and the answer of a look.
-module _ (z : Store) (good : goodStore z ≡ true) (k : ℕ) (seen : Seen) (e : seen ≡ seenIn z k) where
-  answers : (o : Option Copy) → current (planOf (z .plan)) (stateOf z) k ≡ o → ended o (seen .visits) ≡ ofStore (lookAnswer k) z
+-- and gives the answer of a look.
+module _ (z : Store) (k : ℕ) (seen : Seen) (e : seen ≡ seenIn z k) where
+  answers : (o : Option Copy) → current (planOf (z .plan)) (stateOf z) k ≡ o → ended o (seen .visits) ≡ lookAnswer k (planOf (z .plan)) (stateOf z)
   unfolding seenIn lookAnswer
   answers o c =
       ap (λ (w : Option Copy). ended w (seen .visits)) (sym c)
       ∙ ap (λ (w : Seen). ended (current (planOf (z .plan)) (stateOf z) k) (w .visits)) e
-      ∙ sym (of-good (lookAnswer k) z good)
 
-  pub look-held : (x : Copy) → seen .found ≡ Held x → ended (some x) (seen .visits) ≡ ofStore (lookAnswer k) z
+  pub look-held : (x : Copy) → seen .found ≡ Held x → ended (some x) (seen .visits) ≡ lookAnswer k (planOf (z .plan)) (stateOf z)
   look-held x g = answers (some x) (found-some (sym (seen-current z k seen e) ∙ g))
 
-  pub look-never : seen .found ≡ Nothing → ended none (seen .visits) ≡ ofStore (lookAnswer k) z
+  pub look-never : seen .found ≡ Nothing → ended none (seen .visits) ≡ lookAnswer k (planOf (z .plan)) (stateOf z)
   look-never g = answers none (found-none (sym (seen-current z k seen e) ∙ g))
+
+-- A look reads neither clock nor slots: its answer by the columns lent is the store's.
+pub look-lent : (z : Store) → goodStore z ≡ true → (k : ℕ)
+    → lookAnswer k (planOf (z .plan)) (stateOf (holding (z .plan) 0 (z .counts) (z .keys) (z .kinds) (z .values) (z .stamps))) ≡ ofStore (lookAnswer k) z
+unfolding lookAnswer inReach stateOf
+look-lent z good k = sym (of-good (lookAnswer k) z good)

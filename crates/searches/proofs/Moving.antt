@@ -1,6 +1,6 @@
 -- Start, step and cancel on a good store: what they ask for is there, and their answer and slots are the call's outcome. Assumes nothing.
 use mathlib.Core.Path.{_≡_, refl, sym, ap, _∙_}
-use mathlib.Core.Bool.{true}
+use mathlib.Core.Bool.{true, false}
 use mathlib.Core.Logic.{_≢_}
 use Prim.Native.Nat.{ℕ, _<_}
 use native.Mathlib.Omega.{arith}
@@ -9,16 +9,17 @@ use Rattle.plan.specs.Plan.{Plan}
 use Rattle.plan.specs.PlanTable.{planOf}
 use Rattle.plan.proofs.PathLaws.{path-within}
 use Rattle.store.specs.declared.Store.{Store}
+use Rattle.store.specs.Answers.{BADSTORE}
 use Rattle.store.specs.State.{State, slotCount, idle}
 use Rattle.store.specs.StateRules.{OnPath}
 use Rattle.store.specs.Layout.{stateOf, storeOf}
 use Rattle.store.specs.StoreRules.{goodStore}
-use Rattle.store.specs.Calls.{Effect, onStore}
-use Rattle.store.proofs.Lifting.{plan-good, state-good, good-back, on-way}
+use Rattle.store.specs.Calls.{Effect}
+use Rattle.store.proofs.Lifting.{plan-good, state-good, good-back, on-bad, on-way}
 use Rattle.steps.proofs.LineSteps.{Still}
 use Rattle.steps.proofs.OnPaths.{on-path-in-plan}
 use Rattle.searches.specs.declared.slots.Moved.{Moved}
-use Rattle.searches.specs.Workers.{Stands, Steppable, movedBy, withSlots}
+use Rattle.searches.specs.Workers.{Stands, Steppable, movedBy, kept, withSlots, Moves}
 use Rattle.searches.proofs.Ending.{good-lookable}
 
 module _ (z : Store) (good : goodStore z ≡ true) where
@@ -46,8 +47,13 @@ module _ (z : Store) (good : goodStore z ≡ true) where
 
   -- A step that leaves nodes and clock: its answer and slots give the call's outcome.
   pub moved-out : (f : Plan → State → Effect) → Still (stateOf z) (f (planOf (z .plan)) (stateOf z) .after)
-      → (m : Moved) → m ≡ movedBy (f (planOf (z .plan)) (stateOf z)) → record { answer = m .answer; store = withSlots (m .slots) z } ≡ onStore f z
+      → (m : Moved) → m ≡ movedBy (f (planOf (z .plan)) (stateOf z)) → Moves f z m
   moved-out f still m e =
       let w = f (planOf (z .plan)) (stateOf z) in
       ap (λ (n : Moved). record { answer = n .answer; store = withSlots (n .slots) z }) e
       ∙ on-way f z good (w .answer) (w .after) (withSlots (w .after .slots) z) refl (sym (still-store (w .after) still))
+
+-- And so do BADSTORE and the slots as they were, on a bad store.
+pub moved-bad : (z : Store) → goodStore z ≡ false → (f : Plan → State → Effect) (m : Moved) → m ≡ kept BADSTORE (z .slots) → Moves f z m
+moved-bad z bad f m e =
+    ap (λ (n : Moved). record { answer = n .answer; store = withSlots (n .slots) z }) e ∙ sym (on-bad f z bad)

@@ -13,9 +13,9 @@ use Rattle.store.specs.declared.Slot.{Slot}
 use Rattle.store.specs.declared.Store.{Store}
 use Rattle.store.specs.Answers.{bare}
 use Rattle.store.specs.Copies.{foundOf}
-use Rattle.store.specs.State.{slotCount, idle, line, current}
+use Rattle.store.specs.State.{State, slotCount, idle, line, current}
 use Rattle.store.specs.Layout.{stateOf}
-use Rattle.store.specs.Calls.{Effect}
+use Rattle.store.specs.Calls.{Effect, onStore}
 use Rattle.store.specs.Workers.{Ordered}
 use Rattle.steps.specs.Searches.{startStep, stepStep, cancelStep, visitsOn}
 use Rattle.searches.specs.declared.lines.Seen.{Seen}
@@ -91,3 +91,7 @@ withSlots slots z =
       stamps = z .stamps;
       slots = slots;
     }
+
+-- What a call does with a store's slots, of any store: with its answer, the store with these slots is the call's outcome.
+abbrev pub Moves : (Plan → State → Effect) → Store → Moved → Type 0
+Moves f z r = record { answer = r .answer; store = withSlots (r .slots) z } ≡ onStore f z

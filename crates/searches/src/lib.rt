@@ -1,8 +1,8 @@
 // Searches (start, step, cancel) and look. Document 01, "What each step does".
-// The store comes in and goes out by value, once; the check and the work are done on its columns, lent where they lie.
+// The store comes in and goes out by value, once; the check and the work are done on its columns, lent where they lie. Start, step and
+// cancel have one way out, so that the store is moved into the outcome once.
 ghost use Rattle.steps.specs.Promises.{Starts, Steps, Cancels, Looks};
 use store::Answer;
-use store::Found;
 use store::Outcome;
 use store::Store;
 
@@ -14,7 +14,7 @@ pub fn start(mut store: Store, key: u32) -> Outcome
     ensures { λ r. ⌜ Starts store key r ⌝ }
 {
     let slots = store.slots;
-    if !rules::good(
+    let moved = slots::start_in(
         store.plan,
         store.clock,
         &store.counts,
@@ -23,10 +23,8 @@ pub fn start(mut store: Store, key: u32) -> Outcome
         &store.values,
         &store.stamps,
         slots,
-    ) {
-        return Outcome::refused(Answer::BADSTORE, store);
-    }
-    let moved = slots::started(slots, key);
+        key,
+    );
     let answer = moved.answer;
     let taken = moved.slots;
     store.slots = taken;
@@ -41,20 +39,9 @@ pub fn step(mut store: Store, slot: u32) -> Outcome
     ensures { λ r. ⌜ Steps store slot r ⌝ }
 {
     let slots = store.slots;
-    if !rules::good(
+    let moved = slots::step_in(
         store.plan,
         store.clock,
-        &store.counts,
-        &store.keys,
-        &store.kinds,
-        &store.values,
-        &store.stamps,
-        slots,
-    ) {
-        return Outcome::refused(Answer::BADSTORE, store);
-    }
-    let moved = slots::stepped(
-        store.plan,
         &store.counts,
         &store.keys,
         &store.kinds,
@@ -77,7 +64,7 @@ pub fn cancel(mut store: Store, slot: u32) -> Outcome
     ensures { λ r. ⌜ Cancels store slot r ⌝ }
 {
     let slots = store.slots;
-    if !rules::good(
+    let moved = slots::cancel_in(
         store.plan,
         store.clock,
         &store.counts,
@@ -86,10 +73,8 @@ pub fn cancel(mut store: Store, slot: u32) -> Outcome
         &store.values,
         &store.stamps,
         slots,
-    ) {
-        return Outcome::refused(Answer::BADSTORE, store);
-    }
-    let moved = slots::cancelled(slots, slot);
+        slot,
+    );
     let answer = moved.answer;
     let freed = moved.slots;
     store.slots = freed;
@@ -116,7 +101,7 @@ pub fn look(store: Store, key: u32) -> Answer
     ) {
         return Answer::bare(Answer::BADSTORE);
     }
-    let seen = lines::look_down(
+    lines::looked(
         store.plan,
         &store.counts,
         &store.keys,
@@ -124,11 +109,5 @@ pub fn look(store: Store, key: u32) -> Answer
         &store.values,
         &store.stamps,
         key,
-    );
-    let visits = seen.visits;
-    let found = seen.found;
-    let Found::Held(copy) = found else {
-        return lines::never(visits);
-    };
-    lines::held(copy, visits)
+    )
 }

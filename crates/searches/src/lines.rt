@@ -2,9 +2,13 @@
 ghost use mathlib.Core.Path.{_≡_};
 ghost use mathlib.Core.Option.{none, some};
 ghost use Rattle.store.specs.Workers.{holding};
-ghost use Rattle.steps.specs.Searches.{ended};
+ghost use Rattle.plan.specs.PlanTable.{planOf};
+ghost use Rattle.store.specs.Layout.{stateOf};
+ghost use Rattle.rules.specs.Workers.{ArraysOf};
+ghost use Rattle.steps.specs.Searches.{ended, lookAnswer};
 ghost use Rattle.searches.specs.Workers.{Lookable, seenIn};
 use plan::Hop;
+use plan::arrays;
 use store::Answer;
 use store::Copy;
 use store::Found;
@@ -17,9 +21,14 @@ pub struct Seen {
     pub visits: u32,
 }
 
-// "A whole search at once": node by node, until one has a copy of the key, a withdrawn one included, or the path ends.
+// "A whole search at once": node by node, until one has a copy of the key, a withdrawn one included, or the path ends. The plan's arrays are
+// taken once by who looks, and lent.
 pub fn look_down<'a>(
     plan: u32,
+    edges: &'a [u32; plan::MOST_NODES],
+    lows: &'a [[u32; plan::MOST_EDGES]; plan::MOST_NODES],
+    highs: &'a [[u32; plan::MOST_EDGES]; plan::MOST_NODES],
+    targets: &'a [[u32; plan::MOST_EDGES]; plan::MOST_NODES],
     counts: &'a [u32; Store::NODES],
     keys: &'a [u32; Store::PLACES],
     kinds: &'a [u32; Store::PLACES],
@@ -27,7 +36,7 @@ pub fn look_down<'a>(
     stamps: &'a [u32; Store::PLACES],
     key: u32,
 ) -> Seen
-    requires { ⌜ Lookable plan (now counts) (now keys) ⌝ }
+    requires { ⌜ Lookable plan (now counts) (now keys) × ArraysOf plan (now edges) (now lows) (now highs) (now targets) ⌝ }
     ensures { λ r. ⌜ r ≡ seenIn (holding plan 0 (now (counts .entry)) (now (keys .entry)) (now (kinds .entry)) (now (values .entry)) (now (stamps .entry))) key ⌝ }
 {
     let mut node = 0;
@@ -36,7 +45,7 @@ pub fn look_down<'a>(
         visits += 1;
         let Found::Held(copy) = columns::look_at(counts, keys, kinds, values, stamps, node, key)
         else {
-            let Hop::To(to) = plan::next(plan, node, key) else {
+            let Hop::To(to) = arrays::next_in(edges, lows, highs, targets, node, key) else {
                 return Seen {
                     found: Found::Nothing,
                     visits: visits,
@@ -71,4 +80,42 @@ pub fn never(visits: u32) -> Answer
     ensures { λ r. ⌜ r ≡ ended none visits ⌝ }
 {
     Answer::of(Answer::DONE, 0, 0, 0, visits as u64)
+}
+
+// The answer of a look.
+pub fn looked<'a>(
+    plan: u32,
+    counts: &'a [u32; Store::NODES],
+    keys: &'a [u32; Store::PLACES],
+    kinds: &'a [u32; Store::PLACES],
+    values: &'a [u32; Store::PLACES],
+    stamps: &'a [u32; Store::PLACES],
+    key: u32,
+) -> Answer
+    requires { ⌜ Lookable plan (now counts) (now keys) ⌝ }
+    ensures { λ r. ⌜ r ≡ lookAnswer key (planOf plan) (stateOf (holding plan 0 (now (counts .entry)) (now (keys .entry)) (now (kinds .entry)) (now (values .entry)) (now (stamps .entry)))) ⌝ }
+{
+    let edges = plan::edge_counts_of(plan);
+    let lows = plan::lowest_of(plan);
+    let highs = plan::highest_of(plan);
+    let targets = plan::targets_of(plan);
+    let seen = look_down(
+        plan,
+        &edges,
+        &lows,
+        &highs,
+        &targets,
+        counts,
+        keys,
+        kinds,
+        values,
+        stamps,
+        key,
+    );
+    let visits = seen.visits;
+    let found = seen.found;
+    let Found::Held(copy) = found else {
+        return never(visits);
+    };
+    held(copy, visits)
 }

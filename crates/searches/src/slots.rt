@@ -2,8 +2,9 @@
 ghost use mathlib.Core.Path.{_≡_};
 ghost use Prim.Native.Nat.{_<_};
 ghost use Rattle.store.specs.State.{slotCount, idle};
-ghost use Rattle.steps.specs.Searches.{running};
-ghost use Rattle.searches.specs.Workers.{wrote, kept, Steppable, Running, StartsIn, CancelsIn, StepsIn};
+ghost use Rattle.rules.specs.Workers.{Sized};
+ghost use Rattle.steps.specs.Searches.{running, startStep, stepStep, cancelStep};
+ghost use Rattle.searches.specs.Workers.{wrote, kept, Steppable, Running, StartsIn, CancelsIn, StepsIn, Moves};
 use crate::lines;
 use plan::Hop;
 use store::Answer;
@@ -67,7 +68,7 @@ fn refused(number: u32, slots: [Slot; Store::SLOTS]) -> Moved
 }
 
 // "The lowest idle slot takes the key, at the root, 0 visits." SLOTS where none is idle.
-pub fn started(slots: [Slot; Store::SLOTS], key: u32) -> Moved
+fn started(slots: [Slot; Store::SLOTS], key: u32) -> Moved
     ensures { λ r. ⌜ StartsIn slots key r ⌝ }
 {
     let mut n = 0;
@@ -123,7 +124,7 @@ fn visited<'a>(
 }
 
 // A step of the search in a slot. SLOT before IDLE.
-pub fn stepped<'a>(
+fn stepped<'a>(
     plan: u32,
     counts: &'a [u32; Store::NODES],
     keys: &'a [u32; Store::PLACES],
@@ -147,7 +148,7 @@ pub fn stepped<'a>(
 }
 
 // "The slot becomes idle." SLOT before IDLE.
-pub fn cancelled(slots: [Slot; Store::SLOTS], slot: u32) -> Moved
+fn cancelled(slots: [Slot; Store::SLOTS], slot: u32) -> Moved
     ensures { λ r. ⌜ CancelsIn slots slot r ⌝ }
 {
     let at = slot as usize;
@@ -158,4 +159,67 @@ pub fn cancelled(slots: [Slot; Store::SLOTS], slot: u32) -> Moved
         return refused(Answer::IDLE, slots);
     }
     freed(Answer::bare(Answer::DONE), slots, at)
+}
+
+// What start does with a store's slots: BADSTORE, and the slots as they were, where a store rule is broken.
+pub fn start_in<'a>(
+    plan: u32,
+    clock: u32,
+    counts: &'a [u32; Store::NODES],
+    keys: &'a [u32; Store::PLACES],
+    kinds: &'a [u32; Store::PLACES],
+    values: &'a [u32; Store::PLACES],
+    stamps: &'a [u32; Store::PLACES],
+    slots: [Slot; Store::SLOTS],
+    key: u32,
+) -> Moved
+    requires { ⌜ Sized (now counts) (now keys) (now kinds) (now values) (now stamps) ⌝ }
+    ensures { λ r. ⌜ Moves (startStep key) (record { plan = plan; clock = clock; counts = now (counts .entry); keys = now (keys .entry); kinds = now (kinds .entry); values = now (values .entry); stamps = now (stamps .entry); slots = slots }) r ⌝ }
+{
+    if !rules::good(plan, clock, counts, keys, kinds, values, stamps, slots) {
+        return refused(Answer::BADSTORE, slots);
+    }
+    started(slots, key)
+}
+
+// What a step does with them.
+pub fn step_in<'a>(
+    plan: u32,
+    clock: u32,
+    counts: &'a [u32; Store::NODES],
+    keys: &'a [u32; Store::PLACES],
+    kinds: &'a [u32; Store::PLACES],
+    values: &'a [u32; Store::PLACES],
+    stamps: &'a [u32; Store::PLACES],
+    slots: [Slot; Store::SLOTS],
+    slot: u32,
+) -> Moved
+    requires { ⌜ Sized (now counts) (now keys) (now kinds) (now values) (now stamps) ⌝ }
+    ensures { λ r. ⌜ Moves (stepStep slot) (record { plan = plan; clock = clock; counts = now (counts .entry); keys = now (keys .entry); kinds = now (kinds .entry); values = now (values .entry); stamps = now (stamps .entry); slots = slots }) r ⌝ }
+{
+    if !rules::good(plan, clock, counts, keys, kinds, values, stamps, slots) {
+        return refused(Answer::BADSTORE, slots);
+    }
+    stepped(plan, counts, keys, kinds, values, stamps, slots, slot)
+}
+
+// What cancel does with them.
+pub fn cancel_in<'a>(
+    plan: u32,
+    clock: u32,
+    counts: &'a [u32; Store::NODES],
+    keys: &'a [u32; Store::PLACES],
+    kinds: &'a [u32; Store::PLACES],
+    values: &'a [u32; Store::PLACES],
+    stamps: &'a [u32; Store::PLACES],
+    slots: [Slot; Store::SLOTS],
+    slot: u32,
+) -> Moved
+    requires { ⌜ Sized (now counts) (now keys) (now kinds) (now values) (now stamps) ⌝ }
+    ensures { λ r. ⌜ Moves (cancelStep slot) (record { plan = plan; clock = clock; counts = now (counts .entry); keys = now (keys .entry); kinds = now (kinds .entry); values = now (values .entry); stamps = now (stamps .entry); slots = slots }) r ⌝ }
+{
+    if !rules::good(plan, clock, counts, keys, kinds, values, stamps, slots) {
+        return refused(Answer::BADSTORE, slots);
+    }
+    cancelled(slots, slot)
 }

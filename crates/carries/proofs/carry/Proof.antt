@@ -1,85 +1,90 @@
-use mathlib.Core.Path.{_≡_, sym, _∙_}
-use mathlib.Core.Bool.{true}
+-- `carries::carry` meets its promise. Assumes nothing.
+use mathlib.Core.Path.{_≡_}
 use native.Mathlib.Omega.{arith}
+use lib.ListN.{length}
 use borrow.Author.Needs.{needs}
-use borrow.Author.Tests.{not-true, not-false}
 use Rattle.store.specs.declared.Store.{Store}
-use Rattle.store.specs.StoreRules.{goodStore}
-use Rattle.store.proofs.Lifting.{on-broken}
-use Rattle.steps.specs.Carries.{carryStep}
-use Rattle.carries.proofs.Carrying.{no-node, no-edge}
+use Rattle.store.specs.Layout.{places}
+use Rattle.carries.proofs.Carrying.{kept-long, got-long, settled-out}
 use Rattle.carries.proofs.carry.Statement.{statement}
 use Rattle.carries.proofs.carry.Tie as tie
 
 abbrev S : tie.Start → Store
 S c = c .args .t1
 
--- Past the check the store is good.
-checked : (c : tie.Else1) → goodStore (S (c .before .before .before .before .before .before .before .before .before)) ≡ true
-checked c = sym (c .before .good2 .ensures) ∙ not-false (c .before .good2 .result) (c .if1 .left)
+keys-512 : (c : tie.Start) → length (S c .keys) ≡ places
+keys-512 c = search needs
 
-good-requires : tie.Need-good-requires
-good-requires c κs = search needs
+kinds-512 : (c : tie.Start) → length (S c .kinds) ≡ places
+kinds-512 c = search needs
 
-bare-requires : tie.Need-bare-requires
-bare-requires c κs = search needs
+values-512 : (c : tie.Start) → length (S c .values) ≡ places
+values-512 c = search needs
+
+stamps-512 : (c : tie.Start) → length (S c .stamps) ≡ places
+stamps-512 c = search needs
+
+settle-requires : tie.Need-settle-requires
+settle-requires c κs = search needs
+
+array-share-prefix-stay : tie.Need-array-share-prefix-stay
+array-share-prefix-stay c = search needs
+
+slice-aggregate-stays : tie.Need-slice-aggregate-stays
+slice-aggregate-stays c = kept-long (c .before .before .settle .ensures)
+
+array-share-prefix-target : tie.Need-array-share-prefix-target
+array-share-prefix-target c = search needs
+
+slice-aggregate-gets : tie.Need-slice-aggregate-gets
+slice-aggregate-gets c = got-long (c .before .before .before .settle .ensures)
+
+-- The columns can be written in place by the lists that are settled,
+carry-column-requires : tie.Need-carry-column-requires
+carry-column-requires c κs = let d = c .before .before .before .before in (d .settle .ensures .movable, keys-512 (d .before .before .before .before .before .before .before .before .before .before))
+
+carry-column-requires-2 : tie.Need-carry-column-requires-2
+carry-column-requires-2 c κs = let d = c .before .before .before .before .before .before in (d .settle .ensures .movable, kinds-512 (d .before .before .before .before .before .before .before .before .before .before))
+
+carry-column-requires-3 : tie.Need-carry-column-requires-3
+carry-column-requires-3 c κs = let d = c .before .before .before .before .before .before .before .before in (d .settle .ensures .movable, values-512 (d .before .before .before .before .before .before .before .before .before .before))
+
+carry-column-requires-4 : tie.Need-carry-column-requires-4
+carry-column-requires-4 c κs = let d = c .before .before .before .before .before .before .before .before .before .before in (d .settle .ensures .movable, stamps-512 (d .before .before .before .before .before .before .before .before .before .before))
+
+-- and the two counts are a store's.
+mul-store : tie.Need-mul-store
+mul-store c = omega (arith, c .before .before .before .before .before .before .before .before .before .before .before .settle .ensures .nodes .0)
+
+element-write-store : tie.Need-element-write-store
+element-write-store c = c .before .before .before .before .before .before .before .before .before .before .before .settle .ensures .nodes .0
+
+mul-store-2 : tie.Need-mul-store-2
+mul-store-2 c = omega (arith, c .before .before .before .before .before .before .before .before .before .before .before .settle .ensures .nodes .1)
+
+element-write-store-2 : tie.Need-element-write-store-2
+element-write-store-2 c = c .before .before .before .before .before .before .before .before .before .before .before .settle .ensures .nodes .1
 
 returns : tie.Need-returns
 returns c =
-    let g = c .before .before in
-    let s = g .before .before .before .before .before .before .before .before in
-    on-broken (carryStep (s .args .node) (s .args .edge)) (S s) (sym (g .good2 .ensures) ∙ not-true (g .good2 .result) (c .before .if1 .taken)) (c .bare .result)
-    (c .bare .ensures)
-
-nodes-requires : tie.Need-nodes-requires
-nodes-requires c κs = search needs
-
-bare-requires-2 : tie.Need-bare-requires-2
-bare-requires-2 c κs = search needs
-
-returns-2 : tie.Need-returns-2
-returns-2 c =
-    let n = c .before .before in
-    let s = n .before .before .before .before .before .before .before .before .before .before in
-    no-node (S s) (checked (n .before)) (s .args .node) (s .args .edge) (omega (arith, n .nodes .ensures, c .before .if2 .taken)) (c .bare2 .result) (c .bare2 .ensures)
-
-edge-count-requires : tie.Need-edge-count-requires
-edge-count-requires c κs = search needs
-
-bare-requires-3 : tie.Need-bare-requires-3
-bare-requires-3 c κs = search needs
-
-returns-3 : tie.Need-returns-3
-returns-3 c =
-    let e = c .before .before in
-    let n = e .before .before in
-    let s = n .before .before .before .before .before .before .before .before .before .before in
-    no-edge (S s) (checked (n .before)) (s .args .node) (s .args .edge) (omega (arith, n .nodes .ensures, e .before .if2 .left))
-    (omega (arith, e .edge-count .ensures, c .before .if3 .taken)) (c .bare3 .result) (c .bare3 .ensures)
-
-good-carry-requires : tie.Need-good-carry-requires
-good-carry-requires c κs =
-    let e = c .before in
-    let n = e .before .before in (
-      checked (n .before),
-      record { node = omega (arith, n .nodes .ensures, e .before .if2 .left); edge = omega (arith, e .edge-count .ensures, c .if3 .left) },
-    )
-
-returns-4 : tie.Need-returns-4
-returns-4 c = search needs
+    settled-out (c .before .before .before .before .before .before .before .before .before .before .before .settle .ensures) _ _ _ _ (c .before .before .before .before .before .before .carry-column .ensures) (c .before .before .before .before .carry-column2 .ensures)
+    (c .before .before .carry-column3 .ensures) (c .carry-column4 .ensures)
 
 pub carry-spec : {M : Type 1} → statement M
 carry-spec =
     tie.close
     (tie.spec
-    good-requires
-    bare-requires
-    returns
-    nodes-requires
-    bare-requires-2
-    returns-2
-    edge-count-requires
-    bare-requires-3
-    returns-3
-    good-carry-requires
-    returns-4)
+    settle-requires
+    array-share-prefix-stay
+    slice-aggregate-stays
+    array-share-prefix-target
+    slice-aggregate-gets
+    carry-column-requires
+    carry-column-requires-2
+    carry-column-requires-3
+    carry-column-requires-4
+    mul-store
+    element-write-store
+    mul-store-2
+    element-write-store-2
+    returns)

@@ -5,32 +5,39 @@ use Prim.Native.Nat.{_-_, _<_, _≤_}
 use native.Mathlib.Omega.{arith}
 use borrow.Author.Needs.{needs}
 use Rattle.plan.specs.Sizes.{mostNodes}
-use Rattle.plan.specs.Plan.{size}
+use Rattle.plan.specs.Plan.{size, next}
 use Rattle.plan.specs.PlanRules.{PlanRules}
 use Rattle.plan.specs.PlanTable.{planOf}
 use Rattle.plan.proofs.NextLaws.{next-down}
 use Rattle.plan.proofs.TableLaws.{table-rules}
 use Rattle.store.specs.declared.Store.{Store}
 use Rattle.store.specs.Workers.{holding}
+use Rattle.rules.proofs.Walking.{next-here}
 use Rattle.searches.specs.Workers.{seenIn}
 use Rattle.searches.proofs.Descending.{seenFrom, seen-starts, seen-held, seen-never, seen-on}
 use Rattle.searches.proofs.lines.look_down.Statement.{statement}
 use Rattle.searches.proofs.lines.look_down.Tie as tie
 
 abbrev Inv-loop : tie.InvT-loop
-Inv-loop plan counts keys kinds values stamps key node₀ visits₀ node visits =
+Inv-loop plan edges lows highs targets counts keys kinds values stamps key node₀ visits₀ node visits =
     let z = holding plan 0 counts keys kinds values stamps in
     (node < size (planOf plan)) × (visits ≤ node) × (seenIn z key ≡ seenFrom z key node visits)
 
 abbrev μ-loop : tie.MeasureT-loop
-μ-loop plan counts keys kinds values stamps key node₀ visits₀ node visits = mostNodes - node
+μ-loop plan edges lows highs targets counts keys kinds values stamps key node₀ visits₀ node visits = mostNodes - node
 
--- The plan, and the store of the columns lent.
+-- The plan, its key's next step, and the store of the columns lent.
 rules : (s : tie.Start Inv-loop μ-loop) → PlanRules (planOf (s .args .plan))
-rules s = table-rules (s .args .plan) (s .pre .known .0) (s .pre .known .1)
+rules s = table-rules (s .args .plan) (s .pre .0 .known .0) (s .pre .0 .known .1)
 
 abbrev lent : tie.Start Inv-loop μ-loop → Store
 lent s = let a = s .args in holding (a .plan) 0 (a .counts .now) (a .keys .now) (a .kinds .now) (a .values .now) (a .stamps .now)
+
+step-is : (c : tie.After-next-in Inv-loop μ-loop) → let l = c .before .before .before .before in
+    c .next-in .result ≡ next (planOf (l .before .args .plan)) (l .loop .node) (l .before .args .key)
+step-is c =
+    let l = c .before .before .before .before in
+    next-here (l .before .pre .1) (l .loop .node) (l .before .args .key) (c .next-in .result) (c .next-in .ensures)
 
 loop-holds : tie.Need-loop-holds Inv-loop μ-loop
 loop-holds c = (omega (arith, rules c .two-to-eight-nodes), omega arith, seen-starts (lent c) (c .args .key))
@@ -41,7 +48,7 @@ add-visits c = omega (arith, rules (c .before) .two-to-eight-nodes)
 look-at-requires : tie.Need-look-at-requires Inv-loop μ-loop
 look-at-requires c κs =
     let h : c .loop .node < mostNodes = omega (arith, rules (c .before) .two-to-eight-nodes) in
-    (h, c .before .pre .ordered (c .loop .node) h)
+    (h, c .before .pre .0 .ordered (c .loop .node) h)
 
 enum-known-copy : tie.Need-enum-known-copy Inv-loop μ-loop
 enum-known-copy c = search needs
@@ -49,8 +56,8 @@ enum-known-copy c = search needs
 enum-told : tie.Need-enum-told Inv-loop μ-loop
 enum-told c = search needs
 
-next-requires : tie.Need-next-requires Inv-loop μ-loop
-next-requires c κs = search needs
+next-in-requires : tie.Need-next-in-requires Inv-loop μ-loop
+next-in-requires c κs = search needs
 
 enum-known-to : tie.Need-enum-known-to Inv-loop μ-loop
 enum-known-to c = search needs
@@ -64,13 +71,13 @@ returns c =
     let s = l .before in
     sym
     (l .loop .inv .2
-    ∙ seen-never (lent s) (rules s) (s .args .key) (l .loop .node) (l .loop .visits) (l .loop .inv .0) (sym (c .before .before .before .before .before .look-at .ensures) ∙ c .before .before .before .enum-told .given .1) (sym (c .before .before .next .ensures) ∙ c .enum-told2 .given .1))
+    ∙ seen-never (lent s) (rules s) (s .args .key) (l .loop .node) (l .loop .visits) (l .loop .inv .0) (sym (c .before .before .before .before .before .look-at .ensures) ∙ c .before .before .before .enum-told .given .1) (sym (step-is (c .before .before)) ∙ c .enum-told2 .given .1))
 
 loop-less : tie.Need-loop-less Inv-loop μ-loop
 loop-less c =
     let l = c .before .before .before .before .before .before .before in
     let s = l .before in
-    let d = next-down (planOf (s .args .plan)) (rules s) (l .loop .node) (s .args .key) (c .before .to .given .0 .0) (sym (c .before .before .before .next .ensures) ∙ c .before .to .given .1) in
+    let d = next-down (planOf (s .args .plan)) (rules s) (l .loop .node) (s .args .key) (c .before .to .given .0 .0) (sym (step-is (c .before .before .before)) ∙ c .before .to .given .1) in
     omega (arith, rules s .two-to-eight-nodes)
 
 loop-again : tie.Need-loop-again Inv-loop μ-loop
@@ -78,7 +85,7 @@ loop-again c =
     let l = c .before .before .before .before .before .before .before in
     let s = l .before in
     let t = c .before .to .given .0 .0 in
-    let to = sym (c .before .before .before .next .ensures) ∙ c .before .to .given .1 in
+    let to = sym (step-is (c .before .before .before)) ∙ c .before .to .given .1 in
     let d = next-down (planOf (s .args .plan)) (rules s) (l .loop .node) (s .args .key) t to in (
       d .1,
       omega arith,
@@ -105,7 +112,7 @@ look-down-spec =
     look-at-requires
     enum-known-copy
     enum-told
-    next-requires
+    next-in-requires
     enum-known-to
     enum-told-2
     returns

@@ -1,0 +1,132 @@
+// What a carry is to write, settled before anything is written: its answer, the two nodes' counts, and the two lists of places.
+ghost use mathlib.Core.Path.{_≡_};
+ghost use Prim.Native.Nat.{_-_, _≤_};
+ghost use lib.ListN.{length};
+ghost use Rattle.plan.specs.PlanRules.{IsEdge};
+ghost use Rattle.plan.specs.PlanTable.{planOf};
+ghost use Rattle.store.specs.Answers.{DONE, answer};
+ghost use Rattle.store.specs.Layout.{width};
+ghost use Rattle.rules.specs.Workers.{Sized};
+ghost use Rattle.carries.specs.Settlings.{nothing, OfGood, Settles, SettlesIn};
+use crate::decision::count_held;
+use crate::decision::decide;
+use store::Answer;
+use store::Slot;
+use store::Store;
+
+// The answer; the node, its first place, how many copies it had, how many stay, and its count then; the target, its first place, how many
+// copies it gets, its own and carried ones, and its count then.
+pub struct Settled {
+    pub answer: Answer,
+    pub node: usize,
+    pub from: usize,
+    pub had: usize,
+    pub kept: usize,
+    pub remains: u32,
+    pub target: usize,
+    pub start: usize,
+    pub got: usize,
+    pub holds: u32,
+}
+
+// A refusal: no place is written, and only the first node's count, as it was.
+fn refused(number: u32, count: u32) -> Settled
+    ensures { λ r. ⌜ r ≡ nothing number count ⌝ }
+{
+    Settled {
+        answer: Answer::bare(number),
+        node: 0,
+        from: 0,
+        had: 0,
+        kept: 0,
+        remains: count,
+        target: 0,
+        start: 0,
+        got: 0,
+        holds: count,
+    }
+}
+
+// "Carried is the fall in the node's count; discarded is carried less the rise in the target's"; and left.
+fn tally(had: usize, kept: usize, held: usize, got: usize, left: usize) -> Answer
+    requires { ⌜ (kept ≤ had) × (held ≤ got) × (got - held ≤ had - kept) ⌝ }
+    ensures { λ r. ⌜ r ≡ answer DONE (had - kept) ((had - kept) - (got - held)) left 0 ⌝ }
+{
+    let carried = had - kept;
+    let rise = got - held;
+    Answer::of(
+        Answer::DONE,
+        carried as u64,
+        (carried - rise) as u64,
+        left as u64,
+        0,
+    )
+}
+
+// Along an edge of a good store's plan: what stays and what the target gets.
+fn along(
+    plan: u32,
+    counts: &[u32; Store::NODES],
+    keys: &[u32; Store::PLACES],
+    stay: &mut [usize; Store::WIDTH],
+    target: &mut [usize; Store::WIDTH],
+    node: u32,
+    edge: u32,
+) -> Settled
+    requires { ⌜ OfGood plan (now counts) (now keys) × IsEdge (planOf plan) node edge × (length (now stay) ≡ width) × (length (now target) ≡ width) ⌝ }
+    ensures { λ r. ⌜ SettlesIn plan (now (counts .entry)) (now (keys .entry)) node edge (now (stay .exit)) (now (target .exit)) r ⌝ }
+{
+    let e = plan::edge_at(plan, node, edge);
+    let n = node as usize;
+    let t = e.target as usize;
+    let had = counts[n] as usize;
+    let held = counts[t] as usize;
+    let from = Store::WIDTH * n;
+    let start = Store::WIDTH * t;
+    let capacity = plan::capacity(plan, e.target) as usize;
+    let m = decide(keys, stay, target, from, had, start, held, e, capacity);
+    let left = count_held(keys, stay, m.kept, e);
+    Settled {
+        answer: tally(had, m.kept, held, m.got, left),
+        node: n,
+        from: from,
+        had: had,
+        kept: m.kept,
+        remains: m.kept as u32,
+        target: t,
+        start: start,
+        got: m.got,
+        holds: m.got as u32,
+    }
+}
+
+// BADSTORE, then NODE, then EDGE, and none of them alters the store.
+pub fn settle<'a>(
+    plan: u32,
+    clock: u32,
+    counts: &'a [u32; Store::NODES],
+    keys: &'a [u32; Store::PLACES],
+    kinds: &'a [u32; Store::PLACES],
+    values: &'a [u32; Store::PLACES],
+    stamps: &'a [u32; Store::PLACES],
+    slots: [Slot; Store::SLOTS],
+    stay: &mut [usize; Store::WIDTH],
+    target: &mut [usize; Store::WIDTH],
+    node: u32,
+    edge: u32,
+) -> Settled
+    requires { ⌜ Sized (now counts) (now keys) (now kinds) (now values) (now stamps) × (length (now stay) ≡ width) × (length (now target) ≡ width) ⌝ }
+    ensures { λ r. ⌜ Settles (record { plan = plan; clock = clock; counts = now (counts .entry); keys = now (keys .entry); kinds = now (kinds .entry); values = now (values .entry); stamps = now (stamps .entry); slots = slots }) node edge (now (stay .exit)) (now (target .exit)) r ⌝ }
+{
+    let first = counts[0];
+    if !rules::good(plan, clock, counts, keys, kinds, values, stamps, slots) {
+        return refused(Answer::BADSTORE, first);
+    }
+    if plan::nodes(plan) <= node {
+        return refused(Answer::NODE, first);
+    }
+    if plan::edge_count(plan, node) <= edge {
+        return refused(Answer::EDGE, first);
+    }
+    along(plan, counts, keys, stay, target, node, edge)
+}
