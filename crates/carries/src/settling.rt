@@ -6,7 +6,7 @@ ghost use Rattle.plan.specs.PlanRules.{IsEdge};
 ghost use Rattle.plan.specs.PlanTable.{planOf};
 ghost use Rattle.store.specs.Answers.{DONE, answer};
 ghost use Rattle.store.specs.Layout.{width};
-ghost use Rattle.rules.specs.Workers.{Sized};
+ghost use Rattle.store.specs.Workers.{Sized};
 ghost use Rattle.carries.specs.Settlings.{nothing, OfGood, Settles, SettlesIn};
 use crate::decision::count_held;
 use crate::decision::decide;

@@ -1,7 +1,7 @@
 // What an entry is decided to be, before anything is written: whether it is accepted, and the place of its copy.
 ghost use mathlib.Core.Path.{_≡_};
 ghost use Prim.Native.Nat.{_<_};
-ghost use Rattle.rules.specs.Workers.{Sized};
+ghost use Rattle.store.specs.Workers.{Sized};
 ghost use Rattle.store.specs.State.{lastClock};
 ghost use Rattle.entries.specs.Decisions.{refusal, acceptance, Decides};
 use store::Answer;

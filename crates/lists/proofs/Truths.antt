@@ -1,7 +1,7 @@
 -- Laws of tests: what a test that holds says of its parts. Assumes nothing.
 use mathlib.Core.Path.{_≡_, refl, sym}
 use mathlib.Core.Bool.{Bool, true, false, _&&_, _||_}
-use mathlib.Core.Logic.{_⊎_, inl, inr}
+use mathlib.Core.Logic.{_⊎_, ⊎-elim, inl, inr}
 use Prim.Native.Nat.{ℕ, _≤_}
 use native.Mathlib.Omega.{arith}
 use lib.Dec.{leb}
@@ -15,6 +15,10 @@ bool? false = inr refl
 -- and never both.
 pub not-both : {b : Bool} → b ≡ true → b ≡ false → ⊥
 not-both t f = let z : _≡_ {A = ℕ} 0 1 = cc in omega arith
+
+-- A test that cannot hold fails.
+pub refuted : (b : Bool) → (b ≡ true → ⊥) → b ≡ false
+refuted b h = ⊎-elim (λ (t : b ≡ true). absurd (h t)) (λ (f : b ≡ false). f) (bool? b)
 
 -- Two tests of which each holds when the other does are one.
 pub same-test : {a b : Bool} → (a ≡ true → b ≡ true) → (b ≡ true → a ≡ true) → a ≡ b

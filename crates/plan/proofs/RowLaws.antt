@@ -8,11 +8,12 @@ use native.Mathlib.Nat.{not-suc-le-zero}
 use native.Mathlib.Decide.{decLt}
 use lib.ListN.{length, getD, List·getD-eq-default}
 use Rattle.lists.proofs.Running.{getD-map-within}
+use Rattle.plan.specs.declared.Hop.{Hop}
 use Rattle.plan.specs.declared.Edge.{Edge}
 use Rattle.plan.specs.Sizes.{mostNodes, mostEdges}
 use Rattle.plan.specs.Plan.{Plan, noEdge, size, capacityOf, edgesOf, edgeOf, firstEdge, next}
 use Rattle.plan.specs.PlanTable.{planTable, plans, planOf}
-use Rattle.plan.specs.PlanArrays.{atNode, Grid, edgeCountIn, edgesIn, capacitiesRow, countsRow, gridOf, rowOf}
+use Rattle.plan.specs.PlanArrays.{ArraysOf, atNode, Grid, edgeCountIn, edgesIn, capacitiesRow, countsRow, gridOf, rowOf}
 use Rattle.plan.proofs.TableLaws.{table-rules, no-plan}
 use Rattle.plan.proofs.ArrayLaws.{capacities-back, count-back, edges-back}
 
@@ -83,3 +84,9 @@ module _ (plan : ℕ) where
       pub next-of : (n k : ℕ) → firstEdge (edgesIn cs ls hs ts n) k ≡ next (planOf plan) n k
       unfolding next
       next-of n k = ap (λ (es : List Edge). firstEdge es k) (edges-of n)
+
+-- A plan's arrays give the key's next step.
+pub next-here : {plan : ℕ} {edges : List ℕ} {lows highs targets : Grid} → ArraysOf plan edges lows highs targets → (n k : ℕ) (h : Hop)
+    → h ≡ firstEdge (edgesIn edges lows highs targets n) k → h ≡ next (planOf plan) n k
+next-here {plan} {edges} {lows} {highs} {targets} a n k h e =
+    e ∙ next-of plan edges lows highs targets (a .edges-of) (a .lows-of) (a .highs-of) (a .targets-of) n k

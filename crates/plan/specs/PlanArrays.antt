@@ -1,5 +1,6 @@
 -- A plan as arrays: capacities and edge counts by node; lowest keys, highest keys and targets by node and then by edge.
 -- The only file of the plan's definitions that knows how it is laid out.
+use mathlib.Core.Path.{_≡_}
 use mathlib.Core.Bool.{cond}
 use mathlib.Core.List.{List, []}
 use Prim.Native.Nat.{ℕ, zero, suc, min}
@@ -9,7 +10,7 @@ use Rattle.lists.specs.Runs.{run}
 use Rattle.plan.specs.declared.Edge.{Edge}
 use Rattle.plan.specs.Sizes.{mostNodes, mostEdges}
 use Rattle.plan.specs.Plan.{Plan, capacityOf, edgesOf, edgeOf}
-use Rattle.plan.specs.PlanTable.{plans}
+use Rattle.plan.specs.PlanTable.{planOf, plans}
 
 -- A number for each edge, by node and then by edge.
 abbrev pub Grid : Type 0
@@ -48,3 +49,10 @@ gridOf part p = run 0 mostNodes (λ n. run 0 mostEdges (λ i. part (edgeOf p n i
 unfoldable pub rowOf : ℕ → ℕ
 rowOf zero = plans
 rowOf (suc p) = p
+
+-- Arrays that are the plan's, taken once and lent.
+pub record ArraysOf (plan : ℕ) (edges : List ℕ) (lows highs targets : Grid) : Type 0 where
+  pub edges-of : edges ≡ countsRow (planOf plan)
+  pub lows-of : lows ≡ gridOf (λ (e : Edge). e .lowest) (planOf plan)
+  pub highs-of : highs ≡ gridOf (λ (e : Edge). e .highest) (planOf plan)
+  pub targets-of : targets ≡ gridOf (λ (e : Edge). e .target) (planOf plan)

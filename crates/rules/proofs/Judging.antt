@@ -6,7 +6,7 @@ use lib.Dec.{leb}
 use lib.ListN.{length}
 use borrow.Author.Tests.{eq-eqb, le-leb, lt-leb}
 use Rattle.lists.specs.Runs.{allBelow}
-use Rattle.lists.proofs.Truths.{not-both, and-left, and-right, and-both}
+use Rattle.lists.proofs.Truths.{not-both, refuted, and-left, and-right, and-both}
 use Rattle.plan.specs.Sizes.{mostNodes}
 use Rattle.plan.specs.PlanTable.{planOf}
 use Rattle.plan.proofs.TableLaws.{plans-three}
@@ -15,10 +15,11 @@ use Rattle.store.specs.Copies.{different}
 use Rattle.store.specs.State.{lastClock, slotCount}
 use Rattle.store.specs.Layout.{places, stateOf}
 use Rattle.store.specs.StoreRules.{shapeTest, planNumberTest, clockTest, unusedTest, nodeTest, stampsFrom, goodStore}
-use Rattle.rules.specs.Workers.{holding, keyed, usedTest, tidyTest, pathsTest, slotsTest, Sized, AllOrdered}
-use Rattle.rules.proofs.Tidying.{nodes-ordered}
-use Rattle.rules.proofs.Placing.{paths-keyed, nodes-parts}
-use Rattle.rules.proofs.Sorting.{refuted}
+use Rattle.store.specs.Workers.{holding, Sized, AllOrdered}
+use Rattle.rules_nodes.specs.Workers.{usedTest, tidyTest}
+use Rattle.rules_nodes.proofs.Tidying.{nodes-ordered}
+use Rattle.rules_paths.proofs.Placing.{slotted, placed, paths-keyed}
+use Rattle.rules.proofs.Parting.{nodes-parts}
 
 -- The plan's number.
 module _ (plan : ℕ) where
@@ -45,15 +46,9 @@ module _ (clock : ℕ) where
   clock-in h g = rw (le-leb 1 clock h, le-leb clock lastClock g)
 
 module _ (z : Store) where
-  -- The tests of the nodes' own numbers, and of the paths of searches and copies.
+  -- The tests of the nodes' own numbers.
   abbrev pub tidy : Bool
   tidy = allBelow mostNodes (tidyTest (holding (z .plan) (z .clock) (z .counts) (z .keys) (z .kinds) (z .values) (z .stamps)))
-
-  abbrev pub slotted : Bool
-  slotted = slotsTest (z .plan) (z .slots)
-
-  abbrev pub placed : Bool
-  placed = allBelow mostNodes (pathsTest (keyed (z .plan) (z .counts) (z .keys) (z .stamps)))
 
   shaped : Sized (z .counts) (z .keys) (z .kinds) (z .values) (z .stamps) → length (z .slots) ≡ slotCount → shapeTest z ≡ true
   unfolding shapeTest
@@ -72,7 +67,7 @@ module _ (z : Store) where
   unfolding tidyTest usedTest unusedTest
   no-search = refl
 
-  nodes-are : allBelow mostNodes (nodeTest (planOf (z .plan)) (stateOf z) z) ≡ (tidy && placed)
+  nodes-are : allBelow mostNodes (nodeTest (planOf (z .plan)) (stateOf z) z) ≡ (tidy && (placed z))
   nodes-are = nodes-parts z ∙ rw (no-search, paths-keyed z)
 
   pub number-fails : planNumberTest (z .plan) ≡ false → goodStore z ≡ false
@@ -84,36 +79,29 @@ module _ (z : Store) where
   clock-fails h = rw (h, and-false (shapeTest z && planNumberTest (z .plan)))
 
   -- What a good store says of its nodes and searches.
-  nodes-good : goodStore z ≡ true → (tidy && placed) ≡ true
+  nodes-good : goodStore z ≡ true → (tidy && (placed z)) ≡ true
   unfolding goodStore
   nodes-good t =
       let n : allBelow mostNodes (nodeTest (planOf (z .plan)) (stateOf z) z) ≡ true = search (and-left, and-right) depth 8 in
       sym nodes-are ∙ n
 
-  slots-good : goodStore z ≡ true → slotted ≡ true
+  slots-good : goodStore z ≡ true → (slotted z) ≡ true
   unfolding goodStore
   slots-good t = search (and-left, and-right) depth 8
 
   pub tidy-fails : tidy ≡ false → goodStore z ≡ false
-  tidy-fails h = refuted (goodStore z) (λ t. not-both (and-left tidy placed (nodes-good t)) h)
+  tidy-fails h = refuted (goodStore z) (λ t. not-both (and-left tidy (placed z) (nodes-good t)) h)
 
-  pub paths-fail : (slotted && placed) ≡ false → goodStore z ≡ false
-  paths-fail h = refuted (goodStore z) (λ t. not-both (and-both (slots-good t) (and-right tidy placed (nodes-good t))) h)
+  pub paths-fail : ((slotted z) && (placed z)) ≡ false → goodStore z ≡ false
+  paths-fail h = refuted (goodStore z) (λ t. not-both (and-both (slots-good t) (and-right tidy (placed z) (nodes-good t))) h)
 
   pub stamps-decide : Sized (z .counts) (z .keys) (z .kinds) (z .values) (z .stamps) → length (z .slots) ≡ slotCount
-      → planNumberTest (z .plan) ≡ true → clockTest (z .clock) ≡ true → tidy ≡ true → (slotted && placed) ≡ true
+      → planNumberTest (z .plan) ≡ true → clockTest (z .clock) ≡ true → tidy ≡ true → ((slotted z) && (placed z)) ≡ true
       → goodStore z ≡ different (stampsFrom (z .counts) (z .stamps) 0 mostNodes)
   unfolding goodStore
   stamps-decide s l number clock t q =
-      let nodes = nodes-are ∙ and-both t (and-right slotted placed q) in
-      rw (shaped s l, number, clock, nodes, and-left slotted placed q, and-true (different (stampsFrom (z .counts) (z .stamps) 0 mostNodes)))
-
-  -- The searches decide, and then the copies.
-  pub slots-fail : slotted ≡ false → false ≡ (slotted && placed)
-  slots-fail h = rw h
-
-  pub placed-decides : slotted ≡ true → placed ≡ (slotted && placed)
-  placed-decides h = rw h
+      let nodes = nodes-are ∙ and-both t (and-right (slotted z) (placed z) q) in
+      rw (shaped s l, number, clock, nodes, and-left (slotted z) (placed z) q, and-true (different (stampsFrom (z .counts) (z .stamps) 0 mostNodes)))
 
   -- Where the nodes' own numbers pass, a look in each node can go by halves.
   pub tidy-ordered : planNumberTest (z .plan) ≡ true → tidy ≡ true → AllOrdered (z .counts) (z .keys)

@@ -4,7 +4,7 @@ ghost use mathlib.Core.Option.{none, some};
 ghost use Rattle.store.specs.Workers.{holding};
 ghost use Rattle.plan.specs.PlanTable.{planOf};
 ghost use Rattle.store.specs.Layout.{stateOf};
-ghost use Rattle.rules.specs.Workers.{ArraysOf};
+ghost use Rattle.plan.specs.PlanArrays.{ArraysOf};
 ghost use Rattle.steps.specs.Searches.{ended, lookAnswer};
 ghost use Rattle.searches.specs.Workers.{Lookable, seenIn};
 use plan::Hop;

@@ -2,7 +2,7 @@
 ghost use mathlib.Core.Path.{_≡_};
 ghost use Prim.Native.Nat.{_<_};
 ghost use Rattle.store.specs.State.{slotCount, idle};
-ghost use Rattle.rules.specs.Workers.{Sized};
+ghost use Rattle.store.specs.Workers.{Sized};
 ghost use Rattle.steps.specs.Searches.{running, startStep, stepStep, cancelStep};
 ghost use Rattle.searches.specs.Workers.{wrote, kept, Steppable, Running, StartsIn, CancelsIn, StepsIn, Moves};
 use crate::lines;

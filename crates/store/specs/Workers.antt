@@ -1,4 +1,5 @@
 -- What the workers on lent columns promise: the place of a key by rising keys, and a number put in between others.
+use mathlib.Core.Path.{_≡_}
 use mathlib.Core.Bool.{cond}
 use mathlib.Core.List.{List, [], _∷_, _++_}
 use Prim.Native.Nat.{ℕ, suc, _+_, _-_, _*_, _<_, _≤_}
@@ -6,8 +7,9 @@ use lib.Dec.{ltb}
 use lib.ListN.{length, getD, take, drop}
 use lib.Seq.{slice}
 use Rattle.lists.specs.Runs.{run}
+use Rattle.plan.specs.Sizes.{mostNodes}
 use Rattle.store.specs.declared.Store.{Store}
-use Rattle.store.specs.Layout.{width}
+use Rattle.store.specs.Layout.{width, places}
 
 -- The number of a column at a place.
 abbrev pub numberIn : List ℕ → ℕ → ℕ
@@ -38,6 +40,17 @@ RisesIn keys from end = (i : ℕ) → from ≤ i → suc i < end → numberIn ke
 pub record Ordered (counts keys : List ℕ) (n : ℕ) : Type 0 where
   pub fits : getD counts n 0 ≤ width
   pub rises : RisesIn keys (width * n) (width * n + getD counts n 0)
+
+abbrev pub AllOrdered : List ℕ → List ℕ → Type 0
+AllOrdered counts keys = (n : ℕ) → n < mostNodes → Ordered counts keys n
+
+-- Columns that are as long as a store's.
+pub record Sized (counts keys kinds values stamps : List ℕ) : Type 0 where
+  pub counts-8 : length counts ≡ mostNodes
+  pub keys-512 : length keys ≡ places
+  pub kinds-512 : length kinds ≡ places
+  pub values-512 : length values ≡ places
+  pub stamps-512 : length stamps ≡ places
 
 -- A store of the columns that a worker is lent. No look reads its searches, so there are none.
 abbrev pub holding : ℕ → ℕ → List ℕ → List ℕ → List ℕ → List ℕ → List ℕ → Store

@@ -5,19 +5,7 @@ use lib.ListN.{length}
 use borrow.Author.Tests.{not-true, not-false}
 use Rattle.store.specs.declared.Store.{Store}
 use Rattle.store.specs.State.{slotCount}
-use Rattle.rules.proofs.Judging.{
-  number-low,
-  number-high,
-  number-in,
-  clock-low,
-  clock-in,
-  number-fails,
-  clock-fails,
-  tidy-fails,
-  paths-fail,
-  stamps-decide,
-  tidy-ordered,
-}
+use Rattle.rules.proofs.Judging.{number-low, number-high, number-in, clock-low, clock-in, number-fails, clock-fails, tidy-fails, paths-fail, stamps-decide, tidy-ordered}
 use borrow.Author.Needs.{needs}
 use Rattle.rules.proofs.good.Statement.{statement}
 use Rattle.rules.proofs.good.Tie as tie

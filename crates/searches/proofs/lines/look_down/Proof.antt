@@ -12,7 +12,7 @@ use Rattle.plan.proofs.NextLaws.{next-down}
 use Rattle.plan.proofs.TableLaws.{table-rules}
 use Rattle.store.specs.declared.Store.{Store}
 use Rattle.store.specs.Workers.{holding}
-use Rattle.rules.proofs.Walking.{next-here}
+use Rattle.plan.proofs.RowLaws.{next-here}
 use Rattle.searches.specs.Workers.{seenIn}
 use Rattle.searches.proofs.Descending.{seenFrom, seen-starts, seen-held, seen-never, seen-on}
 use Rattle.searches.proofs.lines.look_down.Statement.{statement}

@@ -1,0 +1,60 @@
+-- The tests of a copy's own numbers and of a used place, way out by way out. Assumes nothing.
+use mathlib.Core.Path.{_≡_}
+use mathlib.Core.Bool.{true, false, and-false}
+use mathlib.Core.List.{List}
+use Prim.Native.Nat.{ℕ, suc, _+_, _<_, _≤_}
+use native.Mathlib.Omega.{arith}
+use native.Mathlib.Numerals.{add-one}
+use lib.Dec.{ltb, eqb}
+use borrow.Author.Tests.{eq-eqb, ne-eqb, le-leb, lt-leb}
+use Rattle.store.specs.declared.Copy.{Copy}
+use Rattle.store.specs.declared.Store.{Store}
+use Rattle.store.specs.Copies.{WITHDRAWN, RESULT}
+use Rattle.store.specs.Layout.{copyOf}
+use Rattle.store.specs.StoreRules.{kindTest}
+use Rattle.store.specs.Workers.{numberIn}
+use Rattle.rules_nodes.specs.Workers.{markTest, keyRises, usedTest}
+
+module _ (x : Copy) where
+  pub kind-result : x .kind ≡ RESULT → kindTest x ≡ true
+  unfolding kindTest
+  kind-result h = rw (eq-eqb (x .kind) RESULT h)
+
+  pub kind-strange : (x .kind ≡ RESULT → ⊥) → (x .kind ≡ WITHDRAWN → ⊥) → kindTest x ≡ false
+  unfolding kindTest
+  kind-strange h g = rw (ne-eqb (x .kind) RESULT h, ne-eqb (x .kind) WITHDRAWN g)
+
+  pub kind-withdrawn : (x .kind ≡ RESULT → ⊥) → x .kind ≡ WITHDRAWN → kindTest x ≡ eqb (x .value) 0
+  unfolding kindTest
+  kind-withdrawn h g = rw (ne-eqb (x .kind) RESULT h, eq-eqb (x .kind) WITHDRAWN g)
+
+  module _ (clock : ℕ) where
+    pub mark-kind : kindTest x ≡ false → markTest clock x ≡ false
+    unfolding markTest
+    mark-kind h = rw h
+
+    pub mark-never : x .stamp < 1 → markTest clock x ≡ false
+    unfolding markTest
+    mark-never h = rw (lt-leb 1 (x .stamp) h, and-false (kindTest x))
+
+    pub mark-clock : kindTest x ≡ true → 1 ≤ x .stamp → markTest clock x ≡ ltb (x .stamp) clock
+    unfolding markTest
+    mark-clock h g = rw (h, le-leb 1 (x .stamp) g)
+
+-- Keys that rise: at the last used place there is nothing to test.
+module _ (keys : List ℕ) (end i : ℕ) where
+  pub rises-last : end ≤ i + 1 → true ≡ keyRises keys end i
+  rises-last h = rw (le-leb end (suc i) (omega arith))
+
+  pub rises-next : i + 1 < end → ltb (numberIn keys i) (numberIn keys (i + 1)) ≡ keyRises keys end i
+  rises-next h = rw (lt-leb end (suc i) (omega arith), add-one)
+
+-- A used place.
+module _ (z : Store) (end i : ℕ) where
+  pub used-order : keyRises (z .keys) end i ≡ false → usedTest z end i ≡ false
+  unfolding usedTest
+  used-order h = rw h
+
+  pub used-mark : keyRises (z .keys) end i ≡ true → usedTest z end i ≡ markTest (z .clock) (copyOf z i)
+  unfolding usedTest
+  used-mark h = rw h

@@ -1,0 +1,178 @@
+// The rules of a node's own numbers, on lent columns: its count, its used places and the others.
+ghost use mathlib.Core.Path.{_≡_};
+ghost use mathlib.Core.Bool.{true, _&&_};
+ghost use Prim.Native.Nat.{_-_, _<_, _≤_};
+ghost use mathlib.Core.List.{[]};
+ghost use lib.ListN.{length};
+ghost use lib.Seq.{slice};
+ghost use Rattle.lists.specs.Runs.{allFrom, allBelow};
+ghost use Rattle.plan.specs.Sizes.{mostNodes};
+ghost use Rattle.plan.specs.PlanTable.{planOf};
+ghost use Rattle.plan.specs.PlanArrays.{capacitiesRow};
+ghost use Rattle.store.specs.Layout.{places};
+ghost use Rattle.store.specs.StoreRules.{planNumberTest, kindTest, allZero};
+ghost use Rattle.store.specs.Workers.{holding, Sized};
+ghost use Rattle.rules_nodes.specs.Workers.{markTest, keyRises, usedTest, tidyTest};
+use plan::arrays;
+use store::Copy;
+use store::Store;
+use store::columns;
+
+// Kind 1, or kind 0 and value 0.
+fn kind_good(x: Copy) -> bool
+    ensures { λ r. ⌜ r ≡ kindTest x ⌝ }
+{
+    if x.kind == 1 {
+        return true;
+    }
+    if x.kind != 0 {
+        return false;
+    }
+    x.value == 0
+}
+
+// A copy's kind and value, and "stamps from 1 to clock − 1".
+fn mark_good(clock: u32, x: Copy) -> bool
+    ensures { λ r. ⌜ r ≡ markTest clock x ⌝ }
+{
+    if !kind_good(x) {
+        return false;
+    }
+    if x.stamp < 1 {
+        return false;
+    }
+    x.stamp < clock
+}
+
+// "keys strictly rising in a node": the key at a used place is below the next one's, if there is one.
+fn key_rises(keys: &[u32; Store::PLACES], end: usize, i: usize) -> bool
+    requires { ⌜ (i < end) × (end ≤ places) ⌝ }
+    ensures { λ r. ⌜ r ≡ keyRises (now (keys .entry)) end i ⌝ }
+{
+    if end <= i + 1 {
+        return true;
+    }
+    keys[i] < keys[i + 1]
+}
+
+// The used places of a node, from..end.
+fn used_good<'a>(
+    clock: u32,
+    keys: &'a [u32; Store::PLACES],
+    kinds: &'a [u32; Store::PLACES],
+    values: &'a [u32; Store::PLACES],
+    stamps: &'a [u32; Store::PLACES],
+    from: usize,
+    end: usize,
+) -> bool
+    requires { ⌜ end ≤ places ⌝ }
+    ensures { λ r. ⌜ r ≡ allFrom from (end - from) (usedTest (holding 0 clock [] (now (keys .entry)) (now (kinds .entry)) (now (values .entry)) (now (stamps .entry))) end) ⌝ }
+{
+    let mut i = from;
+    while i < end {
+        if !key_rises(keys, end, i) {
+            return false;
+        }
+        let key = keys[i];
+        let kind = kinds[i];
+        let value = values[i];
+        let stamp = stamps[i];
+        let x = Copy {
+            key: key,
+            kind: kind,
+            value: value,
+            stamp: stamp,
+        };
+        if !mark_good(clock, x) {
+            return false;
+        }
+        i += 1;
+    }
+    true
+}
+
+// "unused places .. all zero": those from..end.
+fn unused_good<'a>(
+    keys: &'a [u32; Store::PLACES],
+    kinds: &'a [u32; Store::PLACES],
+    values: &'a [u32; Store::PLACES],
+    stamps: &'a [u32; Store::PLACES],
+    from: usize,
+    end: usize,
+) -> bool
+    requires { ⌜ (from ≤ end) × (end ≤ places) × (length (now keys) ≡ places) × (length (now kinds) ≡ places) × (length (now values) ≡ places) × (length (now stamps) ≡ places) ⌝ }
+    ensures { λ r. ⌜ r ≡ (allZero (slice from end (now (keys .entry))) && allZero (slice from end (now (kinds .entry))) && allZero (slice from end (now (values .entry))) && allZero (slice from end (now (stamps .entry)))) ⌝ }
+{
+    if !columns::all_zero(keys, from, end) {
+        return false;
+    }
+    if !columns::all_zero(kinds, from, end) {
+        return false;
+    }
+    if !columns::all_zero(values, from, end) {
+        return false;
+    }
+    columns::all_zero(stamps, from, end)
+}
+
+// A node: "counts within capacity", its used places, and the others.
+fn node_tidy<'a, 'b>(
+    plan: u32,
+    clock: u32,
+    capacities: &'b [u32; plan::MOST_NODES],
+    counts: &'a [u32; Store::NODES],
+    keys: &'a [u32; Store::PLACES],
+    kinds: &'a [u32; Store::PLACES],
+    values: &'a [u32; Store::PLACES],
+    stamps: &'a [u32; Store::PLACES],
+    node: u32,
+) -> bool
+    requires { ⌜ (node < mostNodes) × (planNumberTest plan ≡ true) × Sized (now counts) (now keys) (now kinds) (now values) (now stamps) × (now capacities ≡ capacitiesRow (planOf plan)) ⌝ }
+    ensures { λ r. ⌜ r ≡ tidyTest (holding plan clock (now (counts .entry)) (now (keys .entry)) (now (kinds .entry)) (now (values .entry)) (now (stamps .entry))) node ⌝ }
+{
+    let n = node as usize;
+    let count = counts[n];
+    if arrays::capacity_in(capacities, node) < count {
+        return false;
+    }
+    let from = Store::WIDTH * n;
+    let end = from + count as usize;
+    if !used_good(clock, keys, kinds, values, stamps, from, end) {
+        return false;
+    }
+    unused_good(keys, kinds, values, stamps, end, from + Store::WIDTH)
+}
+
+// All nodes.
+pub fn nodes_tidy<'a>(
+    plan: u32,
+    clock: u32,
+    counts: &'a [u32; Store::NODES],
+    keys: &'a [u32; Store::PLACES],
+    kinds: &'a [u32; Store::PLACES],
+    values: &'a [u32; Store::PLACES],
+    stamps: &'a [u32; Store::PLACES],
+) -> bool
+    requires { ⌜ (planNumberTest plan ≡ true) × Sized (now counts) (now keys) (now kinds) (now values) (now stamps) ⌝ }
+    ensures { λ r. ⌜ r ≡ allBelow mostNodes (tidyTest (holding plan clock (now (counts .entry)) (now (keys .entry)) (now (kinds .entry)) (now (values .entry)) (now (stamps .entry)))) ⌝ }
+{
+    let capacities = plan::capacities_of(plan);
+    let mut node = 0;
+    while node < Store::NODES as u32 {
+        if !node_tidy(
+            plan,
+            clock,
+            &capacities,
+            counts,
+            keys,
+            kinds,
+            values,
+            stamps,
+            node,
+        ) {
+            return false;
+        }
+        node += 1;
+    }
+    true
+}

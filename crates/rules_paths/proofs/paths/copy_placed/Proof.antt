@@ -1,0 +1,57 @@
+-- `rules_paths::paths::copy_placed` meets its contract. Assumes nothing.
+use mathlib.Core.Path.{sym, _∙_}
+use borrow.Author.Tests.{not-true, not-false}
+use Rattle.store.specs.declared.Store.{Store}
+use Rattle.rules_paths.specs.Workers.{keyed}
+use Rattle.rules_paths.proofs.Placing.{placed-off, placed-falls}
+use borrow.Author.Needs.{needs}
+use Rattle.rules_paths.proofs.paths.copy_placed.Statement.{statement}
+use Rattle.rules_paths.proofs.paths.copy_placed.Tie as tie
+
+-- The store of the columns lent.
+abbrev lent : tie.Start → Store
+lent s = let a = s .args in keyed (a .plan) (a .counts .now) (a .keys .now) (a .stamps .now)
+
+mul-key : tie.Need-mul-key
+mul-key c = search needs
+
+element-copy-out-key : tie.Need-element-copy-out-key
+element-copy-out-key c = search needs
+
+on-path-requires : tie.Need-on-path-requires
+on-path-requires c κs = search needs
+
+returns : tie.Need-returns
+returns c =
+    let s = c .before .before .before in
+    let path = c .before .on-path in
+    sym (placed-off (lent s) (s .args .node) (s .args .i) (sym (path .ensures) ∙ not-true (path .result) (c .if1 .taken)))
+
+stamp-below-requires : tie.Need-stamp-below-requires
+stamp-below-requires c κs = search needs
+
+mul-result : tie.Need-mul-result
+mul-result c = search needs
+
+element-copy-out-result : tie.Need-element-copy-out-result
+element-copy-out-result c = search needs
+
+returns-2 : tie.Need-returns-2
+returns-2 c =
+    let s = c .before .before .before .before .before in
+    let path = c .before .before .before .on-path in
+    let below = c .before .stamp-below in
+    sym (placed-falls (lent s) (s .args .node) (s .args .i) (sym (path .ensures) ∙ not-false (path .result) (c .before .before .if1 .left)) (below .result) (below .ensures))
+
+pub copy-placed-spec : {M : Type 1} → statement M
+copy-placed-spec =
+    tie.close
+    (tie.spec
+    mul-key
+    element-copy-out-key
+    on-path-requires
+    returns
+    stamp-below-requires
+    mul-result
+    element-copy-out-result
+    returns-2)

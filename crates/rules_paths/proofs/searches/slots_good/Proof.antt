@@ -1,0 +1,80 @@
+-- `rules_paths::searches::slots_good` meets its contract. The loop's invariant: all slots pass if those from i on do. The measure is their number.
+-- Assumes nothing.
+use mathlib.Core.Path.{_≡_, refl, sym, _∙_}
+use mathlib.Core.Bool.{Bool}
+use mathlib.Core.List.{List}
+use Prim.Native.Nat.{ℕ, _-_, _≤_}
+use native.Mathlib.Omega.{arith}
+use lib.ListN.{getD}
+use borrow.Author.Needs.{needs}
+use borrow.Author.Tests.{not-true, not-false}
+use Rattle.lists.specs.Runs.{allFrom, allBelow}
+use Rattle.lists.proofs.Running.{all-stop, all-turn, all-end}
+use Rattle.plan.specs.PlanTable.{planOf}
+use Rattle.store.specs.declared.Slot.{Slot}
+use Rattle.store.specs.State.{slotCount, idle}
+use Rattle.store.specs.StoreRules.{slotTest}
+use Rattle.rules_paths.proofs.searches.slots_good.Statement.{statement}
+use Rattle.rules_paths.proofs.searches.slots_good.Tie as tie
+
+-- The test of each slot.
+abbrev eachSlot : ℕ → List Slot → ℕ → Bool
+eachSlot plan slots i = slotTest (planOf plan) (getD slots i idle)
+
+abbrev Inv-loop : tie.InvT-loop
+Inv-loop plan edges lows highs targets slots i₀ i =
+    (i ≤ slotCount) × (allBelow slotCount (eachSlot plan slots) ≡ allFrom i (slotCount - i) (eachSlot plan slots))
+
+abbrev μ-loop : tie.MeasureT-loop
+μ-loop plan edges lows highs targets slots i₀ i = slotCount - i
+
+loop-holds : tie.Need-loop-holds Inv-loop μ-loop
+loop-holds c = (search needs, refl)
+
+mul-slot-good : tie.Need-mul-slot-good Inv-loop μ-loop
+mul-slot-good c = search needs
+
+array-copy-out-slot-good : tie.Need-array-copy-out-slot-good Inv-loop μ-loop
+array-copy-out-slot-good c = search needs
+
+slot-good-requires : tie.Need-slot-good-requires Inv-loop μ-loop
+slot-good-requires c κs = search needs
+
+returns : tie.Need-returns Inv-loop μ-loop
+returns c =
+    let l = c .before .before .before .before in
+    let f = eachSlot (l .before .args .plan) (l .before .args .t6) in
+    sym (l .loop .inv .1 ∙ all-stop f (l .loop .i) slotCount (omega arith) (sym (c .before .slot-good .ensures) ∙ not-true (c .before .slot-good .result) (c .if1 .taken)))
+
+add-i : tie.Need-add-i Inv-loop μ-loop
+add-i c = search needs
+
+loop-less : tie.Need-loop-less Inv-loop μ-loop
+loop-less c = search needs
+
+loop-again : tie.Need-loop-again Inv-loop μ-loop
+loop-again c =
+    let l = c .before .before .before .before in
+    let f = eachSlot (l .before .args .plan) (l .before .args .t6) in
+    (omega arith, l .loop .inv .1 ∙ all-turn f (l .loop .i) slotCount (omega arith) (sym (c .before .slot-good .ensures) ∙ not-false (c .before .slot-good .result) (c .if1 .left)))
+
+returns-2 : tie.Need-returns-2 Inv-loop μ-loop
+returns-2 c =
+    let l = c .before in
+    sym (l .loop .inv .1 ∙ all-end (eachSlot (l .before .args .plan) (l .before .args .t6)) (l .loop .i) slotCount (omega arith))
+
+pub slots-good-spec : {M : Type 1} → statement M
+slots-good-spec =
+    tie.close
+    (tie.spec
+    Inv-loop
+    μ-loop
+    loop-holds
+    mul-slot-good
+    array-copy-out-slot-good
+    slot-good-requires
+    returns
+    add-i
+    loop-less
+    loop-again
+    returns-2)
