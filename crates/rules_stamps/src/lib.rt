@@ -10,17 +10,33 @@ ghost use Rattle.plan.specs.Sizes.{mostNodes};
 ghost use Rattle.store.specs.Copies.{member, different};
 ghost use Rattle.store.specs.Layout.{places};
 ghost use Rattle.store.specs.StoreRules.{stampsFrom};
-ghost use Rattle.store.specs.Workers.{numberIn, RisesIn};
+ghost use Rattle.store.specs.Workers.{numberIn, placeIn, RisesIn};
 ghost use Rattle.rules_stamps.specs.Workers.{firsts, Sorted, Fitting};
 use store::Store;
 use store::columns;
 
-// One stamp goes into the scratch column, which holds so many, if it is not there.
+// A stamp's place in the column, which holds so many: the first whose stamp is not below it. From the top down, since older copies lie
+// deeper, and so the stamps come nearly in rising order.
+fn place_of(sorted: &[u32; Store::PLACES], held: usize, stamp: u32) -> usize
+    requires { ⌜ (held ≤ places) × RisesIn (now sorted) 0 held ⌝ }
+    ensures { λ r. ⌜ r ≡ placeIn (now (sorted .entry)) 0 held stamp ⌝ }
+{
+    let mut at = held;
+    while 0 < at {
+        if sorted[at - 1] < stamp {
+            return at;
+        }
+        at -= 1;
+    }
+    0
+}
+
+// One stamp goes into the scratch column, if it is not there.
 fn put_stamp(sorted: &mut [u32; Store::PLACES], held: usize, stamp: u32) -> bool
     requires { ⌜ (held < places) × (length (now sorted) ≡ places) × RisesIn (now sorted) 0 held ⌝ }
     ensures { λ r. ⌜ (r ≡ not (member stamp (firsts held (now (sorted .entry))))) × (r ≡ true → Sorted (stamp ∷ firsts held (now (sorted .entry))) (suc held) (now (sorted .exit))) ⌝ }
 {
-    let at = columns::seek(sorted, 0, held, stamp);
+    let at = place_of(sorted, held, stamp);
     if at < held && sorted[at] == stamp {
         return false;
     }
