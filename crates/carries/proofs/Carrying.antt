@@ -271,7 +271,8 @@ module _ (z : Store) (good : goodStore z ≡ true) (n i : ℕ) (d : IsEdge (plan
               ∙ sym (both-counts (s .nodes) n t xs ys (omega arith) (omega arith) node-apart)
 
       -- What is settled along the edge.
-      pub settled-along : (a : Answer) (left : ℕ) → a ≡ answer DONE (countOf z n - m .kept) (countOf z n - m .kept - (m .got - countOf z t)) left 0
+      pub settled-along : (a : Answer) (left : ℕ)
+          → a ≡ answer DONE (countOf z n - m .kept) (countOf z n - m .kept - (m .got - countOf z t)) left 0
           → left ≡ countHeld (numberIn (z .keys)) e (take (m .kept) stay)
           → Settles z n i stay target (record {
             answer = a;
@@ -363,7 +364,8 @@ module _ {z : Store} {n i : ℕ} {stay target : List ℕ} {r : Settled} (settled
   pub got-long : r .got ≡ length (take (r .got) target)
   got-long = sym (length-take-le (r .got) target (omega (arith, settled .gets .0, settled .gets .1)))
 
-  pub settled-out : (keys kinds values stamps : List ℕ) → keys ≡ settledColumn stay target r (z .keys) → kinds ≡ settledColumn stay target r (z .kinds)
+  pub settled-out : (keys kinds values stamps : List ℕ) → keys ≡ settledColumn stay target r (z .keys)
+      → kinds ≡ settledColumn stay target r (z .kinds)
       → values ≡ settledColumn stay target r (z .values) → stamps ≡ settledColumn stay target r (z .stamps)
       → record {
         answer = r .answer;

@@ -57,6 +57,20 @@ pub record Settles (z : Store) (n i : ℕ) (stay target : List ℕ) (r : Settled
   pub movable : Movable (take (r .kept) stay) (take (r .got) target) (r .from) (r .had) (r .start)
   pub outcome : record { answer = r .answer; store = settledStore stay target r z } ≡ onStore (carryStep n i) z
 
+-- A store by its parts: those that a carry is settled by, and the others.
+abbrev pub whole : ℕ → List ℕ → List ℕ → ℕ → List ℕ → List ℕ → List ℕ → List Slot → Store
+whole plan counts keys clock kinds values stamps slots =
+    record {
+      plan = plan;
+      clock = clock;
+      counts = counts;
+      keys = keys;
+      kinds = kinds;
+      values = values;
+      stamps = stamps;
+      slots = slots;
+    }
+
 -- The plan number, counts and keys of a good store, whatever else it holds.
 pub record OfGood (plan : ℕ) (counts keys : List ℕ) : Type 0 where
   pub clock : ℕ
@@ -64,11 +78,10 @@ pub record OfGood (plan : ℕ) (counts keys : List ℕ) : Type 0 where
   pub values : List ℕ
   pub stamps : List ℕ
   pub slots : List Slot
-  pub good : goodStore (record { plan = plan; clock = clock; counts = counts; keys = keys; kinds = kinds; values = values; stamps = stamps; slots = slots }) ≡ true
+  pub good : goodStore (whole plan counts keys clock kinds values stamps slots) ≡ true
 
 -- What is settled by them, whatever else the good store holds.
 abbrev pub SettlesIn : ℕ → List ℕ → List ℕ → ℕ → ℕ → List ℕ → List ℕ → Settled → Type 0
 SettlesIn plan counts keys n i stay target r =
-    (clock : ℕ) (kinds values stamps : List ℕ) (slots : List Slot)
-    → goodStore (record { plan = plan; clock = clock; counts = counts; keys = keys; kinds = kinds; values = values; stamps = stamps; slots = slots }) ≡ true
-    → Settles (record { plan = plan; clock = clock; counts = counts; keys = keys; kinds = kinds; values = values; stamps = stamps; slots = slots }) n i stay target r
+    (clock : ℕ) (kinds values stamps : List ℕ) (slots : List Slot) → goodStore (whole plan counts keys clock kinds values stamps slots) ≡ true
+    → Settles (whole plan counts keys clock kinds values stamps slots) n i stay target r

@@ -1,14 +1,12 @@
 -- `carries::settling::along` meets its contract. Assumes nothing.
-use mathlib.Core.Path.{_≡_}
-use mathlib.Core.Bool.{true}
-use Prim.Native.Nat.{_+_, _*_, _<_, _≤_}
+use Prim.Native.Nat.{_<_, _≤_}
 use native.Mathlib.Omega.{arith}
 use borrow.Author.Needs.{needs}
 use Rattle.plan.specs.Sizes.{mostNodes}
 use Rattle.store.specs.declared.Store.{Store}
 use Rattle.store.specs.Layout.{width, countOf}
 use Rattle.store.proofs.GoodNodes.{count-fits}
-use Rattle.carries.specs.Decisions.{Ready}
+use Rattle.carries.specs.Settlings.{whole}
 use Rattle.carries.proofs.Carrying.{target-few, node-few, ready, counts-go, stays-within, settled-along}
 use Rattle.carries.proofs.settling.along.Statement.{statement}
 use Rattle.carries.proofs.settling.along.Tie as tie
@@ -16,17 +14,9 @@ use Rattle.carries.proofs.settling.along.Tie as tie
 -- The good store that has these counts and keys.
 abbrev Z : tie.Start → Store
 Z s =
+    let a = s .args in
     let o = s .pre .0 in
-    record {
-      plan = s .args .plan;
-      clock = o .clock;
-      counts = s .args .counts .now;
-      keys = s .args .keys .now;
-      kinds = o .kinds;
-      values = o .values;
-      stamps = o .stamps;
-      slots = o .slots;
-    }
+    whole (a .plan) (a .counts .now) (a .keys .now) (o .clock) (o .kinds) (o .values) (o .stamps) (o .slots)
 
 -- The edge: its node and its target are nodes of a store,
 source : (c : tie.After-edge-at) → c .before .args .node < mostNodes
@@ -117,16 +107,8 @@ returns c =
     let e = k .before .before .before .before in
     let s = e .before in
     λ clock kinds values stamps slots good.
-    let z : Store = record {
-      plan = s .args .plan;
-      clock = clock;
-      counts = s .args .counts .now;
-      keys = s .args .keys .now;
-      kinds = kinds;
-      values = values;
-      stamps = stamps;
-      slots = slots;
-    } in
+    let a = s .args in
+    let z = whole (a .plan) (a .counts .now) (a .keys .now) clock kinds values stamps slots in
     settled-along z good (s .args .node) (s .args .edge) (s .pre .1) (e .edge-at .result) (e .edge-at .ensures) (k .capacity .result) (k .capacity .ensures)
     (d .decide .ensures) (w .tally .result) (h .count-held .result) (w .tally .ensures) (h .count-held .ensures)
 

@@ -9,6 +9,7 @@ use Rattle.store.specs.Answers.{BADSTORE, NODE, EDGE, bare}
 use Rattle.store.specs.StoreRules.{goodStore}
 use Rattle.store.proofs.Lifting.{on-broken}
 use Rattle.steps.specs.Carries.{carryStep}
+use Rattle.carries.specs.Settlings.{whole}
 use Rattle.carries.proofs.Carrying.{no-node, no-edge, settled-none}
 use Rattle.carries.proofs.settling.settle.Statement.{statement}
 use Rattle.carries.proofs.settling.settle.Tie as tie
@@ -17,16 +18,7 @@ use Rattle.carries.proofs.settling.settle.Tie as tie
 abbrev asked : tie.Start → Store
 asked s =
     let a = s .args in
-    record {
-      plan = a .plan;
-      clock = a .clock;
-      counts = a .counts .now;
-      keys = a .keys .now;
-      kinds = a .kinds .now;
-      values = a .values .now;
-      stamps = a .stamps .now;
-      slots = a .slots;
-    }
+    whole (a .plan) (a .counts .now) (a .keys .now) (a .clock) (a .kinds .now) (a .values .now) (a .stamps .now) (a .slots)
 
 -- Past the check it is good.
 checked : (c : tie.Else1) → goodStore (asked (c .before .before .before)) ≡ true
