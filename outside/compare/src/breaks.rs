@@ -102,12 +102,16 @@ fn count_far_above(random: &mut Random, store: &mut Store) -> Option<()> {
     set(&mut store.counts[node], count)
 }
 
-/// A copy that would be good but for its node; key 0 would be off the path too, which nobody can tell apart.
+/// A copy that would be good but for its node; no other copy has its key.
 fn copy_in_no_node(random: &mut Random, store: &mut Store) -> Option<()> {
     let node = random.between(plan_of(store).nodes(), 7);
     let place = node * NODE_PLACES;
+    let key = random.number();
+    if used(store).iter().any(|&place| store.keys[place] == key) {
+        return None;
+    }
     store.stamps[place] = free_stamp(store)?;
-    store.keys[place] = random.number();
+    store.keys[place] = key;
     set(&mut store.counts[node], 1)
 }
 
