@@ -7,7 +7,7 @@ use native.Mathlib.Omega.{arith}
 use lib.Dec.{eqb}
 use lib.ListN.{length, length-append}
 use Rattle.number.specs.Number.{form}
-use Rattle.number.proofs.Forms.{form-length, form-width}
+use Rattle.number.proofs.Forms.{form-some, form-length, form-width}
 use Rattle.plan.specs.Plan.{Plan}
 use Rattle.store.specs.declared.Copy.{Copy}
 use Rattle.store.specs.Copies.{RESULT}
@@ -54,3 +54,8 @@ module _ (p : Plan) (s : State) (sample : ℕ) where
         one-byte (length (linesOf p s sample)) (omega (arith, lines-few p s sample 0 analytes)),
         lines-length 0 analytes (omega arith),
       ))
+
+  -- No page is empty.
+  pub page-some : 1 ≤ length (pageOf p s sample)
+  unfolding pageBytes
+  page-some = simp length-append (omega (arith, form-some sample))

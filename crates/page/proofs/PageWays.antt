@@ -1,14 +1,17 @@
--- The ways out of page and serve, and the scratch that both write the sample's page into. Assumes nothing.
+-- The ways out of page, served_length and serve, and the scratch that the sample's page is written into. Assumes nothing.
 use mathlib.Core.Path.{_≡_, refl, sym, ap, ap₂, _∙_}
-use mathlib.Core.Bool.{true, false}
+use mathlib.Core.Bool.{true, false, _&&_}
 use mathlib.Core.List.{List}
+use mathlib.Core.Logic.{⊎-elim}
 use Prim.Native.Nat.{ℕ, _<_, _≤_}
 use native.Mathlib.Omega.{arith}
+use lib.Dec.{leb}
 use lib.ListN.{length, take}
 use denote.Ref.{RefT}
 use borrow.Author.Tests.{le-leb, lt-leb}
 use Rattle.lists.specs.Stands.{Wrote}
 use Rattle.lists.proofs.Standing.{wrote-length}
+use Rattle.lists.proofs.Truths.{bool?, and-right}
 use Rattle.plan.specs.PlanTable.{planOf}
 use Rattle.store.specs.declared.Answer.{Answer}
 use Rattle.store.specs.declared.Store.{Store}
@@ -19,8 +22,8 @@ use Rattle.store.specs.StoreRules.{goodStore}
 use Rattle.store.specs.Workers.{holding}
 use Rattle.wire.proofs.Buffers.{small-answer, small-buffer, done-answer, done-front, done-wrote, wrote-end}
 use Rattle.page.specs.Page.{lastSample, mostPageBytes, pageOf, begins}
-use Rattle.page.specs.Promises.{pageNow, pageAnswer, pageBuffer, Pages, fresh?, Handed, served, Serves}
-use Rattle.page.proofs.PageLength.{page-length}
+use Rattle.page.specs.Promises.{pageNow, pageAnswer, pageBuffer, Pages, fresh?, servedLength, ServesLength, Handed, served, Serves}
+use Rattle.page.proofs.PageLength.{page-length, page-some}
 use Rattle.page.proofs.PageWriting.{begins-long}
 use Rattle.page.proofs.Stale.{same-page, serves-notice}
 
@@ -85,34 +88,62 @@ module _ (z : Store) (sample : ℕ) (before : List ℕ) {r : Answer} where
             rw (good, le-leb sample lastSample small) (done-wrote (pageNow z sample) before g w),
           )
 
--- ---- serve
+-- ---- served_length
 
-module _ (z : Store) (sample : ℕ) (kept notice : RefT (List ℕ)) where
-  serve-notice : fresh? z sample (kept .now) ≡ false → Serves z sample kept notice notice
-  serve-notice f =
-      let e = serves-notice z sample kept notice f in
-      (sym (ap (λ (h : Handed). h .0) e), sym (ap (λ (h : Handed). h .1) e))
+module _ (z : Store) (sample : ℕ) (kept : List ℕ) where
+  length-none : fresh? z sample kept ≡ false → servedLength z sample kept ≡ 0
+  unfolding servedLength
+  length-none f = rw f
 
-  pub serve-bad-store : goodStore z ≡ false → Serves z sample kept notice notice
+  length-page : fresh? z sample kept ≡ true → servedLength z sample kept ≡ length (pageNow z sample)
+  unfolding servedLength
+  length-page f = rw f
+
+  pub length-bad-store : goodStore z ≡ false → ServesLength z sample kept 0
   unfolding fresh?
-  serve-bad-store bad = serve-notice (rw bad)
+  length-bad-store bad = sym (length-none (rw bad))
 
   module _ (good : goodStore z ≡ true) where
-    pub serve-bad-sample : lastSample < sample → Serves z sample kept notice notice
+    pub length-bad-sample : lastSample < sample → ServesLength z sample kept 0
     unfolding fresh?
-    serve-bad-sample large = serve-notice (rw (good, lt-leb sample lastSample large))
+    length-bad-sample large = sym (length-none (rw (good, lt-leb sample lastSample large)))
 
     module _ (small : sample ≤ lastSample) {n : ℕ} {scratch : List ℕ} (h : Holds (pageNow z sample) n scratch) where
-      pub serve-stale : begins (kept .now) (take n scratch) ≡ false → Serves z sample kept notice notice
+      pub length-stale : begins kept (take n scratch) ≡ false → ServesLength z sample kept 0
       unfolding fresh?
-      serve-stale f = serve-notice (rw (good, le-leb sample lastSample small, ← h .begin) f)
+      length-stale f = sym (length-none (rw (good, le-leb sample lastSample small, ← h .begin) f))
 
-      pub serve-fits : begins (kept .now) (take n scratch) ≡ true → n ≤ length (kept .now)
-      serve-fits t = omega (arith, h .long, begins-long (kept .now) (pageNow z sample) (rw (h .begin) at t))
+      pub length-fresh : begins kept (take n scratch) ≡ true → ServesLength z sample kept n
+      unfolding fresh?
+      length-fresh t = h .long ∙ sym (length-page (rw (good, le-leb sample lastSample small, ← h .begin) t))
 
-      pub serve-fresh : begins (kept .now) (take n scratch) ≡ true
-          → (kept .ptr ≡ served z sample kept notice .0) × (take n (kept .now) ≡ served z sample kept notice .1)
-      unfolding fresh? served
-      serve-fresh t =
-          let b : begins (kept .now) (pageNow z sample) ≡ true = rw (h .begin) at t in
-          (rw (good, le-leb sample lastSample small, b), rw (good, le-leb sample lastSample small, b, ← h .long))
+-- ---- serve
+
+module _ (z : Store) (sample : ℕ) (kept notice : RefT (List ℕ)) {n : ℕ} (told : ServesLength z sample (kept .now) n) where
+  none-stale : n ≡ 0 → fresh? z sample (kept .now) ≡ false
+  none-stale e =
+      ⊎-elim
+      (λ (f : fresh? z sample (kept .now) ≡ true). absurd (omega (arith, e, told, length-page z sample (kept .now) f, page-some (planOf (z .plan)) (stateOf z) sample)))
+      (λ (f : fresh? z sample (kept .now) ≡ false). f) (bool? (fresh? z sample (kept .now)))
+
+  some-fresh : 0 < n → fresh? z sample (kept .now) ≡ true
+  some-fresh g =
+      ⊎-elim (λ (f : fresh? z sample (kept .now) ≡ true). f)
+      (λ (f : fresh? z sample (kept .now) ≡ false). absurd (omega (arith, g, told, length-none z sample (kept .now) f)))
+      (bool? (fresh? z sample (kept .now)))
+
+  pub serve-notice : n ≡ 0 → Serves z sample kept notice notice
+  serve-notice none =
+      let e = serves-notice z sample kept notice (none-stale none) in
+      (sym (ap (λ (h : Handed). h .0) e), sym (ap (λ (h : Handed). h .1) e))
+
+  pub serve-fits : 0 < n → n ≤ length (kept .now)
+  unfolding fresh?
+  serve-fits g =
+      let f = some-fresh g in
+      let b = and-right (goodStore z && leb sample lastSample) (begins (kept .now) (pageNow z sample)) f in
+      omega (arith, told, length-page z sample (kept .now) f, begins-long (kept .now) (pageNow z sample) b)
+
+  pub serve-kept : 0 < n → (kept .ptr ≡ served z sample kept notice .0) × (take n (kept .now) ≡ served z sample kept notice .1)
+  unfolding served
+  serve-kept g = let f = some-fresh g in (rw f, rw (f, ← length-page z sample (kept .now) f, ← told))

@@ -35,6 +35,13 @@ Pages store sample before r after = (r ≡ pageAnswer store sample before) × (a
 unfoldable pub fresh? : Store → ℕ → List ℕ → Bool
 fresh? z sample kept = goodStore z && leb sample lastSample && begins kept (pageNow z sample)
 
+-- How many of the kept bytes may be shown: the length of the page that they begin with, or none. No page is empty.
+unfoldable pub servedLength : Store → ℕ → List ℕ → ℕ
+servedLength z sample kept = cond (fresh? z sample kept) (length (pageNow z sample)) 0
+
+abbrev pub ServesLength : Store → ℕ → List ℕ → ℕ → Type 0
+ServesLength store sample kept r = r ≡ servedLength store sample kept
+
 -- Whose bytes are handed back (a pointer), and which.
 abbrev pub Handed : Type 0
 Handed = (ℕ × ℕ) × List ℕ

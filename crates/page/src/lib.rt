@@ -7,7 +7,7 @@ ghost use Rattle.store.specs.Layout.{stateOf};
 ghost use Rattle.store.specs.Workers.{holding};
 ghost use Rattle.searches.specs.Workers.{Lookable};
 ghost use Rattle.page.specs.Page.{lastSample, mostPageBytes, pageOf};
-ghost use Rattle.page.specs.Promises.{Pages, Serves};
+ghost use Rattle.page.specs.Promises.{Pages, ServesLength, Serves};
 use store::Answer;
 use store::Store;
 
@@ -66,16 +66,15 @@ pub fn page(store: Store, sample: u32, buffer: &mut [u8]) -> Answer
     Answer::of(Answer::DONE, n as u64, 0, 0, 0)
 }
 
-// "If the kept bytes begin with the sample's page as it is now, exactly that beginning is returned; otherwise, and for a bad store or
-// sample, the whole notice."
-pub fn serve<'a>(store: Store, sample: u32, kept: &'a [u8], notice: &'a [u8]) -> &'a [u8]
-    ensures { λ r. ⌜ Serves store sample (kept .entry) (notice .entry) r ⌝ }
+// How many of the kept bytes are the sample's page as it is now: its length if they begin with it; else, and for a bad store or sample, 0.
+pub fn served_length(store: Store, sample: u32, kept: &[u8]) -> usize
+    ensures { λ r. ⌜ ServesLength store sample (now (kept .entry)) r ⌝ }
 {
     if !rules::good_store(store) {
-        return notice;
+        return 0;
     }
     if LAST_SAMPLE < sample {
-        return notice;
+        return 0;
     }
     let mut scratch = [0; LONGEST];
     let n = write_now(
@@ -89,7 +88,19 @@ pub fn serve<'a>(store: Store, sample: u32, kept: &'a [u8], notice: &'a [u8]) ->
         sample,
     );
     if writing::starts_with(kept, &scratch[..n]) {
-        return &kept[..n];
+        return n;
     }
-    notice
+    0
+}
+
+// "If the kept bytes begin with the sample's page as it is now, exactly that beginning is returned; otherwise, and for a bad store or
+// sample, the whole notice." No page is empty.
+pub fn serve<'a>(store: Store, sample: u32, kept: &'a [u8], notice: &'a [u8]) -> &'a [u8]
+    ensures { λ r. ⌜ Serves store sample (kept .entry) (notice .entry) r ⌝ }
+{
+    let n = served_length(store, sample, kept);
+    if n == 0 {
+        return notice;
+    }
+    &kept[..n]
 }

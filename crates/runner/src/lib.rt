@@ -11,7 +11,7 @@ use store::Outcome;
 use store::Store;
 
 // One step by its numbers: each has its call, which ignores what it does not use; an unknown one is OP with the place, after BADSTORE.
-fn do_step(store: Store, number: u32, x: u32, y: u32, place: usize) -> Outcome
+pub fn do_step(store: Store, number: u32, x: u32, y: u32, place: usize) -> Outcome
     ensures { λ r. ⌜ r ≡ onStore (stepOf (stepRecord number x y) place) store ⌝ }
 {
     if number == Step::ENTER {

@@ -1,0 +1,69 @@
+// The C interface (include/olipranj.h): the public calls over a store behind a pointer. Each reads the store whole, calls, and writes it back.
+ghost use Rattle.steps.specs.Promises.{Looks};
+ghost use Rattle.image.specs.Promises.{Saves};
+ghost use Rattle.page.specs.Promises.{Pages, ServesLength};
+ghost use Rattle.export.specs.Promises.{FreshensBehind, StepsBehind, LoadsBehind};
+use store::Answer;
+use store::Store;
+
+// A fresh store of the plan, or PLAN and a fresh store of plan 1.
+#[no_mangle]
+pub extern "C" fn olipranj_fresh(store: &mut Store, plan: u32) -> Answer
+    ensures { λ r. ⌜ FreshensBehind plan r (now (store .exit)) ⌝ }
+{
+    let outcome = Store::fresh(plan);
+    *store = outcome.store;
+    outcome.answer
+}
+
+// One step by its number; an unknown one is OP with a 0, after BADSTORE.
+#[no_mangle]
+pub extern "C" fn olipranj_step(store: &mut Store, number: u32, x: u32, y: u32) -> Answer
+    ensures { λ r. ⌜ StepsBehind (now (store .entry)) number x y r (now (store .exit)) ⌝ }
+{
+    let outcome = runner::do_step(*store, number, x, y, 0);
+    *store = outcome.store;
+    outcome.answer
+}
+
+// A whole search at once.
+#[no_mangle]
+pub extern "C" fn olipranj_look(store: &Store, key: u32) -> Answer
+    ensures { λ r. ⌜ Looks (now (store .entry)) key r ⌝ }
+{
+    searches::look(*store, key)
+}
+
+// The store's image into the buffer.
+#[no_mangle]
+pub extern "C" fn olipranj_save(store: &Store, buffer: &mut [u8]) -> Answer
+    ensures { λ r. ⌜ Saves (now (store .entry)) (now (buffer .entry)) r (now (buffer .exit)) ⌝ }
+{
+    image::save(*store, buffer)
+}
+
+// The store of an image, or the first fault and a fresh store of plan 1.
+#[no_mangle]
+pub extern "C" fn olipranj_load(store: &mut Store, bytes: &[u8]) -> Answer
+    ensures { λ r. ⌜ LoadsBehind (now (bytes .entry)) r (now (store .exit)) ⌝ }
+{
+    let outcome = image::load(bytes);
+    *store = outcome.store;
+    outcome.answer
+}
+
+// The page of a sample into the buffer.
+#[no_mangle]
+pub extern "C" fn olipranj_page(store: &Store, sample: u32, buffer: &mut [u8]) -> Answer
+    ensures { λ r. ⌜ Pages (now (store .entry)) sample (now (buffer .entry)) r (now (buffer .exit)) ⌝ }
+{
+    page::page(*store, sample, buffer)
+}
+
+// How many bytes of the kept page to show; none: the notice is due.
+#[no_mangle]
+pub extern "C" fn olipranj_serve(store: &Store, sample: u32, kept: &[u8]) -> usize
+    ensures { λ r. ⌜ ServesLength (now (store .entry)) sample (now (kept .entry)) r ⌝ }
+{
+    page::served_length(*store, sample, kept)
+}
