@@ -11,7 +11,7 @@ type Way = fn(&mut Random, &mut Store) -> Option<()>;
 /// Each way: the rule that it breaks, by its name in `naive`, what it does, and the doing.
 pub const WAYS: &[(&str, &str, Way)] = &[
     ("plan", "plan 0", |_, store| set(&mut store.plan, 0)),
-    ("plan", "plan above 3", |random, store| set(&mut store.plan, 4 + random.number() % 1000)),
+    ("plan", "plan above 3", |random, store| set(&mut store.plan, from(random, 4))),
     ("clock", "clock 0 in an empty store", clock_0),
     ("count within capacity", "a copy more than a node holds", one_too_many),
     ("count within capacity", "a count far above capacity", count_far_above),
@@ -52,6 +52,15 @@ pub const WAYS: &[(&str, &str, Way)] = &[
 fn set(number: &mut u32, to: u32) -> Option<()> {
     *number = to;
     Some(())
+}
+
+/// The bound itself half of the times, else any number from it on.
+fn from(random: &mut Random, bound: u32) -> u32 {
+    if random.once_in(2) {
+        bound
+    } else {
+        random.number().max(bound)
+    }
 }
 
 fn plan_of(store: &Store) -> &'static Plan {
@@ -124,8 +133,7 @@ fn unused(random: &mut Random, store: &mut Store, column: fn(&mut Store) -> &mut
         free.retain(|place| first(place) || last(place));
     }
     let place = one_of(random, free)?;
-    let number = random.number().max(1);
-    set(&mut column(store)[place], number)
+    set(&mut column(store)[place], from(random, 1))
 }
 
 fn slots(store: &Store, running: u32) -> Vec<usize> {
@@ -134,13 +142,12 @@ fn slots(store: &Store, running: u32) -> Vec<usize> {
 
 fn idle(random: &mut Random, store: &mut Store, field: fn(&mut Slot) -> &mut u32) -> Option<()> {
     let slot = one_of(random, slots(store, 0))?;
-    let number = random.number().max(1);
-    set(field(&mut store.slots[slot]), number)
+    set(field(&mut store.slots[slot]), from(random, 1))
 }
 
 fn mark_above_1(random: &mut Random, store: &mut Store) -> Option<()> {
     let slot = one_of(random, slots(store, 1))?;
-    set(&mut store.slots[slot].running, random.number().max(2))
+    set(&mut store.slots[slot].running, from(random, 2))
 }
 
 /// In plans 2 and 3 the key of a search beyond the root goes to the other half.
@@ -153,7 +160,7 @@ fn search_off_path(random: &mut Random, store: &mut Store) -> Option<()> {
 
 fn search_at_no_node(random: &mut Random, store: &mut Store) -> Option<()> {
     let slot = one_of(random, slots(store, 1))?;
-    let node = plan_of(store).nodes() as u32 + random.number() % 100;
+    let node = from(random, plan_of(store).nodes() as u32);
     store.slots[slot].visits = random.pick(&[node, store.slots[slot].visits, 3, 4]);
     set(&mut store.slots[slot].node, node)
 }
@@ -192,13 +199,13 @@ fn neighbours_exchanged(random: &mut Random, store: &mut Store) -> Option<()> {
 
 fn kind_above_1(random: &mut Random, store: &mut Store) -> Option<()> {
     let place = one_of(random, used(store))?;
-    set(&mut store.kinds[place], random.number().max(2))
+    set(&mut store.kinds[place], from(random, 2))
 }
 
 fn withdrawn_value(random: &mut Random, store: &mut Store) -> Option<()> {
     let withdrawn = used(store).into_iter().filter(|&place| store.kinds[place] == 0).collect();
     let place = one_of(random, withdrawn)?;
-    set(&mut store.values[place], random.number().max(1))
+    set(&mut store.values[place], from(random, 1))
 }
 
 /// In plans 2 and 3 the outermost key of node 1 or 2 goes to the other half; no other copy has that key.

@@ -70,7 +70,7 @@ fn case(
         ("pages", _) => kinds::pages::case(random, pair),
         ("serve", _) => kinds::serve::case(random, pair),
         ("stores", _) => kinds::stores::case(random, pair, turn),
-        (_, Some(program)) => kinds::schedules::case(random, program),
+        (_, Some(program)) => kinds::schedules::case(random, pair, program),
         (_, None) => Ok(()),
     }
 }
@@ -92,8 +92,9 @@ fn run(options: &Options, kind: &'static str, pair: &mut Pair) -> Result<(), (u6
         }
     }
     let calls: u64 = pair.tally.iter().sum();
+    let compared = if kind == "schedules" { "lines" } else { "calls" };
     let seconds = begun.elapsed().as_secs_f64();
-    println!("{kind}: {total} cases, {calls} calls compared, no difference ({seconds:.1} s)");
+    println!("{kind}: {total} cases, {calls} {compared} compared, no difference ({seconds:.1} s)");
     let given = olipranj::Number::ALL.iter().zip(pair.tally).filter(|(_, times)| *times > 0);
     let given: Vec<String> = given.map(|(number, times)| format!("{number:?} {times}")).collect();
     if !given.is_empty() {

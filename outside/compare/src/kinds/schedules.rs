@@ -4,17 +4,18 @@ use std::path::Path;
 use std::process::{Command, Stdio};
 
 use super::{damage, put_number};
-use crate::calls::{Call, Difference};
+use crate::calls::{Call, Difference, Pair};
 use crate::random::Random;
 use crate::stores::pool;
 
-/// Runs the program on a random schedule, good or damaged.
-pub fn case(random: &mut Random, program: &Path) -> Result<(), Difference> {
+/// Runs the program on a random schedule, good or damaged, and tallies the answers of its lines.
+pub fn case(random: &mut Random, pair: &mut Pair, program: &Path) -> Result<(), Difference> {
     let bytes = schedule(random);
     let expected = model::program(&bytes);
     let printed =
         run(program, &bytes).map_err(|error| Difference::new(format!("{}: {error}", program.display())))?;
     if printed == expected.as_bytes() {
+        expected.lines().for_each(|line| pair.tally[answer(line)] += 1);
         return Ok(());
     }
     let text = String::from_utf8_lossy(&printed);
@@ -22,6 +23,11 @@ pub fn case(random: &mut Random, program: &Path) -> Result<(), Difference> {
     Err(Difference::new(format!(
         "schedule {bytes:02X?}\n  first line that differs: {at:?}\n  model:\n{expected}\n  program:\n{text}"
     )))
+}
+
+/// The answer number of a printed line.
+fn answer(line: &str) -> usize {
+    line.split(' ').nth(1).and_then(|word| word.parse().ok()).expect("a line of six numbers")
 }
 
 /// The program's output for a file of bytes.
@@ -54,7 +60,7 @@ fn schedule(random: &mut Random) -> Vec<u8> {
 /// A step's bytes; an unknown step number rarely.
 fn put_step(random: &mut Random, bytes: &mut Vec<u8>, number: u32, x: u32, y: u32) {
     let known = (1..=6).contains(&number);
-    put_number(bytes, if known || random.once_in(100) { number } else { 4 });
+    put_number(bytes, if known || random.once_in(10) { number } else { 4 });
     put_number(bytes, x);
     if matches!(number, 1 | 3) {
         put_number(bytes, y);
