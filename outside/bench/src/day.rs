@@ -9,9 +9,9 @@ use crate::sqlite::Sqlite;
 
 const SAMPLES: u32 = 20;
 const ANALYTES: u32 = 5;
-const LOOKS: u32 = 1000;
-const ROUNDS: u32 = 20;
-const DAYS: usize = 200;
+const LOOKS: u32 = 200;
+const ROUNDS: u32 = 4;
+const DAYS: usize = 400;
 const WHAT: [&str; 4] = ["an entry, carries included", "a look", "a page made", "a kept page served"];
 
 /// Nanoseconds per call of each kind, and what the day showed.

@@ -4,8 +4,9 @@ use std::time::{Duration, Instant};
 
 /// Stores that a round calls in turn; they fit in a processor's first cache together.
 const STORES: usize = 4;
-const ROUNDS: usize = 250;
-const BATCHES: usize = 20;
+/// Rounds of a batch: few, so that the best batch is one that nothing else on the machine broke into.
+const ROUNDS: usize = 50;
+const BATCHES: usize = 100;
 
 /// Nanoseconds per call of one batch. Before each round the stores are laid down anew, which is not counted.
 fn batch<S: Clone>(base: &S, call: &mut dyn FnMut(&mut S)) -> f64 {

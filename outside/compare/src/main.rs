@@ -116,7 +116,7 @@ fn main() -> ExitCode {
     let mut pair = Pair::new(model::Store::empty(1), record);
     for kind in &options.kinds {
         if *kind == "schedules" && options.program.is_none() {
-            println!("schedules: left out, no --program");
+            println!("schedules: left out, they need --program");
             continue;
         }
         if let Err((turn, difference)) = run(&options, kind, &mut pair) {
