@@ -98,47 +98,58 @@ fn answer(row: &mut Row, store: &model::Store) -> olipranj::Number {
     library.name()
 }
 
-/// The answer, both times and their ratio.
+/// Both times, their ratio, and the answer if it is not DONE.
 fn cell(row: &mut Row, store: &model::Store) -> String {
-    let number = format!("{:?}", answer(row, store)).to_uppercase();
+    let answer = answer(row, store);
     let library = &mut row.library;
     let model = &mut row.model;
     let (ours, plain) = both(
         (&raw(store), &mut |s| _ = black_box(library(black_box(s)))),
         (store, &mut |s| _ = black_box(model(black_box(s)))),
     );
-    format!("{number} | {ours:.0} | {plain:.0} | {:.1}", ours / plain)
+    let times = format!("{ours:.0} / {plain:.0} = {:.1}", ours / plain);
+    if answer == olipranj::Number::Done {
+        times
+    } else {
+        format!("{times} {}", format!("{answer:?}").to_uppercase())
+    }
 }
 
-/// All calls on one store; on a broken one, whose last slot is idle with a key, a look.
-fn print_store(plan: u32, fill: Fill, broken: bool) {
-    let mut store = make(plan, fill);
-    let name = match fill {
-        _ if broken => "full, broken",
-        Fill::Fresh => "fresh",
-        Fill::Half => "half full",
-        Fill::Full => "full",
-    };
+fn rows(plan: u32, store: &model::Store) -> Vec<Row> {
     let mut rows = steps(plan);
-    rows.extend(bytes(&store));
-    if broken {
-        store.slots[7].key = 1;
-        rows.retain(|row| row.name == "look, a held line");
+    rows.extend(bytes(store));
+    rows
+}
+
+/// One line for each call on the plan's three stores.
+fn print_plan(plan: u32) {
+    let stores = FILLS.map(|fill| make(plan, fill));
+    let mut all = stores.each_ref().map(|store| rows(plan, store));
+    for at in 0..all[0].len() {
+        let name = all[0][at].name;
+        let cells: Vec<String> = (0..3).map(|fill| cell(&mut all[fill][at], &stores[fill])).collect();
+        println!("| {plan} | {name} | {} |", cells.join(" | "));
     }
-    for row in &mut rows {
-        let cell = cell(row, &store);
-        println!("| {} | {plan} {name} | {cell} |", row.name);
+}
+
+/// A look in a full store whose clock is the highest stamp, and in one whose last slot is idle with a key.
+fn print_broken() {
+    let full = make(1, Fill::Full);
+    let mut late = full.clone();
+    late.clock -= 1;
+    let mut idle = full.clone();
+    idle.slots[7].key = 1;
+    for (name, store) in [("a stamp at the clock", late), ("an idle slot's key", idle)] {
+        let mut row = row("look", |s| s.look(0), |s| model::look(s, 0));
+        println!("| 1 | look, a broken store: {name} | | | {} |", cell(&mut row, &store));
     }
 }
 
 /// Prints the table.
 pub fn print() {
-    println!("| call | store | answer | library, ns | model, ns | ratio |");
-    println!("|---|---|---|---|---|---|");
-    for plan in 1..=3 {
-        for fill in FILLS {
-            print_store(plan, fill, false);
-        }
-    }
-    print_store(1, Fill::Full, true);
+    println!("Nanoseconds, library / model = ratio:\n");
+    println!("| plan | call | fresh store | half full | full |");
+    println!("|---|---|---|---|---|");
+    (1..=3).for_each(print_plan);
+    print_broken();
 }

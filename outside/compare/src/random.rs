@@ -29,7 +29,7 @@ impl Random {
 
     /// Below a bound that is not 0.
     pub fn below(&mut self, bound: usize) -> usize {
-        ((self.word() >> 32) * bound as u64 >> 32) as usize
+        (((self.word() >> 32) * bound as u64) >> 32) as usize
     }
 
     /// Below a bound that is not 0, as a 32-bit number.
