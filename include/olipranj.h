@@ -1,6 +1,6 @@
 /* Olipranj's C interface: the functions of the crate `export`, in target/staticlib/libexport.a. Each keeps a promise of
    crates/export/specs/Promises.antt. No function asks anything of the store's numbers: a store that breaks a store rule is answered
-   BADSTORE. Pointers must be valid, hold what is declared, and not overlap; a buffer's pointer must not be NULL, not even for length 0. */
+   BADSTORE. Pointers must be valid and aligned, and must not overlap; a buffer's pointer must not be NULL, not even for length 0. */
 #ifndef OLIPRANJ_H
 #define OLIPRANJ_H
 
@@ -64,7 +64,7 @@ enum {
     OLIPRANJ_CANCEL = 6    /* slot */
 };
 
-/* Lays down a fresh store of the plan: DONE; or PLAN, and a fresh store of plan 1. */
+/* Lays down a fresh store of the plan: DONE; or PLAN, and a fresh store of plan 1. Either way what stood there is gone. */
 olipranj_answer olipranj_fresh(olipranj_store *store, uint32_t plan);
 
 /* Does one step by its number; a step's unused numbers are ignored. An unknown number: OP with a 0, after BADSTORE. */
@@ -76,7 +76,8 @@ olipranj_answer olipranj_look(const olipranj_store *store, uint32_t key);
 /* Saves the store into the buffer: DONE with the bytes written, BADSTORE, or SMALL with the bytes needed. */
 olipranj_answer olipranj_save(const olipranj_store *store, uint8_t *buffer, size_t length);
 
-/* Loads an image over the store: DONE with the copies held; or the first fault, and a fresh store of plan 1. */
+/* Loads an image over the store: DONE with the copies held; or the first fault, and a fresh store of plan 1. Either way what stood there is
+   gone: whoever wants the old store to go on after a refusal loads into another one. */
 olipranj_answer olipranj_load(olipranj_store *store, const uint8_t *bytes, size_t length);
 
 /* Writes the sample's page into the buffer: DONE with the bytes written, BADSTORE, SAMPLE, or SMALL with the bytes needed. */

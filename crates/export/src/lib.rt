@@ -1,4 +1,5 @@
-// The C interface (include/olipranj.h): the public calls over a store behind a pointer. Each reads the store whole, calls, and writes it back.
+// The C interface (include/olipranj.h): the public calls over a store behind a pointer. Where a call takes a store, it is read whole; the store
+// that a call gives is written behind the pointer.
 ghost use Rattle.steps.specs.Promises.{Looks};
 ghost use Rattle.image.specs.Promises.{Saves};
 ghost use Rattle.page.specs.Promises.{Pages, ServesLength};

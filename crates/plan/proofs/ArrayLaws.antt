@@ -7,13 +7,14 @@ use native.Mathlib.Decide.{decLt}
 use native.Mathlib.Numerals.{add-one}
 use mathlib.Core.Bool.{false}
 use lib.ListN.{length, getD, List·getD-eq-default}
+use borrow.Author.Tests.{lt-ltb, le-ltb}
 use Rattle.lists.specs.Runs.{run}
 use Rattle.lists.proofs.Running.{getD-run-0, as-run-0, getD-run-past}
 use Rattle.plan.specs.declared.Edge.{Edge}
 use Rattle.plan.specs.declared.Hop.the-variants.{To, Ends}
 use Rattle.plan.specs.Sizes.{mostNodes, mostEdges}
 use Rattle.plan.specs.Plan.{Node, Plan, noEdge, noNode, size, capacityOf, edgesOf, edgeOf, holds, firstEdge}
-use Rattle.plan.specs.PlanArrays.{Grid, cell, edgeIn, edgeCountIn, edgesIn, capacitiesRow, countsRow, gridOf}
+use Rattle.plan.specs.PlanArrays.{Grid, cell, edgeIn, atNode, edgeCountIn, edgesIn, capacitiesRow, countsRow, gridOf}
 use Rattle.plan.proofs.NextLaws.{no-edges, range-holds}
 
 -- A place of the grid holds its part of the edge.
@@ -23,16 +24,28 @@ cell-grid part p n i h g =
     ap (λ (l : List ℕ). getD l i 0) (getD-run-0 (λ m. run 0 mostEdges (λ j. part (edgeOf p m j))) mostNodes n [] h)
     ∙ getD-run-0 (λ j. part (edgeOf p n j)) mostEdges i 0 g
 
+-- A row by node: what it has, and nothing past the last node.
+module _ (row : List ℕ) (n : ℕ) where
+  pub at-within : n < mostNodes → atNode row n ≡ getD row n 0
+  unfolding atNode
+  at-within h = rw (lt-ltb n mostNodes h)
+
+  pub at-past : mostNodes ≤ n → atNode row n ≡ 0
+  unfolding atNode
+  at-past h = rw (le-ltb n mostNodes h)
+
+-- A row that is made node by node gives each node's number back, where those past the last have 0.
+row-back : (f : ℕ → ℕ) → ((n : ℕ) → mostNodes ≤ n → f n ≡ 0) → (n : ℕ) → atNode (run 0 mostNodes f) n ≡ f n
+row-back f none n = go (decLt n mostNodes)
+  where
+    go : Dec (n < mostNodes) → atNode (run 0 mostNodes f) n ≡ f n
+    go (yes h) = at-within (run 0 mostNodes f) n h ∙ getD-run-0 f mostNodes n 0 h
+    go (no h) = let past : mostNodes ≤ n = omega arith in at-past (run 0 mostNodes f) n past ∙ sym (none n past)
+
 module _ (p : Plan) (few : size p ≤ mostNodes) where
-  pub capacities-back : (n : ℕ) → getD (capacitiesRow p) n 0 ≡ capacityOf p n
+  pub capacities-back : (n : ℕ) → atNode (capacitiesRow p) n ≡ capacityOf p n
   unfolding capacitiesRow
-  capacities-back n = go (decLt n mostNodes)
-    where
-      go : Dec (n < mostNodes) → getD (run 0 mostNodes (capacityOf p)) n 0 ≡ capacityOf p n
-      go (yes h) = getD-run-0 (capacityOf p) mostNodes n 0 h
-      go (no h) =
-          getD-run-past (capacityOf p) 0 mostNodes n 0 (omega arith)
-          ∙ sym (ap (λ (d : Node). d .capacity) (List·getD-eq-default p noNode (omega arith)))
+  capacities-back = row-back (capacityOf p) (λ n h. ap (λ (d : Node). d .capacity) (List·getD-eq-default p noNode (omega arith)))
 
   module _ (counted : (n : ℕ) → n < size p → length (edgesOf p n) ≤ mostEdges) where
     few-edges : (n : ℕ) → length (edgesOf p n) ≤ mostEdges
@@ -44,16 +57,9 @@ module _ (p : Plan) (few : size p ≤ mostNodes) where
 
     pub count-back : (n : ℕ) → edgeCountIn (countsRow p) n ≡ length (edgesOf p n)
     unfolding countsRow
-    count-back n = go (decLt n mostNodes)
-      where
-        go : Dec (n < mostNodes) → min (getD (run 0 mostNodes (λ m. length (edgesOf p m))) n 0) mostEdges ≡ length (edgesOf p n)
-        go (yes h) = omega (arith, getD-run-0 (λ m. length (edgesOf p m)) mostNodes n 0 h, few-edges n)
-        go (no h) =
-            omega (
-              arith,
-              getD-run-past (λ m. length (edgesOf p m)) 0 mostNodes n 0 (omega arith),
-              ap length (no-edges p n (omega arith)),
-            )
+    count-back n =
+        let counted-is = row-back (λ m. length (edgesOf p m)) (λ m h. ap length (no-edges p m (omega arith))) n in
+        omega (arith, counted-is, few-edges n)
 
     abbrev made : ℕ → ℕ → Edge
     made n = edgeIn (gridOf (λ e. e .lowest) p) (gridOf (λ e. e .highest) p) (gridOf (λ e. e .target) p) n
@@ -77,12 +83,12 @@ module _ (p : Plan) (few : size p ≤ mostNodes) where
             go (no q) = absurd (omega (arith, ap length (no-edges p n (omega arith))))
 
 -- Of any arrays: only a node within them has edges,
-pub counted-within : (n count i : ℕ) → (mostNodes ≤ n → count ≡ 0) → i < count → n < mostNodes
-counted-within n count i none h = go (decLt n mostNodes)
+pub counted-within : (counts : List ℕ) (n count i : ℕ) → count ≡ edgeCountIn counts n → i < count → n < mostNodes
+counted-within counts n count i e h = go (decLt n mostNodes)
   where
     go : Dec (n < mostNodes) → n < mostNodes
     go (yes q) = q
-    go (no q) = absurd (omega (arith, none (omega arith)))
+    go (no q) = absurd (omega (arith, at-past counts n (omega arith)))
 
 -- the edges are those counted,
 module _ (counts : List ℕ) (lows highs targets : Grid) (n i : ℕ) where

@@ -12,7 +12,7 @@ use Rattle.plan.specs.declared.Edge.{Edge}
 use Rattle.plan.specs.Sizes.{mostNodes, mostEdges}
 use Rattle.plan.specs.Plan.{Plan, noEdge, size, capacityOf, edgesOf, edgeOf, firstEdge, next}
 use Rattle.plan.specs.PlanTable.{planTable, plans, planOf}
-use Rattle.plan.specs.PlanArrays.{Grid, edgeCountIn, edgesIn, capacitiesRow, countsRow, gridOf, rowOf}
+use Rattle.plan.specs.PlanArrays.{atNode, Grid, edgeCountIn, edgesIn, capacitiesRow, countsRow, gridOf, rowOf}
 use Rattle.plan.proofs.TableLaws.{table-rules, no-plan}
 use Rattle.plan.proofs.ArrayLaws.{capacities-back, count-back, edges-back}
 
@@ -62,8 +62,8 @@ few-edges (suc p) n q = go (decLt plans (suc p))
 
 -- So its arrays give its capacities, edge counts, edges and next steps.
 module _ (plan : ℕ) where
-  pub capacity-of : (cs : List ℕ) → cs ≡ capacitiesRow (planOf plan) → (n : ℕ) → getD cs n 0 ≡ capacityOf (planOf plan) n
-  capacity-of cs e n = ap (λ (l : List ℕ). getD l n 0) e ∙ capacities-back (planOf plan) (few-nodes plan) n
+  pub capacity-of : (cs : List ℕ) → cs ≡ capacitiesRow (planOf plan) → (n : ℕ) → atNode cs n ≡ capacityOf (planOf plan) n
+  capacity-of cs e n = ap (λ (l : List ℕ). atNode l n) e ∙ capacities-back (planOf plan) (few-nodes plan) n
 
   pub count-of : (cs : List ℕ) → cs ≡ countsRow (planOf plan) → (n : ℕ) → edgeCountIn cs n ≡ length (edgesOf (planOf plan) n)
   count-of cs e n = ap (λ (l : List ℕ). edgeCountIn l n) e ∙ count-back (planOf plan) (few-nodes plan) (few-edges plan) n

@@ -1,7 +1,9 @@
 -- A plan as arrays: capacities and edge counts by node; lowest keys, highest keys and targets by node and then by edge.
 -- The only file of the plan's definitions that knows how it is laid out.
+use mathlib.Core.Bool.{cond}
 use mathlib.Core.List.{List, []}
 use Prim.Native.Nat.{ℕ, zero, suc, min}
+use lib.Dec.{ltb}
 use lib.ListN.{length, getD}
 use Rattle.lists.specs.Runs.{run}
 use Rattle.plan.specs.declared.Edge.{Edge}
@@ -20,9 +22,13 @@ cell g n i = getD (getD g n []) i 0
 abbrev pub edgeIn : Grid → Grid → Grid → ℕ → ℕ → Edge
 edgeIn lows highs targets n i = record { lowest = cell lows n i; highest = cell highs n i; target = cell targets n i }
 
+-- What a row by node has for node n; 0 past the last node that there are places for.
+unfoldable pub atNode : List ℕ → ℕ → ℕ
+atNode row n = cond (ltb n mostNodes) (getD row n 0) 0
+
 -- How many edges node n has: as many as are counted, and no more than there are places for.
 abbrev pub edgeCountIn : List ℕ → ℕ → ℕ
-edgeCountIn counts n = min (getD counts n 0) mostEdges
+edgeCountIn counts n = min (atNode counts n) mostEdges
 
 -- The edges of node n.
 unfoldable pub edgesIn : List ℕ → Grid → Grid → Grid → ℕ → List Edge

@@ -1,19 +1,17 @@
 // A plan's arrays, lent: capacities and edge counts by node; lowest keys, highest keys and targets by node and then by edge.
 // Any arrays and any numbers will do, not only those of the table.
 ghost use mathlib.Core.Path.{_≡_};
-ghost use Prim.Native.Nat.{_≤_};
 ghost use lib.ListN.{getD};
-ghost use Rattle.plan.specs.Sizes.{mostNodes};
 ghost use Rattle.plan.specs.Plan.{noEdge, firstEdge};
-ghost use Rattle.plan.specs.PlanArrays.{edgeCountIn, edgesIn};
+ghost use Rattle.plan.specs.PlanArrays.{atNode, edgeCountIn, edgesIn};
 use super::Edge;
 use super::Hop;
 use super::MOST_EDGES;
 use super::MOST_NODES;
 
 // What a row by node has for the node; 0 past the last.
-fn at_node(row: [u32; MOST_NODES], node: u32) -> u32
-    ensures { λ r. ⌜ (r ≡ getD row node 0) × (mostNodes ≤ node → r ≡ 0) ⌝ }
+fn at_node(row: &[u32; MOST_NODES], node: u32) -> u32
+    ensures { λ r. ⌜ r ≡ atNode (now (row .entry)) node ⌝ }
 {
     let n = node as usize;
     if n < MOST_NODES {
@@ -24,16 +22,16 @@ fn at_node(row: [u32; MOST_NODES], node: u32) -> u32
 
 // The node's capacity; 0 past the last node.
 pub fn capacity_in(capacities: &[u32; MOST_NODES], node: u32) -> u32
-    ensures { λ r. ⌜ r ≡ getD (now (capacities .entry)) node 0 ⌝ }
+    ensures { λ r. ⌜ r ≡ atNode (now (capacities .entry)) node ⌝ }
 {
-    at_node(*capacities, node)
+    at_node(capacities, node)
 }
 
 // How many edges the node has: as many as are counted, and no more than there are places for. Past the last node there is none.
 pub fn edge_count_in(counts: &[u32; MOST_NODES], node: u32) -> u32
-    ensures { λ r. ⌜ (r ≡ edgeCountIn (now (counts .entry)) node) × (mostNodes ≤ node → r ≡ 0) ⌝ }
+    ensures { λ r. ⌜ r ≡ edgeCountIn (now (counts .entry)) node ⌝ }
 {
-    let count = at_node(*counts, node);
+    let count = at_node(counts, node);
     if (MOST_EDGES as u32) < count {
         return MOST_EDGES as u32;
     }

@@ -7,9 +7,12 @@ ghost use lib.ListN.{length};
 ghost use lib.Seq.{slice};
 ghost use Rattle.lists.specs.Runs.{allFrom, allBelow};
 ghost use Rattle.plan.specs.Sizes.{mostNodes};
+ghost use Rattle.plan.specs.PlanTable.{planOf};
+ghost use Rattle.plan.specs.PlanArrays.{capacitiesRow};
 ghost use Rattle.store.specs.Layout.{places};
 ghost use Rattle.store.specs.StoreRules.{planNumberTest, kindTest, allZero};
 ghost use Rattle.rules.specs.Workers.{holding, markTest, keyRises, usedTest, tidyTest, Sized};
+use plan::arrays;
 use store::Copy;
 use store::Store;
 use store::columns;
@@ -112,9 +115,10 @@ fn unused_good<'a>(
 }
 
 // A node: "counts within capacity", its used places, and the others.
-fn node_tidy<'a>(
+fn node_tidy<'a, 'b>(
     plan: u32,
     clock: u32,
+    capacities: &'b [u32; plan::MOST_NODES],
     counts: &'a [u32; Store::NODES],
     keys: &'a [u32; Store::PLACES],
     kinds: &'a [u32; Store::PLACES],
@@ -122,12 +126,12 @@ fn node_tidy<'a>(
     stamps: &'a [u32; Store::PLACES],
     node: u32,
 ) -> bool
-    requires { ⌜ (node < mostNodes) × (planNumberTest plan ≡ true) × Sized (now counts) (now keys) (now kinds) (now values) (now stamps) ⌝ }
+    requires { ⌜ (node < mostNodes) × (planNumberTest plan ≡ true) × Sized (now counts) (now keys) (now kinds) (now values) (now stamps) × (now capacities ≡ capacitiesRow (planOf plan)) ⌝ }
     ensures { λ r. ⌜ r ≡ tidyTest (holding plan clock (now (counts .entry)) (now (keys .entry)) (now (kinds .entry)) (now (values .entry)) (now (stamps .entry))) node ⌝ }
 {
     let n = node as usize;
     let count = counts[n];
-    if plan::capacity(plan, node) < count {
+    if arrays::capacity_in(capacities, node) < count {
         return false;
     }
     let from = Store::WIDTH * n;
@@ -151,9 +155,20 @@ pub fn nodes_tidy<'a>(
     requires { ⌜ (planNumberTest plan ≡ true) × Sized (now counts) (now keys) (now kinds) (now values) (now stamps) ⌝ }
     ensures { λ r. ⌜ r ≡ allBelow mostNodes (tidyTest (holding plan clock (now (counts .entry)) (now (keys .entry)) (now (kinds .entry)) (now (values .entry)) (now (stamps .entry)))) ⌝ }
 {
+    let capacities = plan::capacities_of(plan);
     let mut node = 0;
     while node < Store::NODES as u32 {
-        if !node_tidy(plan, clock, counts, keys, kinds, values, stamps, node) {
+        if !node_tidy(
+            plan,
+            clock,
+            &capacities,
+            counts,
+            keys,
+            kinds,
+            values,
+            stamps,
+            node,
+        ) {
             return false;
         }
         node += 1;

@@ -102,17 +102,16 @@ pub fn open(column: &mut [u32; Store::PLACES], at: usize, end: usize, number: u3
     column[at] = number;
 }
 
-// The places from..end of the column are all zero.
+// The places from..end of the column are all zero: their bits are laid together, with no way out before the end.
 pub fn all_zero(column: &[u32; Store::PLACES], from: usize, end: usize) -> bool
     requires { ⌜ (from ≤ end) × (end ≤ places) × (length (now column) ≡ places) ⌝ }
     ensures { λ r. ⌜ r ≡ allZero (slice from end (now (column .entry))) ⌝ }
 {
+    let mut seen = 0;
     let mut i = from;
     while i < end {
-        if column[i] != 0 {
-            return false;
-        }
+        seen |= column[i];
         i += 1;
     }
-    true
+    seen == 0
 }

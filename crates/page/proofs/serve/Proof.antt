@@ -1,5 +1,4 @@
 -- `page::serve` meets its promise. Assumes nothing.
-use mathlib.Core.Path.{sym}
 use borrow.Author.Needs.{needs}
 use lib.Seq.{length-take-le}
 use Rattle.page.proofs.PageWays.{serve-notice, serve-fits, serve-kept}
@@ -18,9 +17,8 @@ slice-aggregate-result : tie.Need-slice-aggregate-result
 slice-aggregate-result c =
     let w = c .before .before in
     let a = w .before .before .before .args in
-    sym
-    (length-take-le (w .served-length .result) (a .kept .now)
-    (serve-fits (a .store) (a .sample) (a .kept) (a .notice) (w .served-length .ensures) (search needs)))
+    let fits = serve-fits (a .store) (a .sample) (a .kept) (a .notice) (w .served-length .ensures) (search needs) in
+    search (needs, fits, length-take-le)
 
 returns-2 : tie.Need-returns-2
 returns-2 c =

@@ -14,7 +14,7 @@ edge-count-in-requires c κs = search needs
 returns : tie.Need-returns
 returns c =
     let s = c .before .before in
-    c .edge-count-in .ensures .0 ∙ count-of (s .before .args .plan) (s .edge-counts-of .result) (s .edge-counts-of .ensures) (s .before .args .node)
+    c .edge-count-in .ensures ∙ count-of (s .before .args .plan) (s .edge-counts-of .result) (s .edge-counts-of .ensures) (s .before .args .node)
 
 pub edge-count-spec : {M : Type 1} → statement M
 edge-count-spec = tie.close (tie.spec edge-counts-of-requires edge-count-in-requires returns)

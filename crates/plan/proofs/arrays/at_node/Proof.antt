@@ -1,25 +1,26 @@
 -- `plan::arrays::at_node` meets its contract. Assumes nothing.
-use mathlib.Core.Path.{_≡_, refl, sym}
+use mathlib.Core.Path.{sym}
 use native.Mathlib.Omega.{arith}
-use lib.ListN.{length, List·getD-eq-default}
-use Rattle.plan.specs.Sizes.{mostNodes}
 use borrow.Author.Needs.{needs}
+use Rattle.plan.proofs.ArrayLaws.{at-within, at-past}
 use Rattle.plan.proofs.arrays.at_node.Statement.{statement}
 use Rattle.plan.proofs.arrays.at_node.Tie as tie
 
 mul-result : tie.Need-mul-result
 mul-result c = search needs
 
-array-read-result : tie.Need-array-read-result
-array-read-result c = search needs
+element-copy-out-result : tie.Need-element-copy-out-result
+element-copy-out-result c = search needs
 
 returns : tie.Need-returns
-returns c = search needs
+returns c =
+    let a = c .before .before .args in
+    sym (at-within (a .row .now) (a .node) (search needs))
 
 returns-2 : tie.Need-returns-2
 returns-2 c =
-    let l : length (c .before .args .t1) ≡ mostNodes = search needs in
-    (sym (List·getD-eq-default (c .before .args .t1) 0 (omega arith)), λ h. refl)
+    let a = c .before .args in
+    sym (at-past (a .row .now) (a .node) (omega arith))
 
 pub at-node-spec : {M : Type 1} → statement M
-at-node-spec = tie.close (tie.spec mul-result array-read-result returns returns-2)
+at-node-spec = tie.close (tie.spec mul-result element-copy-out-result returns returns-2)

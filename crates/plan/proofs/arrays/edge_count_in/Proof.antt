@@ -1,5 +1,4 @@
 -- `plan::arrays::edge_count_in` meets its contract. Assumes nothing.
-use native.Mathlib.Omega.{arith}
 use borrow.Author.Needs.{needs}
 use Rattle.plan.proofs.arrays.edge_count_in.Statement.{statement}
 use Rattle.plan.proofs.arrays.edge_count_in.Tie as tie
@@ -14,7 +13,7 @@ cast-result : tie.Need-cast-result
 cast-result c = search needs
 
 returns : tie.Need-returns
-returns c = (search needs, λ h. omega (arith, c .before .at-node .ensures .1 h))
+returns c = search needs
 
 returns-2 : tie.Need-returns-2
 returns-2 c = search needs

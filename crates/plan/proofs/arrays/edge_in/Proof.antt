@@ -23,7 +23,7 @@ mul-t14 c = search needs
 index-1-t9 : tie.Need-index-1-t9
 index-1-t9 c =
     let d = c .before in
-    counted-within (d .before .args .node) (d .edge-count-in .result) (d .before .args .edge) (d .edge-count-in .ensures .1) (omega arith)
+    counted-within (d .before .args .counts .now) (d .before .args .node) (d .edge-count-in .result) (d .before .args .edge) (d .edge-count-in .ensures) (omega arith)
 
 index-2-t9 : tie.Need-index-2-t9
 index-2-t9 c = search needs
@@ -37,7 +37,7 @@ mul-t20 c = search needs
 index-1-t23 : tie.Need-index-1-t23
 index-1-t23 c =
     let d = c .before .before in
-    counted-within (d .before .args .node) (d .edge-count-in .result) (d .before .args .edge) (d .edge-count-in .ensures .1) (omega arith)
+    counted-within (d .before .args .counts .now) (d .before .args .node) (d .edge-count-in .result) (d .before .args .edge) (d .edge-count-in .ensures) (omega arith)
 
 index-2-t23 : tie.Need-index-2-t23
 index-2-t23 c = search needs
@@ -51,7 +51,7 @@ mul-t27 c = search needs
 index-1-t30 : tie.Need-index-1-t30
 index-1-t30 c =
     let d = c .before .before .before in
-    counted-within (d .before .args .node) (d .edge-count-in .result) (d .before .args .edge) (d .edge-count-in .ensures .1) (omega arith)
+    counted-within (d .before .args .counts .now) (d .before .args .node) (d .edge-count-in .result) (d .before .args .edge) (d .edge-count-in .ensures) (omega arith)
 
 index-2-t30 : tie.Need-index-2-t30
 index-2-t30 c = search needs

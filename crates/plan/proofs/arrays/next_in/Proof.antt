@@ -7,9 +7,9 @@ use native.Mathlib.Omega.{arith}
 use borrow.Author.Tests.{leb-true, leb-false}
 use Rattle.lists.specs.Runs.{run}
 use Rattle.plan.specs.declared.Edge.{Edge}
-use Rattle.plan.specs.Sizes.{mostNodes, mostEdges}
+use Rattle.plan.specs.Sizes.{mostEdges}
 use Rattle.plan.specs.Plan.{firstEdge}
-use Rattle.plan.specs.PlanArrays.{edgeIn, edgesIn}
+use Rattle.plan.specs.PlanArrays.{edgeIn, edgeCountIn, edgesIn}
 use Rattle.plan.proofs.NextLaws.{below-lowest, above-highest}
 use Rattle.plan.proofs.ArrayLaws.{counted-within, looks-from, looked, found, looks-on}
 use borrow.Author.Needs.{needs}
@@ -20,7 +20,7 @@ abbrev Inv-loop : tie.InvT-loop
 Inv-loop counts lows highs targets node key n count e₀ e =
     (e ≤ count)
     × (count ≤ mostEdges)
-    × (mostNodes ≤ node → count ≡ 0)
+    × (count ≡ edgeCountIn counts node)
     × (firstEdge (edgesIn counts lows highs targets node) key ≡ firstEdge (run e (count - e) (edgeIn lows highs targets node)) key)
 
 abbrev μ-loop : tie.MeasureT-loop
@@ -41,8 +41,8 @@ loop-holds c =
     let a = c .before .args in (
       search needs,
       search needs,
-      c .edge-count-in .ensures .1,
-      looks-from (a .counts .now) (a .lows .now) (a .highs .now) (a .targets .now) (a .node) (c .edge-count-in .result) (a .key) (c .edge-count-in .ensures .0),
+      c .edge-count-in .ensures,
+      looks-from (a .counts .now) (a .lows .now) (a .highs .now) (a .targets .now) (a .node) (c .edge-count-in .result) (a .key) (c .edge-count-in .ensures),
     )
 
 returns : tie.Need-returns Inv-loop μ-loop
@@ -59,7 +59,7 @@ mul-if2-2 c = search needs
 index-1-if2 : tie.Need-index-1-if2 Inv-loop μ-loop
 index-1-if2 c =
     let l = c .before in
-    counted-within (l .before .before .args .node) (l .before .edge-count-in .result) (l .loop .e) (l .loop .inv .2) (omega arith)
+    counted-within (l .before .before .args .counts .now) (l .before .before .args .node) (l .before .edge-count-in .result) (l .loop .e) (l .loop .inv .2) (omega arith)
 
 index-2-if2 : tie.Need-index-2-if2 Inv-loop μ-loop
 index-2-if2 c = search needs
@@ -73,7 +73,7 @@ mul-if3-2 c = search needs
 index-1-if3 : tie.Need-index-1-if3 Inv-loop μ-loop
 index-1-if3 c =
     let l = c .before .before .before in
-    counted-within (l .before .before .args .node) (l .before .edge-count-in .result) (l .loop .e) (l .loop .inv .2) (omega arith)
+    counted-within (l .before .before .args .counts .now) (l .before .before .args .node) (l .before .edge-count-in .result) (l .loop .e) (l .loop .inv .2) (omega arith)
 
 index-2-if3 : tie.Need-index-2-if3 Inv-loop μ-loop
 index-2-if3 c = search needs
@@ -87,7 +87,7 @@ mul-target-2 c = search needs
 index-1-target : tie.Need-index-1-target Inv-loop μ-loop
 index-1-target c =
     let l = c .before .before .before .before .before in
-    counted-within (l .before .before .args .node) (l .before .edge-count-in .result) (l .loop .e) (l .loop .inv .2) (omega arith)
+    counted-within (l .before .before .args .counts .now) (l .before .before .args .node) (l .before .edge-count-in .result) (l .loop .e) (l .loop .inv .2) (omega arith)
 
 index-2-target : tie.Need-index-2-target Inv-loop μ-loop
 index-2-target c = search needs

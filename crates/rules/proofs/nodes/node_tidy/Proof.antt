@@ -5,6 +5,7 @@ use native.Mathlib.Omega.{arith}
 use lib.ListN.{getD}
 use borrow.Author.Tests.{not-true, not-false}
 use Rattle.plan.specs.PlanTable.{planOf}
+use Rattle.plan.proofs.RowLaws.{capacity-of}
 use Rattle.store.specs.declared.Store.{Store}
 use Rattle.store.specs.Layout.{width}
 use Rattle.rules.specs.Workers.{holding}
@@ -24,15 +25,15 @@ mul-count c = search needs
 element-copy-out-count : tie.Need-element-copy-out-count
 element-copy-out-count c = search needs
 
-capacity-requires : tie.Need-capacity-requires
-capacity-requires c κs = search needs
+capacity-in-requires : tie.Need-capacity-in-requires
+capacity-in-requires c κs = search needs
 
 returns : tie.Need-returns
 returns c =
     let s = c .before .before .before in
     let a = s .args in
     let n = a .node in
-    let cap = c .before .capacity .ensures in
+    let cap = c .before .capacity-in .ensures ∙ capacity-of (a .plan) (a .capacities .now) (s .pre .3) n in
     let fits = capacity-fits (planOf (a .plan)) (number-rules (a .plan) (s .pre .1)) n in
     sym (node-over (lent s) n (omega arith))
 
@@ -50,7 +51,7 @@ used-good-requires c κs =
     let s = c .before .before .before in
     let a = s .args in
     let n = a .node in
-    let cap = c .before .capacity .ensures in
+    let cap = c .before .capacity-in .ensures ∙ capacity-of (a .plan) (a .capacities .now) (s .pre .3) n in
     let fits = capacity-fits (planOf (a .plan)) (number-rules (a .plan) (s .pre .1)) n in
     omega arith
 
@@ -59,7 +60,7 @@ returns-2 c =
     let s = c .before .before .before .before .before in
     let a = s .args in
     let n = a .node in
-    let cap = c .before .before .before .capacity .ensures in
+    let cap = c .before .before .before .capacity-in .ensures ∙ capacity-of (a .plan) (a .capacities .now) (s .pre .3) n in
     let fits = capacity-fits (planOf (a .plan)) (number-rules (a .plan) (s .pre .1)) n in
     sym (node-used (lent s) n (width * n) (width * n + getD (a .counts .now) n 0) refl refl (sym (c .before .used-good .ensures) ∙ not-true (c .before .used-good .result) (c .if2 .taken)))
 
@@ -71,7 +72,7 @@ unused-good-requires c κs =
     let s = c .before .before .before .before .before in
     let a = s .args in
     let n = a .node in
-    let cap = c .before .before .before .capacity .ensures in
+    let cap = c .before .before .before .capacity-in .ensures ∙ capacity-of (a .plan) (a .capacities .now) (s .pre .3) n in
     let fits = capacity-fits (planOf (a .plan)) (number-rules (a .plan) (s .pre .1)) n in
     let size = s .pre .2 in
     (omega arith, omega arith, size .keys-512, size .kinds-512, size .values-512, size .stamps-512)
@@ -81,7 +82,7 @@ returns-3 c =
     let s = c .before .before .before .before .before .before in
     let a = s .args in
     let n = a .node in
-    let cap = c .before .before .before .before .capacity .ensures in
+    let cap = c .before .before .before .before .capacity-in .ensures ∙ capacity-of (a .plan) (a .capacities .now) (s .pre .3) n in
     let fits = capacity-fits (planOf (a .plan)) (number-rules (a .plan) (s .pre .1)) n in
     let used = c .before .before .used-good in
     c .unused-good .ensures
@@ -93,7 +94,7 @@ node-tidy-spec =
     (tie.spec
     mul-count
     element-copy-out-count
-    capacity-requires
+    capacity-in-requires
     returns
     mul-from
     cast-end

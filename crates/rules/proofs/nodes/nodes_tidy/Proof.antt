@@ -14,16 +14,19 @@ use Rattle.rules.proofs.nodes.nodes_tidy.Statement.{statement}
 use Rattle.rules.proofs.nodes.nodes_tidy.Tie as tie
 
 abbrev Inv-loop : tie.InvT-loop
-Inv-loop plan clock counts keys kinds values stamps node₀ node =
+Inv-loop plan clock counts keys kinds values stamps capacities node₀ node =
     let z = holding plan clock counts keys kinds values stamps in
     (node ≤ mostNodes) × (allBelow mostNodes (tidyTest z) ≡ allFrom node (mostNodes - node) (tidyTest z))
 
 abbrev μ-loop : tie.MeasureT-loop
-μ-loop plan clock counts keys kinds values stamps node₀ node = mostNodes - node
+μ-loop plan clock counts keys kinds values stamps capacities node₀ node = mostNodes - node
 
 -- The store of the columns lent.
 abbrev lent : tie.Start Inv-loop μ-loop → Store
 lent s = let a = s .args in holding (a .plan) (a .clock) (a .counts .now) (a .keys .now) (a .kinds .now) (a .values .now) (a .stamps .now)
+
+capacities-of-requires : tie.Need-capacities-of-requires Inv-loop μ-loop
+capacities-of-requires c κs = search needs
 
 loop-holds : tie.Need-loop-holds Inv-loop μ-loop
 loop-holds c = (search needs, refl)
@@ -36,8 +39,8 @@ node-tidy-requires c κs = search needs
 
 returns : tie.Need-returns Inv-loop μ-loop
 returns c =
-    let l = c .before .before .before in
-    let s = l .before in
+    let l = c .before .before .before .before in
+    let s = l .before .before in
     let node = c .before .node-tidy in
     sym (l .loop .inv .1 ∙ all-stop (tidyTest (lent s)) (l .loop .node) mostNodes (omega arith) (sym (node .ensures) ∙ not-true (node .result) (c .if1 .taken)))
 
@@ -49,15 +52,15 @@ loop-less c = search needs
 
 loop-again : tie.Need-loop-again Inv-loop μ-loop
 loop-again c =
-    let l = c .before .before .before in
-    let s = l .before in
+    let l = c .before .before .before .before in
+    let s = l .before .before in
     let node = c .before .node-tidy in
     (omega arith, l .loop .inv .1 ∙ all-turn (tidyTest (lent s)) (l .loop .node) mostNodes (omega arith) (sym (node .ensures) ∙ not-false (node .result) (c .if1 .left)))
 
 returns-2 : tie.Need-returns-2 Inv-loop μ-loop
 returns-2 c =
     let l = c .before in
-    let s = l .before in
+    let s = l .before .before in
     sym (l .loop .inv .1 ∙ all-end (tidyTest (lent s)) (l .loop .node) mostNodes (omega arith))
 
 pub nodes-tidy-spec : {M : Type 1} → statement M
@@ -66,6 +69,7 @@ nodes-tidy-spec =
     (tie.spec
     Inv-loop
     μ-loop
+    capacities-of-requires
     loop-holds
     cast-loop
     node-tidy-requires

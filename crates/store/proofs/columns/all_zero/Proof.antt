@@ -1,37 +1,33 @@
-use mathlib.Core.Path.{_≡_, refl, sym, _∙_}
+use mathlib.Core.Path.{_≡_, refl, sym, ap, _∙_}
+use mathlib.Core.Bool.{_&&_, and-true}
 use Prim.Native.Nat.{_-_, _≤_}
 use native.Mathlib.Omega.{arith}
+use lib.Dec.{eqb}
 use lib.ListN.{length}
 use lib.Seq.{slice}
 use borrow.Author.Needs.{needs}
 use Rattle.store.specs.Layout.{places}
 use Rattle.store.specs.StoreRules.{allZero}
-use Rattle.store.proofs.Zeros.{zero-stop, zero-turn, zero-end}
+use Rattle.store.proofs.Zeros.{zero-turn, zero-end}
 use Rattle.store.proofs.columns.all_zero.Statement.{statement}
 use Rattle.store.proofs.columns.all_zero.Tie as tie
 
--- What is still to test decides.
+-- What was seen and what is still to see decide.
 abbrev Inv-loop : tie.InvT-loop
-Inv-loop column from end i₀ i =
-    (i ≤ end) × (length column ≡ places) × (allZero (slice i end column) ≡ allZero (slice from end column))
+Inv-loop column from end seen₀ i₀ seen i =
+    (i ≤ end) × (length column ≡ places) × ((eqb seen 0 && allZero (slice i end column)) ≡ allZero (slice from end column))
 
 abbrev μ-loop : tie.MeasureT-loop
-μ-loop column from end i₀ i = end - i
+μ-loop column from end seen₀ i₀ seen i = end - i
 
 loop-holds : tie.Need-loop-holds Inv-loop μ-loop
 loop-holds c = (search needs, c .pre .2, refl)
 
-mul-if1 : tie.Need-mul-if1 Inv-loop μ-loop
-mul-if1 c = search needs
+mul-seen : tie.Need-mul-seen Inv-loop μ-loop
+mul-seen c = search needs
 
-element-copy-out-if1 : tie.Need-element-copy-out-if1 Inv-loop μ-loop
-element-copy-out-if1 c = search needs
-
-returns : tie.Need-returns Inv-loop μ-loop
-returns c =
-    let l = c .before .before .before in
-    let a = l .before .args in
-    sym (sym (l .loop .inv .2) ∙ zero-stop (a .column .now) (l .loop .i) (a .end) (search needs) (omega arith) (c .if1 .taken))
+element-copy-out-seen : tie.Need-element-copy-out-seen Inv-loop μ-loop
+element-copy-out-seen c = search needs
 
 add-i : tie.Need-add-i Inv-loop μ-loop
 add-i c = search needs
@@ -41,15 +37,15 @@ loop-less c = search needs
 
 loop-again : tie.Need-loop-again Inv-loop μ-loop
 loop-again c =
-    let l = c .before .before .before in
+    let l = c .before .before in
     let a = l .before .args in
-    (search needs, l .loop .inv .1, sym (zero-turn (a .column .now) (l .loop .i) (a .end) (search needs) (omega arith) (c .if1 .left)) ∙ l .loop .inv .2)
+    (search needs, l .loop .inv .1, zero-turn (a .column .now) (l .loop .i) (a .end) (l .loop .seen) (search needs) (omega arith) ∙ l .loop .inv .2)
 
-returns-2 : tie.Need-returns-2 Inv-loop μ-loop
-returns-2 c =
+returns : tie.Need-returns Inv-loop μ-loop
+returns c =
     let l = c .before in
     let a = l .before .args in
-    sym (sym (l .loop .inv .2) ∙ zero-end (a .column .now) (l .loop .i) (a .end) (omega arith))
+    sym (and-true (eqb (l .loop .seen) 0)) ∙ ap (λ rest. eqb (l .loop .seen) 0 && rest) (sym (zero-end (a .column .now) (l .loop .i) (a .end) (omega arith))) ∙ l .loop .inv .2
 
 pub all-zero-spec : {M : Type 1} → statement M
 all-zero-spec =
@@ -58,10 +54,9 @@ all-zero-spec =
     Inv-loop
     μ-loop
     loop-holds
-    mul-if1
-    element-copy-out-if1
-    returns
+    mul-seen
+    element-copy-out-seen
     add-i
     loop-less
     loop-again
-    returns-2)
+    returns)
