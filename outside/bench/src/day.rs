@@ -1,4 +1,4 @@
-//! A portal's day: 100 lines entered, pages made and kept, 20 amendments, looks, kept pages served.
+//! A portal's day: 100 lines entered, pages made and kept, 10 amendments, looks, pages, kept pages served.
 
 use std::hint::black_box;
 use std::time::Instant;
@@ -14,10 +14,10 @@ const ROUNDS: u32 = 4;
 const DAYS: usize = 400;
 const WHAT: [&str; 4] = ["an entry, carries included", "a look", "a page made", "a kept page served"];
 
-/// Nanoseconds per call of each kind, and what the day showed.
+/// Nanoseconds per call of each kind, and what the day showed: values, lengths and the kept pages' bytes.
 struct Day {
     nanoseconds: [f64; 4],
-    shown: u64,
+    shown: (u64, Vec<Vec<u8>>),
 }
 
 /// Times calls and gives the nanoseconds per call.
@@ -54,7 +54,7 @@ fn day(portal: &mut dyn Portal) -> Day {
             shown += portal.serve(sample, &kept[sample as usize]) as u64;
         }
     });
-    Day { nanoseconds: [entries, looks, pages, serves], shown }
+    Day { nanoseconds: [entries, looks, pages, serves], shown: (shown, kept) }
 }
 
 /// A store of one kind, opened for each day anew.
@@ -75,9 +75,9 @@ fn best() -> [Option<[f64; 4]>; 4] {
         for (at, (_, open)) in PORTALS.iter().enumerate() {
             let Some(mut portal) = open() else { continue };
             let day = day(&mut *portal);
-            assert_eq!(*shown.get_or_insert(day.shown), day.shown);
             let old = best[at].unwrap_or([f64::MAX; 4]);
             best[at] = Some([0, 1, 2, 3].map(|what| day.nanoseconds[what].min(old[what])));
+            assert!(*shown.get_or_insert(day.shown.clone()) == day.shown);
         }
     }
     best

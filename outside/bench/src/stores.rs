@@ -28,8 +28,8 @@ fn line_of(half: u32, i: u32) -> u32 {
 
 /// Fresh; or each node at half its capacity, and two searches running; or each node full, and seven searches running.
 ///
-/// Nodes are filled from the highest number down, by entries and carries. In each node about half of the copies are of
-/// the first lines, which other nodes hold too, and half of lines of its own.
+/// Nodes are filled from the highest number down, by entries and carries. Half of a node's copies are of lines that a
+/// node below holds too, if there is one, and half of lines of its own.
 pub fn make(number: u32, fill: Fill) -> Store {
     let mut store = Store::empty(1);
     fresh(&mut store, number);
@@ -85,6 +85,31 @@ fn descend(store: &mut Store, plan: &Plan, node: usize) {
         for (edge, leads) in plan.edges[from].iter().enumerate() {
             if leads.target <= node {
                 carry(store, from as u32, edge as u32);
+            }
+        }
+    }
+}
+
+#[cfg(test)]
+mod tests {
+    use super::*;
+
+    /// The nodes below a node that hold a key.
+    fn below(store: &Store, plan: &Plan, node: usize, key: u32) -> usize {
+        (node + 1..plan.nodes()).filter(|&lower| has(store, lower, key)).count()
+    }
+
+    #[test]
+    fn half_of_a_node_is_held_below() {
+        for (number, fill) in
+            [(1, Fill::Half), (1, Fill::Full), (2, Fill::Full), (3, Fill::Half), (3, Fill::Full)]
+        {
+            let store = make(number, fill);
+            let plan = Plan::numbered(number).expect("1 to 3");
+            for node in (0..plan.nodes()).filter(|&node| !plan.edges[node].is_empty()) {
+                let keys = &store.keys[node * 64..node * 64 + store.counts[node] as usize];
+                let again = keys.iter().filter(|&&key| below(&store, plan, node, key) > 0).count();
+                assert_eq!(2 * again, keys.len(), "plan {number}, node {node}");
             }
         }
     }

@@ -146,3 +146,35 @@ fn carries_past_a_copy_without_room() {
     assert_eq!(look(&store, 131), Answer::full(Number::Done, 2, 2, 34, 2));
     assert!(good(&store));
 }
+
+#[test]
+fn decoding_writes_all_or_nothing() {
+    let mark = Step { number: 9, x: 9, y: 9 };
+    let mut list = [mark; STEPS + 1];
+    assert_eq!(decode(&[0x01, 0x02, 0x05, 0x07, 0x80], &mut list), Answer::with(Number::Op, 3));
+    assert_eq!(list, [mark; STEPS + 1]);
+    assert_eq!(decode(&[0x02, 0x02, 0x05], &mut list), Answer::full(Number::Done, 1, 2, 0, 0));
+    assert_eq!(list[..2], [Step { number: 2, x: 5, y: 0 }, mark]);
+    assert_eq!(decode(&[], &mut list[..STEPS - 1]), Answer::with(Number::Small, 256));
+    assert_eq!(decode(&[], &mut list), Answer::with(Number::Cut, 0));
+    assert_eq!(decode(&[0x04], &mut list), Answer::with(Number::Plan, 0));
+}
+
+#[test]
+fn many_is_tested_first() {
+    let mut bytes = vec![0x01];
+    bytes.extend([0x05, 0x00].repeat(STEPS));
+    let mut list = [Step::default(); STEPS];
+    assert_eq!(decode(&bytes, &mut list), Answer::full(Number::Done, 256, 1, 0, 0));
+    bytes.push(0x80);
+    assert_eq!(decode(&bytes, &mut list), Answer::with(Number::Many, 513));
+}
+
+#[test]
+fn the_runner_tells_the_place() {
+    let mut store = fresh_of(1);
+    assert_eq!(run(&mut store, &[], 3), Answer::with(Number::Op, 3));
+    assert_eq!(run(&mut store, &[Step::default(); 2], 1), Answer::with(Number::Op, 1));
+    store.clock = 0;
+    assert_eq!(run(&mut store, &[], 3), Answer::bare(Number::BadStore));
+}

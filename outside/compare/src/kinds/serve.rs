@@ -43,7 +43,7 @@ fn serve(random: &mut Random, pair: &mut Pair, kept: &[(u32, Vec<u8>)]) -> Resul
         0 => damage(random, &mut bytes),
         1 => bytes.extend(random.bytes(20)),
         2 => bytes.truncate(bytes.len().saturating_sub(1)),
-        3 => sample = random.pick(&[sample + 1, 0, u32::MAX, 134_217_728]),
+        3 => sample = random.pick(&[sample.wrapping_add(1), 0, u32::MAX, 134_217_728]),
         _ => (),
     }
     pair.call(Call::Serve(sample, bytes)).map(|_| ())
