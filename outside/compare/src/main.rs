@@ -83,8 +83,7 @@ fn run(options: &Options, kind: &'static str, pair: &mut Pair) -> Result<(), (u6
     let cases = options.case.map_or(0..options.count, |case| case..case + 1);
     let total = cases.end - cases.start;
     for turn in cases.clone() {
-        let mut random =
-            Random::of_case(options.seed ^ kind.len() as u64 ^ u64::from(kind.as_bytes()[1]) << 32, turn);
+        let mut random = Random::of_case(options.seed, kind, turn);
         case(options, kind, &mut random, pair, turn).map_err(|difference| (turn, difference))?;
         if said.elapsed() > Duration::from_secs(3) {
             said = Instant::now();

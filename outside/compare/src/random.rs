@@ -7,10 +7,12 @@ pub struct Random {
 }
 
 impl Random {
-    /// A source of its own for each case of a seed.
-    pub fn of_case(seed: u64, case: u64) -> Random {
+    /// A source of its own for each case of a kind.
+    pub fn of_case(seed: u64, kind: &str, case: u64) -> Random {
         let mut random = Random { state: seed };
-        random.state = random.word().wrapping_add(case.wrapping_mul(0x2545_F491_4F6C_DD1D));
+        for part in kind.bytes().map(u64::from).chain([case]) {
+            random.state = random.word() ^ part;
+        }
         random
     }
 
