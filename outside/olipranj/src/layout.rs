@@ -1,0 +1,46 @@
+//! The store's data as the header `olipranj.h` declares it.
+
+/// The places for copies: 64 to each of 8 nodes.
+pub const PLACES: usize = 512;
+/// The search slots.
+pub const SLOTS: usize = 8;
+
+/// A search slot: 1 if a search runs in it, its key, its node, the nodes visited. An idle slot is all zero.
+#[repr(C)]
+#[derive(Clone, Copy, Debug, Default, PartialEq, Eq)]
+#[allow(missing_docs)]
+pub struct Slot {
+    pub running: u32,
+    pub key: u32,
+    pub node: u32,
+    pub visits: u32,
+}
+
+/// The store's numbers: node n has the places from 64 n on, and uses the first, as many as its count says.
+#[repr(C)]
+#[derive(Clone, Debug, PartialEq, Eq)]
+#[allow(missing_docs)]
+pub struct Raw {
+    pub plan: u32,
+    pub clock: u32,
+    pub counts: [u32; 8],
+    pub keys: [u32; PLACES],
+    pub kinds: [u32; PLACES],
+    pub values: [u32; PLACES],
+    pub stamps: [u32; PLACES],
+    pub slots: [Slot; SLOTS],
+}
+
+impl Raw {
+    /// All zero: no good store, but a place to lay one down.
+    pub const ZERO: Raw = Raw {
+        plan: 0,
+        clock: 0,
+        counts: [0; 8],
+        keys: [0; PLACES],
+        kinds: [0; PLACES],
+        values: [0; PLACES],
+        stamps: [0; PLACES],
+        slots: [Slot { running: 0, key: 0, node: 0, visits: 0 }; SLOTS],
+    };
+}
