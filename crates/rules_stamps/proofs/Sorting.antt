@@ -1,7 +1,7 @@
 -- Numbers put one by one into a sorted column, each at its place: the column stays sorted, and a number that is there already shows.
 -- Assumes nothing.
 use mathlib.Core.Path.{_≡_, refl, sym, ap, subst, _∙_}
-use mathlib.Core.Bool.{Bool, true, false, not, and-true, _||_}
+use mathlib.Core.Bool.{Bool, true, false, not, and-true, _&&_, _||_}
 use mathlib.Core.Logic.{_⊎_, ⊎-elim, inl, inr}
 use mathlib.Core.List.{List, [], _∷_, _++_, append-assoc}
 use Prim.Native.Nat.{ℕ, zero, suc, _+_, _-_, _*_, _<_, _≤_}
@@ -20,7 +20,7 @@ use Rattle.store.specs.Copies.{member, different}
 use Rattle.store.specs.Layout.{width, places}
 use Rattle.store.specs.StoreRules.{stampsFrom}
 use Rattle.store.specs.Workers.{numberIn, placeIn, RisesIn, opened}
-use Rattle.store.proofs.RulingLists.{member-run, run-member, run-different, different-both, both-different}
+use Rattle.store.proofs.RulingLists.{member-run, run-member, member-left, member-right, member-sides, run-different, different-both, both-different}
 use Rattle.store.proofs.Halving.{half-up, half-down}
 use Rattle.store.proofs.Opening.{length-opened, opened-before, opened-here, opened-after}
 use Rattle.rules_stamps.specs.Workers.{firsts, Sorted}
@@ -156,20 +156,33 @@ module _ (column : List ℕ) (held v at : ℕ) (long : length column ≡ places)
     pub put-sorted : Sorted (v ∷ firsts held column) (suc held) (opened column at held v)
     put-sorted = record { long = length-opened column held 0 (omega arith) at v within ∙ long; rises = put-rises; same = put-same }
 
--- A further number, before those that are there.
-module _ (v : ℕ) (numbers : List ℕ) (held : ℕ) (column : List ℕ) (s : Sorted numbers held column) where
-  pub sorted-next : (after : List ℕ) → Sorted (v ∷ firsts held column) (suc held) after → Sorted (v ∷ numbers) (held + 1) after
-  unfolding member
-  sorted-next after n =
-      record {
-        long = n .long;
-        rises = rw add-one (n .rises);
-        same = λ u. rw add-one (n .same u ∙ ap (λ (b : Bool). eqb u v || b) (s .same u));
-      }
+-- A number between two lists: what stands there, and whether all are different.
+equal-both-ways : (x y : ℕ) → eqb x y ≡ eqb y x
+equal-both-ways x y = same-test (λ t. eq-eqb y x (sym (eqb-true x y t))) (λ t. eq-eqb x y (sym (eqb-true y x t)))
 
-  pub different-next : different numbers ≡ true → (r : Bool) → r ≡ not (member v (firsts held column)) → different (v ∷ numbers) ≡ r
-  unfolding different
-  different-next d r e = rw d (and-true (not (member v numbers)) ∙ ap not (sym (s .same v)) ∙ sym e)
+member-between : (u x : ℕ) (xs ys : List ℕ) → member u (xs ++ x ∷ ys) ≡ (eqb u x || member u (xs ++ ys))
+unfolding member
+member-between u x [] ys = refl
+member-between u x (y ∷ xs) ys = ap (λ (b : Bool). eqb u y || b) (member-between u x xs ys) ∙ go (eqb u y) (eqb u x) (member u (xs ++ ys))
+  where
+    go : (a b c : Bool) → (a || (b || c)) ≡ (b || (a || c))
+    go true true c = refl
+    go true false c = refl
+    go false b c = refl
+
+different-between : (x : ℕ) (xs ys : List ℕ) → different (xs ++ x ∷ ys) ≡ (not (member x (xs ++ ys)) && different (xs ++ ys))
+unfolding member different
+different-between x [] ys = refl
+different-between x (y ∷ xs) ys =
+    rw (member-between y x xs ys, different-between x xs ys, equal-both-ways y x)
+    (go (eqb x y) (member y (xs ++ ys)) (member x (xs ++ ys)) (different (xs ++ ys)))
+  where
+    go : (e m n d : Bool) → (not (e || m) && (not n && d)) ≡ (not (e || n) && (not m && d))
+    go true m n d = refl
+    go false true true d = refl
+    go false true false d = refl
+    go false false true d = refl
+    go false false false d = refl
 
 -- Of two lists, one after the other, the second can be changed for one with the same numbers.
 module _ (xs ys zs : List ℕ) (same : (v : ℕ) → member v ys ≡ member v zs) where
@@ -195,47 +208,72 @@ module _ (xs ys zs : List ℕ) (same : (v : ℕ) → member v ys ≡ member v zs
 pub fails-later : (xs ys : List ℕ) → different ys ≡ false → different (xs ++ ys) ≡ false
 fails-later xs ys f = refuted (different (xs ++ ys)) (λ t. not-both (different-both xs ys t .second) f)
 
--- The numbers that f gives from i up to end, put before the first so many of a column, from the last to the first.
-module _ (f : ℕ → ℕ) (before : List ℕ) (held end : ℕ) where
+-- The numbers that f gives from a first one up to i, put before the first so many of a column, one after another.
+module _ (f : ℕ → ℕ) (before : List ℕ) (held from : ℕ) where
   abbrev pub taken : ℕ → List ℕ
-  taken i = run i (end - i) f ++ firsts held before
+  taken i = run from (i - from) f ++ firsts held before
 
   -- They are different so far, and sorted.
   pub record Took (i many : ℕ) (column : List ℕ) : Type 0 where
     pub sorted : Sorted (taken i) many column
     pub differ : different (taken i) ≡ true
 
-  pub took-none : length before ≡ places → RisesIn before 0 held → Took end held before
+  pub took-none : length before ≡ places → RisesIn before 0 held → Took from held before
   unfolding run
   took-none l r =
-      let s : end - end ≡ 0 = omega arith in
+      let s : from - from ≡ 0 = omega arith in
       record { sorted = record { long = l; rises = r; same = λ v. rw s }; differ = rw s (firsts-different before held r) }
 
-  pub took-all : (i many from : ℕ) (column : List ℕ) → Took i many column → i ≡ from → many ≡ held + (end - i) → Took from (held + (end - from)) column
-  took-all i many from column k e m = subst (λ (j : ℕ). Took j (held + (end - j)) column) e (subst (λ (n : ℕ). Took i n column) m k)
+  pub took-all : (i many end : ℕ) (column : List ℕ) → Took i many column → i ≡ end → many ≡ held + (i - from) → Took end (held + (end - from)) column
+  took-all i many end column k e m = subst (λ (j : ℕ). Took j (held + (j - from)) column) e (subst (λ (n : ℕ). Took i n column) m k)
 
-  taken-next : (i : ℕ) → 0 < i → i ≤ end → taken (i - 1) ≡ f (i - 1) ∷ taken i
+  -- Those up to a later end: the ones so far, this one, and the rest.
+  taken-later : (i end : ℕ) → from ≤ i → i < end
+      → taken end ≡ run from (i - from) f ++ f i ∷ (run (i + 1) (end - (i + 1)) f ++ firsts held before)
   unfolding run
-  taken-next i h g =
-      let s : end - (i - 1) ≡ suc (end - i) = omega arith in
-      let u : suc (i - 1) ≡ i = omega arith in
-      rw (s, u)
+  taken-later i end h g =
+      let s : end - from ≡ (i - from) + suc (end - (i + 1)) = omega arith in
+      let u : from + (i - from) ≡ i = omega arith in
+      rw (s, run-split f from (i - from) (suc (end - (i + 1))), u, append-assoc, add-one)
 
-  -- A turn: the number before them is put, or it is there.
-  module _ (i many : ℕ) (column : List ℕ) (k : Took i many column) (h : 0 < i) (g : i ≤ end) (r : Bool)
-      (put : r ≡ not (member (f (i - 1)) (firsts many column))) where
-    next-differs : different (taken (i - 1)) ≡ r
-    next-differs = ap different (taken-next i h g) ∙ different-next (f (i - 1)) (taken i) many column (k .sorted) (k .differ) r put
+  -- A turn: the next number is put, or it is there.
+  module _ (i many : ℕ) (column : List ℕ) (k : Took i many column) (h : from ≤ i) (r : Bool)
+      (put : r ≡ not (member (f i) (firsts many column))) where
+    taken-next : taken (i + 1) ≡ run from (i - from) f ++ f i ∷ firsts held before
+    unfolding run
+    taken-next = let s : i + 1 - (i + 1) ≡ 0 = omega arith in taken-later i (i + 1) h (omega arith) ∙ rw s
 
-    pub took-next : r ≡ true → (after : List ℕ) → Sorted (f (i - 1) ∷ firsts many column) (suc many) after → Took (i - 1) (many + 1) after
+    pub took-next : r ≡ true → (after : List ℕ) → Sorted (f i ∷ firsts many column) (suc many) after → Took (i + 1) (many + 1) after
+    unfolding member
     took-next t after n =
-        record { sorted = rw (taken-next i h g) (sorted-next (f (i - 1)) (taken i) many column (k .sorted) after n); differ = next-differs ∙ t }
+        record {
+          sorted =
+              record {
+                long = n .long;
+                rises = rw add-one (n .rises);
+                same = λ u.
+                    rw (add-one, taken-next, member-between u (f i) (run from (i - from) f) (firsts held before))
+                    (n .same u ∙ ap (λ (b : Bool). eqb u (f i) || b) (k .sorted .same u));
+              };
+          differ =
+              rw (taken-next, different-between (f i) (run from (i - from) f) (firsts held before), k .differ)
+              (and-true (not (member (f i) (taken i))) ∙ ap not (sym (k .sorted .same (f i))) ∙ sym put ∙ t);
+        }
 
-    pub took-twice : r ≡ false → (from : ℕ) → from < i → different (taken from) ≡ false
-    took-twice t from l =
-        let s : end - from ≡ (i - 1 - from) + (end - (i - 1)) = omega arith in
-        let u : from + (i - 1 - from) ≡ i - 1 = omega arith in
-        rw (s, run-split f from (i - 1 - from) (end - (i - 1)), u, append-assoc) (fails-later (run from (i - 1 - from) f) (taken (i - 1)) (next-differs ∙ t))
+    pub took-twice : r ≡ false → (end : ℕ) → i < end → different (taken end) ≡ false
+    took-twice t end l =
+        let xs = run from (i - from) f in
+        let rest = run (i + 1) (end - (i + 1)) f in
+        let there : member (f i) (firsts many column) ≡ true = held-true (member (f i) (firsts many column)) (sym put ∙ t) in
+        let again : member (f i) (xs ++ (rest ++ firsts held before)) ≡ true =
+        ⊎-elim (λ (a : member (f i) xs ≡ true). member-left (f i) xs (rest ++ firsts held before) a)
+        (λ (b : member (f i) (firsts held before) ≡ true). member-right (f i) xs (rest ++ firsts held before) (member-right (f i) rest (firsts held before) b))
+        (member-sides (f i) xs (firsts held before) (sym (k .sorted .same (f i)) ∙ there)) in
+        rw (taken-later i end h l, different-between (f i) xs (rest ++ firsts held before), again)
+      where
+        held-true : (b : Bool) → not b ≡ false → b ≡ true
+        held-true true e = refl
+        held-true false e = absurd (not-both refl e)
 
 -- The stamps of the nodes, put from the last node to the root.
 module _ (counts stamps : List ℕ) where

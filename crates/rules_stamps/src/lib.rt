@@ -1,5 +1,5 @@
 // "stamps .. all different": the stamps of all copies go into a scratch column, each to its place by rising order and only if it is not
-// there. They are taken from the last node to the root, and in a node from the last copy to the first.
+// there. They are taken from the last node to the root, and in a node by rising key.
 ghost use mathlib.Core.Path.{_≡_};
 ghost use mathlib.Core.Bool.{true, not};
 ghost use mathlib.Core.List.{_∷_, _++_};
@@ -44,7 +44,7 @@ fn put_stamp(sorted: &mut [u32; Store::PLACES], held: usize, stamp: u32) -> bool
     true
 }
 
-// The stamps at the places from..end do, from the last to the first.
+// The stamps at the places from..end do, one after another.
 fn put_stamps<'a, 'b>(
     sorted: &'a mut [u32; Store::PLACES],
     stamps: &'b [u32; Store::PLACES],
@@ -55,14 +55,14 @@ fn put_stamps<'a, 'b>(
     requires { ⌜ (from ≤ end) × (end ≤ places) × (held + (end - from) ≤ places) × (length (now sorted) ≡ places) × RisesIn (now sorted) 0 held ⌝ }
     ensures { λ r. ⌜ (r ≡ different (run from (end - from) (numberIn (now (stamps .entry))) ++ firsts held (now (sorted .entry)))) × (r ≡ true → Sorted (run from (end - from) (numberIn (now (stamps .entry))) ++ firsts held (now (sorted .entry))) (held + (end - from)) (now (sorted .exit))) ⌝ }
 {
-    let mut i = end;
+    let mut i = from;
     let mut many = held;
-    while from < i {
-        i -= 1;
+    while i < end {
         if !put_stamp(sorted, many, stamps[i]) {
             return false;
         }
         many += 1;
+        i += 1;
     }
     true
 }

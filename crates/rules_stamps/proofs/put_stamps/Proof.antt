@@ -1,4 +1,5 @@
--- `rules_stamps::put_stamps` meets its contract. The loop's invariant: the numbers from i on are different, and are put. The measure is i.
+-- `rules_stamps::put_stamps` meets its contract. The loop's invariant: the numbers up to i are different, and are put. The measure is how
+-- many are left.
 -- Assumes nothing.
 use mathlib.Core.Path.{_≡_, refl, sym}
 use Prim.Native.Nat.{_+_, _-_, _≤_}
@@ -13,16 +14,13 @@ use Rattle.rules_stamps.proofs.put_stamps.Tie as tie
 
 abbrev Inv-loop : tie.InvT-loop
 Inv-loop sorted₀ stamps from end held i₀ many₀ sorted i many =
-    (from ≤ i) × (i ≤ end) × (many ≡ held + (end - i)) × Took (numberIn stamps) sorted₀ held end i many sorted
+    (from ≤ i) × (i ≤ end) × (many ≡ held + (i - from)) × Took (numberIn stamps) sorted₀ held from i many sorted
 
 abbrev μ-loop : tie.MeasureT-loop
-μ-loop sorted₀ stamps from end held i₀ many₀ sorted i many = i
+μ-loop sorted₀ stamps from end held i₀ many₀ sorted i many = end - i
 
 loop-holds : tie.Need-loop-holds Inv-loop μ-loop
-loop-holds c = (search needs, search needs, omega arith, took-none (numberIn (c .args .stamps .now)) (c .args .sorted .now) (c .args .held) (c .args .end) (c .pre .3) (c .pre .4))
-
-sub-i : tie.Need-sub-i Inv-loop μ-loop
-sub-i c = search needs
+loop-holds c = (search needs, search needs, omega arith, took-none (numberIn (c .args .stamps .now)) (c .args .sorted .now) (c .args .held) (c .args .from) (c .pre .3) (c .pre .4))
 
 mul-put-stamp : tie.Need-mul-put-stamp Inv-loop μ-loop
 mul-put-stamp c = search needs
@@ -41,12 +39,15 @@ returns c =
     let l = c .before .before .before .before .before in
     let a = l .before .args in
     let put = c .before .put-stamp in (
-      sym (took-twice (numberIn (a .stamps .now)) (a .sorted .now) (a .held) (a .end) (l .loop .i) (l .loop .many) (l .loop .sorted) (l .loop .inv .3) (omega arith) (omega arith) (put .result) (put .ensures .0) (not-true (put .result) (c .if1 .taken)) (a .from) (omega arith)),
+      sym (took-twice (numberIn (a .stamps .now)) (a .sorted .now) (a .held) (a .from) (l .loop .i) (l .loop .many) (l .loop .sorted) (l .loop .inv .3) (omega arith) (put .result) (put .ensures .0) (not-true (put .result) (c .if1 .taken)) (a .end) (omega arith)),
       λ q. absurd (not-both q refl),
     )
 
 add-many : tie.Need-add-many Inv-loop μ-loop
 add-many c = search needs
+
+add-i : tie.Need-add-i Inv-loop μ-loop
+add-i c = search needs
 
 loop-less : tie.Need-loop-less Inv-loop μ-loop
 loop-less c = search needs
@@ -57,13 +58,13 @@ loop-again c =
     let a = l .before .args in
     let put = c .before .put-stamp in
     let t = not-false (put .result) (c .if1 .left) in
-    (omega arith, omega arith, omega arith, took-next (numberIn (a .stamps .now)) (a .sorted .now) (a .held) (a .end) (l .loop .i) (l .loop .many) (l .loop .sorted) (l .loop .inv .3) (omega arith) (omega arith) (put .result) (put .ensures .0) t _ (put .ensures .1 t))
+    (omega arith, omega arith, omega arith, took-next (numberIn (a .stamps .now)) (a .sorted .now) (a .held) (a .from) (l .loop .i) (l .loop .many) (l .loop .sorted) (l .loop .inv .3) (omega arith) (put .result) (put .ensures .0) t _ (put .ensures .1 t))
 
 returns-2 : tie.Need-returns-2 Inv-loop μ-loop
 returns-2 c =
     let l = c .before in
     let a = l .before .args in
-    let k = took-all (numberIn (a .stamps .now)) (a .sorted .now) (a .held) (a .end) (l .loop .i) (l .loop .many) (a .from) (l .loop .sorted) (l .loop .inv .3) (omega arith) (l .loop .inv .2) in
+    let k = took-all (numberIn (a .stamps .now)) (a .sorted .now) (a .held) (a .from) (l .loop .i) (l .loop .many) (a .end) (l .loop .sorted) (l .loop .inv .3) (omega arith) (l .loop .inv .2) in
     (sym (k .differ), λ q. k .sorted)
 
 pub put-stamps-spec : {M : Type 1} → statement M
@@ -73,12 +74,12 @@ put-stamps-spec =
     Inv-loop
     μ-loop
     loop-holds
-    sub-i
     mul-put-stamp
     element-copy-out-put-stamp
     put-stamp-requires
     returns
     add-many
+    add-i
     loop-less
     loop-again
     returns-2)
