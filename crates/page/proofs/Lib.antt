@@ -3,6 +3,8 @@ pub mod PageLines
 pub mod Stale
 pub mod PageLength
 pub mod LongestPage
+pub mod Lowest
+pub mod NodeByNode
 pub mod Gathering
 pub mod PageWriting
 pub mod PageWays
