@@ -58,17 +58,25 @@ module _ (r : Lines) (analyte value stamp : ℕ) (room : Roomy r) where
   unfolding linesIn run
   line-added free =
       let n = r .count in
-      let ks = set (r .analytes) n analyte in
-      let vs = set (r .values) n value in
-      let ts = set (r .stamps) n stamp in
-      let here : lineIn ks vs ts n ≡ line analyte value stamp =
-      rw (getD-set-same (r .analytes) n analyte 0 (omega (arith, room .analytes-32)), getD-set-same (r .values) n value 0 (omega (arith, room .values-32)), getD-set-same (r .stamps) n stamp 0 (omega (arith, room .stamps-32)))
+      let new = lineIn (set (r .analytes) n analyte) (set (r .values) n value) (set (r .stamps) n stamp) in
+      let old = lineIn (r .analytes) (r .values) (r .stamps) in
+      let here : new n ≡ line analyte value stamp =
+      rw (
+        getD-set-same (r .analytes) n analyte 0 (omega (arith, room .analytes-32)),
+        getD-set-same (r .values) n value 0 (omega (arith, room .values-32)),
+        getD-set-same (r .stamps) n stamp 0 (omega (arith, room .stamps-32)),
+      )
       in
-      let before : run 0 n (lineIn ks vs ts) ≡ run 0 n (lineIn (r .analytes) (r .values) (r .stamps)) =
-      same-run (lineIn ks vs ts) (lineIn (r .analytes) (r .values) (r .stamps)) 0 n
-      (λ j g h. rw (getD-set-other (r .analytes) n j analyte 0 (λ e. omega arith), getD-set-other (r .values) n j value 0 (λ e. omega arith), getD-set-other (r .stamps) n j stamp 0 (λ e. omega arith)))
+      let before : run 0 n new ≡ run 0 n old =
+      same-run new old 0 n
+      (λ j g h.
+      rw (
+        getD-set-other (r .analytes) n j analyte 0 (λ e. omega arith),
+        getD-set-other (r .values) n j value 0 (λ e. omega arith),
+        getD-set-other (r .stamps) n j stamp 0 (λ e. omega arith),
+      ))
       in
-      rw (run-split (lineIn ks vs ts) 0 n 1, zero-add, here, before)
+      rw (run-split new 0 n 1, zero-add, here, before)
 
 -- What is shown of a line stands in front of the lines after it,
 shown-front : (analyte : ℕ) (o : Option Copy) (ls : List Line) → shown analyte o ls ≡ shown analyte o [] ++ ls

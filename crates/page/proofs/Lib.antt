@@ -4,6 +4,7 @@ pub mod Stale
 pub mod PageLength
 pub mod LongestPage
 pub mod Lowest
+pub mod NodePlaces
 pub mod NodeByNode
 pub mod Gathering
 pub mod PageWriting

@@ -1,7 +1,6 @@
 -- Node numbers rise down a path, so where copies stand on their keys' paths a line's current copy is its copy in the lowest node that
 -- has one. Assumes nothing.
-use mathlib.Core.Path.{_≡_, refl, ap, _∙_}
-use mathlib.Core.Logic.{_⊎_, inl, inr, ⊎-elim}
+use mathlib.Core.Path.{_≡_, refl}
 use mathlib.Core.List.{List, [], _∷_}
 use mathlib.Core.Option.{Option, none, some}
 use Prim.Native.Nat.{ℕ, zero, suc, _+_, _<_, _≤_, suc-le-suc}
@@ -10,7 +9,6 @@ use native.Mathlib.Nat.{le-of-suc-le-suc, not-suc-le-zero}
 use native.Mathlib.Decide.{decLt}
 use lib.ListN.{length, getD}
 use Rattle.lists.specs.Runs.{run}
-use Rattle.lists.proofs.Options.{option?, not-none-and-some}
 use Rattle.lists.proofs.RisingKeys.{Rising, rising-from, rising-least, neighbours-rising}
 use Rattle.lists.proofs.RisingKeys.Rising.{end, above}
 use Rattle.plan.specs.Plan.{Plan, size, pathFrom, path}
@@ -49,10 +47,13 @@ first-rising l (suc n) from (x ∷ xs) (above g r) h among = go (decLt from x) (
     later m zero p a b = absurd (omega arith)
     later m (suc i) p a b = (i, le-of-suc-le-suc a, b)
 
-    go : Dec (from < x) → ((ms : List ℕ) → FirstRising l n (suc from) ms) → orElse (l from) (firstOn l (run (suc from) n itself)) ≡ orElse (l x) (firstOn l xs)
+    go : Dec (from < x) → ((ms : List ℕ) → FirstRising l n (suc from) ms)
+        → orElse (l from) (firstOn l (run (suc from) n itself)) ≡ orElse (l x) (firstOn l xs)
     go (yes q) again =
         let s : Rising itself (suc from) (x ∷ xs) = above q r in
-        let e : l from ≡ none = absent (λ y f. let w = among from y (omega arith) f in absurd (omega (arith, w .2, rising-least itself s 0 (w .0) (w .1)))) in
+        let e : l from ≡ none =
+        absent (λ y f. let w = among from y (omega arith) f in absurd (omega (arith, w .2, rising-least itself s 0 (w .0) (w .1))))
+        in
         rw e (again (x ∷ xs) s (λ i p. omega (arith, h i p)) (λ m y p. among m y (omega arith)))
     go (no q) again =
         let e : x ≡ from = omega arith in

@@ -3,7 +3,7 @@ use mathlib.Core.Path.{_≡_}
 use mathlib.Core.Bool.{cond}
 use mathlib.Core.List.{List}
 use mathlib.Core.Option.{Option, none, some}
-use Prim.Native.Nat.{ℕ, _+_, _-_, _*_, _<_, _≤_}
+use Prim.Native.Nat.{ℕ, _+_, _*_, _<_}
 use lib.Dec.{ltb}
 use lib.ListN.{getD}
 use Rattle.lists.specs.Runs.{run}
@@ -11,7 +11,7 @@ use Rattle.plan.specs.Plan.{size}
 use Rattle.plan.specs.PlanTable.{planOf}
 use Rattle.store.specs.declared.Copy.{Copy}
 use Rattle.store.specs.Copies.{find}
-use Rattle.store.specs.State.{current}
+use Rattle.store.specs.State.{State, current}
 use Rattle.store.specs.StateRules.{OnPath}
 use Rattle.store.specs.Layout.{width, places, copyIn, stateOf}
 use Rattle.store.specs.Workers.{numberIn, itself, holding}
@@ -31,21 +31,25 @@ abbrev pub placeOver : ℕ → Option ℕ → ℕ
 placeOver i none = i
 placeOver i (some j) = j
 
--- By analyte, the place of its copy among the places from..end over the place that stood there before.
-unfoldable pub laidOver : List ℕ → ℕ → ℕ → ℕ → List ℕ → List ℕ
-laidOver keys from end sample before =
-    run 0 analytes (λ a. placeOver (getD before a 0) (find (numberIn keys) (run from (end - from) itself) (keyFor sample a)))
+-- By analyte, the place of its copy in a node, over the place that stood there before.
+unfoldable pub laidOver : List ℕ → List ℕ → ℕ → ℕ → List ℕ → List ℕ
+laidOver counts keys node sample before =
+    run 0 analytes (λ a. placeOver (getD before a 0) (find (numberIn keys) (run (width * node) (getD counts node 0) itself) (keyFor sample a)))
 
 -- The copy at a place; none past the last.
 abbrev pub copyThere : List ℕ → List ℕ → List ℕ → List ℕ → ℕ → Option Copy
 copyThere keys kinds values stamps i = cond (ltb i places) (some (copyIn keys kinds values stamps i)) none
+
+-- The state of the columns that a worker is lent.
+abbrev pub stateIn : ℕ → List ℕ → List ℕ → List ℕ → List ℕ → List ℕ → State
+stateIn plan counts keys kinds values stamps = stateOf (holding plan 0 counts keys kinds values stamps)
 
 -- By analyte, the place of the line's current copy, whatever the other columns hold.
 abbrev pub CurrentAt : ℕ → List ℕ → List ℕ → ℕ → List ℕ → Type 0
 CurrentAt plan counts keys sample at =
     (kinds values stamps : List ℕ) (a : ℕ) → a < analytes
     → copyThere keys kinds values stamps (getD at a 0)
-    ≡ current (planOf plan) (stateOf (holding plan 0 counts keys kinds values stamps)) (keyFor sample a)
+    ≡ current (planOf plan) (stateIn plan counts keys kinds values stamps) (keyFor sample a)
 
 abbrev pub line : ℕ → ℕ → ℕ → Line
 line analyte value stamp = record { analyte = analyte; value = value; stamp = stamp }

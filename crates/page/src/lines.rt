@@ -1,11 +1,12 @@
 // The lines of a sample's page, node by node: in a node the copies of a sample's lines stand side by side.
 ghost use mathlib.Core.Path.{_≡_};
 ghost use mathlib.Core.List.{[]};
-ghost use Prim.Native.Nat.{_≤_};
+ghost use Prim.Native.Nat.{_<_, _≤_};
 ghost use lib.ListN.{length};
+ghost use Rattle.plan.specs.Sizes.{mostNodes};
 ghost use Rattle.plan.specs.PlanTable.{planOf};
-ghost use Rattle.store.specs.Layout.{places, stateOf};
-ghost use Rattle.store.specs.Workers.{RisesIn, holding};
+ghost use Rattle.store.specs.Layout.{stateOf};
+ghost use Rattle.store.specs.Workers.{Ordered, holding};
 ghost use Rattle.page.specs.Page.{analytes, lastSample, linesOf};
 ghost use Rattle.page.specs.Workers.{linesIn, Pageable, laidOver, CurrentAt};
 use store::Copy;
@@ -39,17 +40,19 @@ fn no_lines() -> Lines
     }
 }
 
-// A node's copies of the sample's lines, by their places from..end: each place is written over what stood for its analyte.
+// A node's copies of the sample's lines: each copy's place is written over what stood for its analyte.
 fn lay_node(
     current: &mut [usize; MOST_LINES],
+    counts: &[u32; Store::NODES],
     keys: &[u32; Store::PLACES],
-    from: usize,
-    end: usize,
+    node: usize,
     sample: u32,
 )
-    requires { ⌜ (from ≤ end) × (end ≤ places) × RisesIn (now keys) from end × (sample ≤ lastSample) × (length (now current) ≡ analytes) ⌝ }
-    ensures { λ _. ⌜ now (current .exit) ≡ laidOver (now (keys .entry)) from end sample (now (current .entry)) ⌝ }
+    requires { ⌜ (node < mostNodes) × Ordered (now counts) (now keys) node × (sample ≤ lastSample) × (length (now current) ≡ analytes) ⌝ }
+    ensures { λ _. ⌜ now (current .exit) ≡ laidOver (now (counts .entry)) (now (keys .entry)) node sample (now (current .entry)) ⌝ }
 {
+    let from = Store::WIDTH * node;
+    let end = from + counts[node] as usize;
     let first = sample * ANALYTES;
     let last = first + (ANALYTES - 1);
     let mut at = columns::seek(keys, from, end, first);
@@ -64,23 +67,22 @@ fn lay_node(
 }
 
 // The place of each line's current copy; past the last place for a line that was never entered. Node numbers rise down a path, so a
-// line's current copy is the one in the lowest node: nodes are taken from the last to the root, and the root's copies stand at the end.
-fn current_places<'a>(
+// line's current copy is the one in the lowest node: nodes are laid over one another from the last to the root.
+fn current_places(
     plan: u32,
-    counts: &'a [u32; Store::NODES],
-    keys: &'a [u32; Store::PLACES],
+    counts: &[u32; Store::NODES],
+    keys: &[u32; Store::PLACES],
     sample: u32,
 ) -> [usize; MOST_LINES]
     requires { ⌜ Pageable plan (now counts) (now keys) × (sample ≤ lastSample) ⌝ }
     ensures { λ r. ⌜ CurrentAt plan (now (counts .entry)) (now (keys .entry)) sample r ⌝ }
 {
+    let nodes = plan::nodes(plan) as usize;
     let mut current = [Store::PLACES; MOST_LINES];
-    let mut node = plan::nodes(plan) as usize;
-    while 0 < node {
-        node -= 1;
-        let from = Store::WIDTH * node;
-        let end = from + counts[node] as usize;
-        lay_node(&mut current, keys, from, end, sample);
+    let mut laid = 0;
+    while laid < nodes {
+        laid += 1;
+        lay_node(&mut current, counts, keys, nodes - laid, sample);
     }
     current
 }

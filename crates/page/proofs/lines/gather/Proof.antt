@@ -103,8 +103,8 @@ loop-again c =
       search needs,
       gather-turns (planOf (a .plan)) (lent s) (a .sample) (a .keys .now) (a .kinds .now) (a .values .now) (a .stamps .now) (l .loop .analyte)
           place (l .loop .lines) (c .if1 .lines) h e (l .loop .inv .1)
-          (⊎-elim (λ w. result (w .0 .taken) (eqb-true _ _ (w .2 .taken)) (w .5))
-          (λ w. ⊎-elim (λ v. other (v .0 .taken) (eqb-false _ _ (v .2 .left)) (w .1)) (λ v. never (v .left) (w .1)) (w .0 .came))
+          (⊎-elim (λ w. result (w .0 .taken) (search (eqb-true, w .2 .taken)) (w .5))
+          (λ w. ⊎-elim (λ v. other (v .0 .taken) (search (eqb-false, v .2 .left)) (w .1)) (λ v. never (v .left) (w .1)) (w .0 .came))
           (c .if1 .came)),
     )
 
