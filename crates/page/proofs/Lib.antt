@@ -3,6 +3,9 @@ pub mod PageLines
 pub mod Stale
 pub mod PageLength
 pub mod LongestPage
+pub mod Lowest
+pub mod NodePlaces
+pub mod NodeByNode
 pub mod Gathering
 pub mod PageWriting
 pub mod PageWays

@@ -5,9 +5,9 @@ ghost use Rattle.lists.specs.Stands.{Wrote};
 ghost use Rattle.plan.specs.PlanTable.{planOf};
 ghost use Rattle.store.specs.Layout.{stateOf};
 ghost use Rattle.store.specs.Workers.{holding};
-ghost use Rattle.searches.specs.Workers.{Lookable};
 ghost use Rattle.page.specs.Page.{lastSample, mostPageBytes, pageOf};
 ghost use Rattle.page.specs.Promises.{Pages, ServesLength, Serves};
+ghost use Rattle.page.specs.Workers.{Pageable};
 use store::Answer;
 use store::Store;
 
@@ -31,7 +31,7 @@ fn write_now<'a>(
     stamps: &'a [u32; Store::PLACES],
     sample: u32,
 ) -> usize
-    requires { ⌜ Lookable plan (now counts) (now keys) × (sample ≤ lastSample) × (mostPageBytes ≤ length (now scratch)) ⌝ }
+    requires { ⌜ Pageable plan (now counts) (now keys) × (sample ≤ lastSample) × (mostPageBytes ≤ length (now scratch)) ⌝ }
     ensures { λ r. ⌜ Wrote (now (scratch .entry)) 0 (pageOf (planOf plan) (stateOf (holding plan 0 (now (counts .entry)) (now (keys .entry)) (now (kinds .entry)) (now (values .entry)) (now (stamps .entry)))) sample) r (now (scratch .exit)) ⌝ }
 {
     let lines = lines::gather(plan, counts, keys, kinds, values, stamps, sample);

@@ -1,17 +1,17 @@
-// The lines of a sample's page, by a look down each line's path.
+// The lines of a sample's page, node by node: in a node the copies of a sample's lines stand side by side.
 ghost use mathlib.Core.Path.{_≡_};
-ghost use mathlib.Core.List.{[], _++_};
+ghost use mathlib.Core.List.{[]};
 ghost use Prim.Native.Nat.{_<_, _≤_};
+ghost use lib.ListN.{length};
+ghost use Rattle.plan.specs.Sizes.{mostNodes};
 ghost use Rattle.plan.specs.PlanTable.{planOf};
 ghost use Rattle.store.specs.Layout.{stateOf};
-ghost use Rattle.store.specs.Workers.{holding};
-ghost use Rattle.searches.specs.Workers.{Lookable};
+ghost use Rattle.store.specs.Workers.{Ordered, holding};
 ghost use Rattle.page.specs.Page.{analytes, lastSample, linesOf};
-ghost use Rattle.page.specs.Workers.{linesIn, lineFound};
-use searches::lines::look_down;
+ghost use Rattle.page.specs.Workers.{linesIn, Pageable, laidOver, CurrentAt};
 use store::Copy;
-use store::Found;
 use store::Store;
+use store::columns;
 
 // "analyte 0 to 31"
 const ANALYTES: u32 = 32;
@@ -40,26 +40,54 @@ fn no_lines() -> Lines
     }
 }
 
-// A line is shown if its look gives a result: "withdrawn and never-entered lines are left out".
-fn with_line(mut lines: Lines, analyte: u32, found: Found) -> Lines
-    requires { ⌜ lines .count < analytes ⌝ }
-    ensures { λ r. ⌜ linesIn r ≡ linesIn lines ++ lineFound analyte found ⌝ }
+// A node's copies of the sample's lines: each copy's place is written over what stood for its analyte.
+fn lay_node(
+    current: &mut [usize; MOST_LINES],
+    counts: &[u32; Store::NODES],
+    keys: &[u32; Store::PLACES],
+    node: usize,
+    sample: u32,
+)
+    requires { ⌜ (node < mostNodes) × Ordered (now counts) (now keys) node × (sample ≤ lastSample) × (length (now current) ≡ analytes) ⌝ }
+    ensures { λ _. ⌜ now (current .exit) ≡ laidOver (now (counts .entry)) (now (keys .entry)) node sample (now (current .entry)) ⌝ }
 {
-    let Found::Held(copy) = found else {
-        return lines;
-    };
-    if copy.kind != Copy::RESULT {
-        return lines;
+    let from = Store::WIDTH * node;
+    let end = from + counts[node] as usize;
+    let first = sample * ANALYTES;
+    let last = first + (ANALYTES - 1);
+    let mut at = columns::seek(keys, from, end, first);
+    while at < end {
+        let key = keys[at];
+        if last < key {
+            break;
+        }
+        current[(key - first) as usize] = at;
+        at += 1;
     }
-    let at = lines.count;
-    lines.analytes[at] = analyte;
-    lines.values[at] = copy.value;
-    lines.stamps[at] = copy.stamp;
-    lines.count = at + 1;
-    lines
 }
 
-// "for each analyte, rising, whose look gives a result". The plan's arrays are taken once for all looks.
+// The place of each line's current copy; past the last place for a line that was never entered. Node numbers rise down a path, so a
+// line's current copy is the one in the lowest node: nodes are laid over one another from the last to the root.
+fn current_places(
+    plan: u32,
+    counts: &[u32; Store::NODES],
+    keys: &[u32; Store::PLACES],
+    sample: u32,
+) -> [usize; MOST_LINES]
+    requires { ⌜ Pageable plan (now counts) (now keys) × (sample ≤ lastSample) ⌝ }
+    ensures { λ r. ⌜ CurrentAt plan (now (counts .entry)) (now (keys .entry)) sample r ⌝ }
+{
+    let nodes = plan::nodes(plan) as usize;
+    let mut current = [Store::PLACES; MOST_LINES];
+    let mut laid = 0;
+    while laid < nodes {
+        laid += 1;
+        lay_node(&mut current, counts, keys, nodes - laid, sample);
+    }
+    current
+}
+
+// "for each analyte, rising, whose look gives a result": "Withdrawn and never-entered lines are left out."
 pub fn gather<'a>(
     plan: u32,
     counts: &'a [u32; Store::NODES],
@@ -69,31 +97,21 @@ pub fn gather<'a>(
     stamps: &'a [u32; Store::PLACES],
     sample: u32,
 ) -> Lines
-    requires { ⌜ Lookable plan (now counts) (now keys) × (sample ≤ lastSample) ⌝ }
+    requires { ⌜ Pageable plan (now counts) (now keys) × (sample ≤ lastSample) ⌝ }
     ensures { λ r. ⌜ linesIn r ≡ linesOf (planOf plan) (stateOf (holding plan 0 (now (counts .entry)) (now (keys .entry)) (now (kinds .entry)) (now (values .entry)) (now (stamps .entry)))) sample ⌝ }
 {
-    let edges = plan::edge_counts_of(plan);
-    let lows = plan::lowest_of(plan);
-    let highs = plan::highest_of(plan);
-    let targets = plan::targets_of(plan);
+    let current = current_places(plan, counts, keys, sample);
     let mut lines = no_lines();
     let mut analyte = 0;
     while analyte < ANALYTES {
-        let seen = look_down(
-            plan,
-            &edges,
-            &lows,
-            &highs,
-            &targets,
-            counts,
-            keys,
-            kinds,
-            values,
-            stamps,
-            sample * ANALYTES + analyte,
-        );
-        let found = seen.found;
-        lines = with_line(lines, analyte, found);
+        let place = current[analyte as usize];
+        if place < Store::PLACES && kinds[place] == Copy::RESULT {
+            let at = lines.count;
+            lines.analytes[at] = analyte;
+            lines.values[at] = values[place];
+            lines.stamps[at] = stamps[place];
+            lines.count = at + 1;
+        }
         analyte += 1;
     }
     lines

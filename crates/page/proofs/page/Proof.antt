@@ -6,9 +6,9 @@ use borrow.Author.Needs.{needs}
 use borrow.Author.Tests.{not-true, not-false}
 use lib.Seq.{length-take-le}
 use Rattle.store.specs.StoreRules.{goodStore}
-use Rattle.searches.proofs.Ending.{good-lookable}
 use Rattle.page.specs.Page.{lastSample}
 use Rattle.page.specs.Promises.{pageNow}
+use Rattle.page.proofs.NodeByNode.{good-pageable}
 use Rattle.page.proofs.PageWays.{Holds, page-held, page-bad-store, page-bad-sample, page-too-small, page-done}
 use Rattle.page.proofs.page.Statement.{statement}
 use Rattle.page.proofs.page.Tie as tie
@@ -61,7 +61,7 @@ slice-aggregate-write-now c = search needs
 write-now-requires : tie.Need-write-now-requires
 write-now-requires c κs =
     let i = c .before .before .before .before .before .before .before .before in
-    (good-lookable (first (i .before) .args .t1) (good i), search needs, search needs)
+    (good-pageable (first (i .before) .args .t1) (good i), search needs, search needs)
 
 of-requires : tie.Need-of-requires
 of-requires c κs = search needs

@@ -6,9 +6,9 @@ use borrow.Author.Needs.{needs}
 use borrow.Author.Tests.{not-true, not-false}
 use lib.Seq.{length-take-le}
 use Rattle.store.specs.StoreRules.{goodStore}
-use Rattle.searches.proofs.Ending.{good-lookable}
 use Rattle.page.specs.Page.{lastSample}
 use Rattle.page.specs.Promises.{pageNow}
+use Rattle.page.proofs.NodeByNode.{good-pageable}
 use Rattle.page.proofs.PageWays.{Holds, page-held, length-bad-store, length-bad-sample, length-stale, length-fresh}
 use Rattle.page.proofs.served_length.Statement.{statement}
 use Rattle.page.proofs.served_length.Tie as tie
@@ -55,7 +55,7 @@ slice-aggregate-write-now c = search needs
 write-now-requires : tie.Need-write-now-requires
 write-now-requires c κs =
     let i = c .before .before .before .before .before .before .before .before in
-    (good-lookable (first (i .before) .args .t1) (good i), search needs, search needs)
+    (good-pageable (first (i .before) .args .t1) (good i), search needs, search needs)
 
 array-share-prefix-scratch : tie.Need-array-share-prefix-scratch
 array-share-prefix-scratch c = held (c .before) .room
