@@ -25,7 +25,7 @@ module _ (s : List ℕ) (at : ℕ) where
   pub first-ends : {b : ℕ} → b ≡ getD s at 0 → at < length s → b < 128 → Value b (at + 1) ≡ readAt s at
   unfolding readAt
   first-ends e h g =
-      rw e (sym (read-ends s lastByte true at 3 h (omega arith) ∙ last-value true (getD s at 0) (at + 1) (λ f. absurd (never f))))
+      rw e (sym (read-ends s lastByte true at (moreBytes - 1) h (omega arith) ∙ last-value true (getD s at 0) (at + 1) (λ f. absurd (never f))))
 
 -- ---- the bytes after it
 
@@ -59,11 +59,11 @@ pub record Going (s : List ℕ) (at value scale next more : ℕ) : Type 0 where
   pub fits : value + scale * largest lastByte more ≤ 4294967295
 
 -- A first byte with the top bit.
-pub go-starts : (s : List ℕ) (at : ℕ) {b : ℕ} → b ≡ getD s at 0 → at < length s → 128 ≤ b → b < 256 → Going s at (b - 128) 128 (at + 1) 3
+pub go-starts : (s : List ℕ) (at : ℕ) {b : ℕ} → b ≡ getD s at 0 → at < length s → 128 ≤ b → b < 256 → Going s at (b - 128) 128 (at + 1) (moreBytes - 1)
 unfolding readAt largest
 go-starts s at {b} e h g m =
     record {
-      whole = rw e (read-goes s lastByte true at 3 h (omega arith) ∙ below-above (getD s at 0 - 128) (readIn s lastByte 3 false (at + 1)));
+      whole = rw e (read-goes s lastByte true at (moreBytes - 1) h (omega arith) ∙ below-above (getD s at 0 - 128) (readIn s lastByte (moreBytes - 1) false (at + 1)));
       fits = omega arith;
     }
 

@@ -25,8 +25,8 @@ fn widen(byte: u8) -> u32
     byte as u32
 }
 
-// The number at an offset, which may lie past the end. Most numbers have one byte; of a longer one each further byte adds its group,
-// counted `scale`-fold, while at most `more` bytes with the top bit may still come.
+// The number at an offset, which may lie past the end. A number of one byte is given at once; of a longer one each further byte adds its
+// group, `scale` times, and at most `more` further bytes may have the top bit.
 pub fn read_at(bytes: &[u8], at: usize) -> Reading
     ensures { λ r. ⌜ r ≡ readAt (now (bytes .entry)) at ⌝ }
 {

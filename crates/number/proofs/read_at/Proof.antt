@@ -61,11 +61,11 @@ returns-4 : tie.Need-returns-4 Inv-loop μ-loop
 returns-4 c =
     let w = c .before .before .before in
     let l = w .before .before in
-    go-above (l .before .loop .inv) (w .widen2 .ensures) (l .loop-test .taken) (c .before .if4 .taken) (ltb-true _ _ (c .if5 .taken))
+    go-above (l .before .loop .inv) (w .widen2 .ensures) (l .loop-test .taken) (c .before .if4 .taken) (omega (arith, ltb-true))
 
 -- Past the two tests a byte that must be the last is at most 0F.
 allowed : (j : tie.Joined4 Inv-loop μ-loop) → let w = j .before .before in w .before .before .before .loop .more ≡ 0 → w .widen2 .result ≤ lastByte
-allowed j z = ⊎-elim (λ w. ltb-false _ _ (w .1 .left)) (λ w. absurd (w .left z)) (j .if4 .came)
+allowed j z = ⊎-elim (λ w. omega (arith, ltb-false)) (λ w. absurd (w .left z)) (j .if4 .came)
 
 -- A last byte is within what may come.
 within : (c : tie.Then6 Inv-loop μ-loop) → let w = c .before .before .before in w .widen2 .result ≤ largest lastByte (w .before .before .before .loop .more)
