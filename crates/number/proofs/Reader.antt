@@ -29,13 +29,13 @@ module _ (s : List ℕ) (at : ℕ) where
 
 -- ---- the bytes after it
 
--- What the bytes after those read give, with the number of those read: a further number counts `scale`-fold.
+-- What the bytes after those read give, put above the number read: their number counts `scale`-fold.
 unfoldable pub putAbove : ℕ → ℕ → Reading → Reading
 putAbove value scale (Value v next) = Value (value + scale * v) next
 putAbove value scale Cut = Cut
 putAbove value scale Malformed = Malformed
 
--- A group below a number goes to those read, and the number counts 128 times as much.
+-- Where a group stands below their number, it goes to the number read, and theirs counts 128 times as much.
 above-below : (value scale low : ℕ) (r : Reading) → putAbove value scale (putBelow low r) ≡ putAbove (value + scale * low) (scale * 128) r
 unfolding putAbove putBelow
 above-below value scale low (Value v next) =
@@ -46,24 +46,27 @@ above-below value scale low (Value v next) =
 above-below value scale low Cut = refl
 above-below value scale low Malformed = refl
 
--- A first group is the number read, and a further number counts 128-fold.
+-- After the first byte its group is the number read, and what follows counts 128-fold.
 below-above : (low : ℕ) (r : Reading) → putBelow low r ≡ putAbove low 128 r
 unfolding putAbove putBelow
 below-above low (Value v next) = refl
 below-above low Cut = refl
 below-above low Malformed = refl
 
--- What reading gives is what the bytes from `next` on give, above the number read, and the largest number they can give fits.
+-- What reading gives is what the bytes from `next` on give, put above the number read, and the largest number that can come of it fits 32 bits.
 pub record Going (s : List ℕ) (at value scale next more : ℕ) : Type 0 where
   pub whole : readAt s at ≡ putAbove value scale (readIn s lastByte more false next)
   pub fits : value + scale * largest lastByte more ≤ 4294967295
 
 -- A first byte with the top bit.
-pub go-starts : (s : List ℕ) (at : ℕ) {b : ℕ} → b ≡ getD s at 0 → at < length s → 128 ≤ b → b < 256 → Going s at (b - 128) 128 (at + 1) (moreBytes - 1)
+pub go-starts : (s : List ℕ) (at : ℕ) {b : ℕ} → b ≡ getD s at 0 → at < length s → 128 ≤ b → b < 256
+    → Going s at (b - 128) 128 (at + 1) (moreBytes - 1)
 unfolding readAt largest
 go-starts s at {b} e h g m =
     record {
-      whole = rw e (read-goes s lastByte true at (moreBytes - 1) h (omega arith) ∙ below-above (getD s at 0 - 128) (readIn s lastByte (moreBytes - 1) false (at + 1)));
+      whole =
+          rw e (read-goes s lastByte true at (moreBytes - 1) h (omega arith)
+          ∙ below-above (getD s at 0 - 128) (readIn s lastByte (moreBytes - 1) false (at + 1)));
       fits = omega arith;
     }
 
@@ -73,7 +76,7 @@ unfolding largest
 last-within zero b g a = a refl
 last-within (suc more) b g a = omega arith
 
--- Where a further byte may come, so is 128.
+-- Where a byte with the top bit may come, 128 is within the kind too.
 pub more-within : (more : ℕ) → (more ≡ 0 → ⊥) → 128 ≤ largest lastByte more
 unfolding largest
 more-within zero n = absurd (n refl)
@@ -91,9 +94,10 @@ module _ {s : List ℕ} {at value scale next more : ℕ} (k : Going s at value s
   go-cut h = sym (k .whole ∙ ap (putAbove value scale) (read-cut s lastByte false next more h))
 
   module _ {b : ℕ} (e : b ≡ getD s next 0) (h : next < length s) where
-    -- A last byte gives what it gives above the number read.
+    -- What a last byte gives, put above the number read.
     go-last : b < 128 → (more ≡ 0 → b ≤ lastByte) → readAt s at ≡ putAbove value scale (readLast false b (next + 1))
-    go-last g a = k .whole ∙ rw e (ap (putAbove value scale) (ends-in s lastByte more false next h (omega arith) (omega (arith, last-within more b g a))))
+    go-last g a =
+        k .whole ∙ rw e (ap (putAbove value scale) (ends-in s lastByte more false next h (omega arith) (omega (arith, last-within more b g a))))
 
     -- A last byte 00.
     pub go-zero : b ≡ 0 → Malformed ≡ readAt s at

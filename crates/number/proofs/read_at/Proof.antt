@@ -7,7 +7,8 @@ use native.Mathlib.Omega.{arith}
 use borrow.Author.Needs.{needs}
 use borrow.Author.Tests.{ltb-true, ltb-false}
 use Rattle.number.specs.Number.{lastByte, largest}
-use Rattle.number.proofs.Reader.{first-cut, first-ends, Going, go-starts, last-within, more-within, go-fits, go-cut, go-zero, go-above, go-ends, go-turns}
+use Rattle.number.proofs.Reader.{first-cut, first-ends, Going, go-starts, go-fits, go-cut, go-zero, go-above, go-ends, go-turns}
+use Rattle.number.proofs.Reader.{last-within, more-within}
 use Rattle.number.proofs.read_at.Statement.{statement}
 use Rattle.number.proofs.read_at.Tie as tie
 
@@ -68,7 +69,8 @@ allowed : (j : tie.Joined4 Inv-loop μ-loop) → let w = j .before .before in w 
 allowed j z = ⊎-elim (λ w. omega (arith, ltb-false)) (λ w. absurd (w .left z)) (j .if4 .came)
 
 -- A last byte is within what may come.
-within : (c : tie.Then6 Inv-loop μ-loop) → let w = c .before .before .before in w .widen2 .result ≤ largest lastByte (w .before .before .before .loop .more)
+within : (c : tie.Then6 Inv-loop μ-loop) → let w = c .before .before .before in
+    w .widen2 .result ≤ largest lastByte (w .before .before .before .loop .more)
 within c = last-within _ _ (c .if6 .taken) (allowed (c .before))
 
 mul-t20 : tie.Need-mul-t20 Inv-loop μ-loop
