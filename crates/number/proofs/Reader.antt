@@ -1,72 +1,136 @@
--- Why the reading functions give what they promise: one law for each way out.
+-- Why the reading function gives what it promises: what its loop keeps true, at its start, at each turn and at each way out.
 -- Assumes nothing.
-use mathlib.Core.Path.{_≡_, sym, ap, _∙_}
-use mathlib.Core.Bool.{Bool, true, false}
+use mathlib.Core.Path.{_≡_, refl, sym, ap, _∙_}
+use mathlib.Core.Bool.{true, false}
 use mathlib.Core.List.{List}
-use Prim.Native.Nat.{ℕ, suc, _+_, _-_, _*_, _<_, _≤_}
+use Prim.Native.Nat.{ℕ, zero, suc, _+_, _-_, _*_, _<_, _≤_}
 use native.Mathlib.Omega.{arith}
+use native.Mathlib.Nat.{mul-add, mul-assoc, mul-le-mul-left}
 use lib.ListN.{length, getD}
 use Rattle.number.specs.declared.Reading.{Reading}
 use Rattle.number.specs.declared.Reading.the-variants.{Value, Cut, Malformed}
-use Rattle.number.specs.Number.{Bytes, largest, readLast, putBelow, readIn}
-use Rattle.number.proofs.Ways.{never, last-value, last-zero, read-cut, read-above, read-full, read-ends, read-goes}
-use Rattle.number.proofs.Readings.{read-form-in}
+use Rattle.number.specs.Number.{lastByte, moreBytes, largest, readLast, putBelow, readIn, readAt}
+use Rattle.number.proofs.Ways.{never, last-value, last-zero, read-cut, read-above, read-ends, read-goes}
+use Rattle.number.proofs.Readings.{ends-in}
 
--- ---- read_last
+-- ---- a number's first byte
 
-module _ (first : Bool) (b next : ℕ) where
+module _ (s : List ℕ) (at : ℕ) where
+  -- No byte is there.
+  pub first-cut : length s ≤ at → Cut ≡ readAt s at
+  unfolding readAt
+  first-cut h = sym (read-cut s lastByte true at moreBytes h)
+
   -- A number's only byte.
-  pub last-alone : first ≡ true → Value b next ≡ readLast first b next
-  last-alone t = sym (last-value first b next (λ f. absurd (never (sym t ∙ f))))
+  pub first-ends : {b : ℕ} → b ≡ getD s at 0 → at < length s → b < 128 → Value b (at + 1) ≡ readAt s at
+  unfolding readAt
+  first-ends e h g =
+      rw e (sym (read-ends s lastByte true at (moreBytes - 1) h (omega arith) ∙ last-value true (getD s at 0) (at + 1) (λ f. absurd (never f))))
 
-  -- 00 after others.
-  pub last-refused : first ≡ false → b ≡ 0 → Malformed ≡ readLast first b next
-  last-refused f z = rw (f, z) (sym (last-zero next))
+-- ---- the bytes after it
 
-  -- A last byte that is not 00.
-  pub last-given : (b ≡ 0 → ⊥) → Value b next ≡ readLast first b next
-  last-given n = sym (last-value first b next (λ _. omega arith))
+-- What the bytes after those read give, put above the number read: their number counts `scale`-fold.
+unfoldable pub putAbove : ℕ → ℕ → Reading → Reading
+putAbove value scale (Value v next) = Value (value + scale * v) next
+putAbove value scale Cut = Cut
+putAbove value scale Malformed = Malformed
 
--- ---- read_in
+-- Where a group stands below their number, it goes to the number read, and theirs counts 128 times as much.
+above-below : (value scale low : ℕ) (r : Reading) → putAbove value scale (putBelow low r) ≡ putAbove (value + scale * low) (scale * 128) r
+unfolding putAbove putBelow
+above-below value scale low (Value v next) =
+    let d = mul-add scale low (128 * v) in
+    let a = mul-assoc scale 128 v in
+    let e : value + scale * (low + 128 * v) ≡ (value + scale * low) + (scale * 128) * v = omega arith in
+    ap (λ (n : ℕ). Value n next) e
+above-below value scale low Cut = refl
+above-below value scale low Malformed = refl
 
--- One byte less may come: the largest number has one group less.
-pub largest-less : (last more : ℕ) → (more ≡ 0 → ⊥) → largest last more ≡ 127 + 128 * largest last (more - 1)
+-- After the first byte its group is the number read, and what follows counts 128-fold.
+below-above : (low : ℕ) (r : Reading) → putBelow low r ≡ putAbove low 128 r
+unfolding putAbove putBelow
+below-above low (Value v next) = refl
+below-above low Cut = refl
+below-above low Malformed = refl
+
+-- What reading gives is what the bytes from `next` on give, put above the number read, and the largest number that can come of it fits 32 bits.
+pub record Going (s : List ℕ) (at value scale next more : ℕ) : Type 0 where
+  pub whole : readAt s at ≡ putAbove value scale (readIn s lastByte more false next)
+  pub fits : value + scale * largest lastByte more ≤ 4294967295
+
+-- A first byte with the top bit.
+pub go-starts : (s : List ℕ) (at : ℕ) {b : ℕ} → b ≡ getD s at 0 → at < length s → 128 ≤ b → b < 256
+    → Going s at (b - 128) 128 (at + 1) (moreBytes - 1)
+unfolding readAt largest
+go-starts s at {b} e h g m =
+    record {
+      whole =
+          rw e (read-goes s lastByte true at (moreBytes - 1) h (omega arith)
+          ∙ below-above (getD s at 0 - 128) (readIn s lastByte (moreBytes - 1) false (at + 1)));
+      fits = omega arith;
+    }
+
+-- A last byte that is allowed is within the kind.
+pub last-within : (more b : ℕ) → b < 128 → (more ≡ 0 → b ≤ lastByte) → b ≤ largest lastByte more
 unfolding largest
-largest-less last more n =
-    let m : more ≡ suc (more - 1) = omega arith in
-    ap (largest last) m
+last-within zero b g a = a refl
+last-within (suc more) b g a = omega arith
 
--- The number with a group below it is not above the largest.
-pub below-fits : (s : List ℕ) (last more at : ℕ) {v next : ℕ} {r : Reading} → Bytes s → (more ≡ 0 → ⊥)
-    → r ≡ readIn s last (more - 1) false (at + 1) → r ≡ Value v next → 127 + 128 * v ≤ largest last more
-below-fits s last more at b n e q =
-    omega (arith, largest-less last more n, read-form-in last (more - 1) s false (at + 1) b (sym e ∙ q) .small)
+-- Where a byte with the top bit may come, 128 is within the kind too.
+pub more-within : (more : ℕ) → (more ≡ 0 → ⊥) → 128 ≤ largest lastByte more
+unfolding largest
+more-within zero n = absurd (n refl)
+more-within (suc zero) n = omega arith
+more-within (suc (suc more)) n = omega arith
 
-module _ (s : List ℕ) (last more : ℕ) (first : Bool) (at : ℕ) where
+module _ {s : List ℕ} {at value scale next more : ℕ} (k : Going s at value scale next more) where
+  -- A number within the kind fits above the number read.
+  pub go-fits : {g : ℕ} → g ≤ largest lastByte more → value + scale * g ≤ 4294967295
+  go-fits h = let m = mul-le-mul-left scale h in let f = k .fits in omega arith
+
   -- No byte is left.
-  pub in-cut : length s ≤ at → Cut ≡ readIn s last more first at
-  in-cut h = sym (read-cut s last first at more h)
+  pub go-cut : length s ≤ next → Cut ≡ readAt s at
+  unfolding putAbove
+  go-cut h = sym (k .whole ∙ ap (putAbove value scale) (read-cut s lastByte false next more h))
 
-  module _ {b : ℕ} (e : b ≡ getD s at 0) (h : at < length s) where
-    -- A last byte that is too large.
-    pub in-above : more ≡ 0 → last < b → Malformed ≡ readIn s last more first at
-    in-above z g = rw z (sym (read-above s last first at h (omega arith)))
+  module _ {b : ℕ} (e : b ≡ getD s next 0) (h : next < length s) where
+    -- What a last byte gives, put above the number read.
+    go-last : b < 128 → (more ≡ 0 → b ≤ lastByte) → readAt s at ≡ putAbove value scale (readLast false b (next + 1))
+    go-last g a =
+        k .whole ∙ rw e (ap (putAbove value scale) (ends-in s lastByte more false next h (omega arith) (omega (arith, last-within more b g a))))
 
-    -- A last byte after as many others as may come.
-    pub in-full : {r : Reading} → more ≡ 0 → b ≤ last → r ≡ readLast first b (at + 1) → r ≡ readIn s last more first at
-    in-full z g k = rw z (k ∙ ap (λ (n : ℕ). readLast first n (at + 1)) e ∙ sym (read-full s last first at h (omega arith)))
+    -- A last byte 00.
+    pub go-zero : b ≡ 0 → Malformed ≡ readAt s at
+    unfolding putAbove
+    go-zero z = sym (go-last (omega arith) (λ _. omega arith) ∙ rw z (ap (putAbove value scale) (last-zero (next + 1))))
 
-    -- A last byte after fewer others.
-    pub in-ends : {r : Reading} → (more ≡ 0 → ⊥) → b < 128 → r ≡ readLast first b (at + 1) → r ≡ readIn s last more first at
-    in-ends n g k =
-        let m : suc (more - 1) ≡ more = omega arith in
-        k ∙ ap (λ (x : ℕ). readLast first x (at + 1)) e
-        ∙ sym (read-ends s last first at (more - 1) h (omega arith)) ∙ ap (λ (x : ℕ). readIn s last x first at) m
+    -- A fifth byte above 0F.
+    pub go-above : more ≡ 0 → lastByte < b → Malformed ≡ readAt s at
+    unfolding putAbove
+    go-above z g =
+        sym (k .whole ∙ ap (λ (n : ℕ). putAbove value scale (readIn s lastByte n false next)) z
+        ∙ ap (putAbove value scale) (read-above s lastByte false next h (omega arith)))
 
-    -- A byte with the top bit, and what the bytes after it gave.
-    pub in-goes : {r q : Reading} → (more ≡ 0 → ⊥) → 128 ≤ b → q ≡ readIn s last (more - 1) false (at + 1) → q ≡ r
-        → putBelow (b - 128) r ≡ readIn s last more first at
-    in-goes {r} n g k j =
-        let m : suc (more - 1) ≡ more = omega arith in
-        ap (putBelow (b - 128)) (sym j ∙ k) ∙ ap (λ (x : ℕ). putBelow (x - 128) (readIn s last (more - 1) false (at + 1))) e
-        ∙ sym (read-goes s last first at (more - 1) h (omega arith)) ∙ ap (λ (x : ℕ). readIn s last x first at) m
+    -- A last byte that is not 00 and is allowed.
+    pub go-ends : (b ≡ 0 → ⊥) → b < 128 → (more ≡ 0 → b ≤ lastByte) → Value (value + scale * b) (next + 1) ≡ readAt s at
+    unfolding putAbove
+    go-ends n g a = sym (go-last g a ∙ ap (putAbove value scale) (last-value false b (next + 1) (λ _. omega arith)))
+
+    -- A byte with the top bit.
+    pub go-turns : 128 ≤ b → b < 256 → (more ≡ 0 → ⊥) → Going s at (value + scale * (b - 128)) (scale * 128) (next + 1) (more - 1)
+    unfolding largest
+    go-turns g m n =
+        let i : more ≡ suc (more - 1) = omega arith in
+        let l : largest lastByte more ≡ 127 + 128 * largest lastByte (more - 1) = ap (largest lastByte) i in
+        let f = k .fits in
+        let d = mul-add scale 127 (128 * largest lastByte (more - 1)) in
+        let a = mul-assoc scale 128 (largest lastByte (more - 1)) in
+        let q : scale * (b - 128) ≤ scale * 127 = mul-le-mul-left scale (omega arith) in
+        let o : scale * largest lastByte more ≡ scale * (127 + 128 * largest lastByte (more - 1)) = ap (λ (n : ℕ). scale * n) l in
+        record {
+          whole =
+              k .whole ∙ ap (λ (n : ℕ). putAbove value scale (readIn s lastByte n false next)) i
+              ∙ ap (putAbove value scale) (read-goes s lastByte false next (more - 1) h (omega arith))
+              ∙ rw e (above-below value scale (getD s next 0 - 128) (readIn s lastByte (more - 1) false (next + 1)));
+          fits = omega arith;
+        }

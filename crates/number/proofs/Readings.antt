@@ -22,7 +22,7 @@ use Rattle.number.proofs.Ways.{never, value-or-cut, value-or-malformed,
 -- ---- any kind of number
 
 -- A byte below 128 that the kind allows is the last one.
-ends-in : (s : List ℕ) (last more : ℕ) (first : Bool) (at : ℕ) → at < length s → getD s at 0 < 128 → getD s at 0 ≤ largest last more
+pub ends-in : (s : List ℕ) (last more : ℕ) (first : Bool) (at : ℕ) → at < length s → getD s at 0 < 128 → getD s at 0 ≤ largest last more
     → readIn s last more first at ≡ readLast first (getD s at 0) (at + 1)
 unfolding largest
 ends-in s last zero first at h g k = read-full s last first at h k

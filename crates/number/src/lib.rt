@@ -3,7 +3,7 @@ ghost use mathlib.Core.Path.{_≡_};
 ghost use Prim.Native.Nat.{_+_, _≤_, _<_};
 ghost use lib.ListN.{length};
 ghost use Rattle.lists.specs.Stands.{Wrote};
-ghost use Rattle.number.specs.Number.{largest, form, readLast, readIn, readAt};
+ghost use Rattle.number.specs.Number.{form, readAt};
 
 // A 32-bit number has at most four bytes with the top bit set.
 const MORE: u32 = 4;
@@ -25,50 +25,39 @@ fn widen(byte: u8) -> u32
     byte as u32
 }
 
-// What a last byte gives: 00 after others is refused.
-fn read_last(first: bool, byte: u32, next: usize) -> Reading
-    ensures { λ r. ⌜ r ≡ readLast first byte next ⌝ }
-{
-    if byte == 0 {
-        if first {
-            return Reading::Value(byte, next);
-        }
-        return Reading::Malformed;
-    }
-    Reading::Value(byte, next)
-}
-
-// The number at an offset, of at most `more` bytes with the top bit set and a last one, which after `more` others is at most `last`.
-fn read_in(bytes: &[u8], last: u32, more: u32, first: bool, at: usize) -> Reading
-    requires { ⌜ largest last more < 4294967296 ⌝ }
-    ensures { λ r. ⌜ r ≡ readIn (now (bytes .entry)) last more first at ⌝ }
+// The number at an offset, which may lie past the end. A number of one byte is given at once; of a longer one each further byte adds its
+// group, `scale` times, and at most `more` further bytes may have the top bit.
+pub fn read_at(bytes: &[u8], at: usize) -> Reading
+    ensures { λ r. ⌜ r ≡ readAt (now (bytes .entry)) at ⌝ }
 {
     if bytes.len() <= at {
         return Reading::Cut;
     }
-    let byte = widen(bytes[at]);
-    if more == 0 {
-        if last < byte {
+    let low = widen(bytes[at]);
+    if low < 128 {
+        return Reading::Value(low, at + 1);
+    }
+    let mut value = low - 128;
+    let mut scale: u32 = 128;
+    let mut next = at + 1;
+    let mut more = MORE - 1;
+    while next < bytes.len() {
+        let byte = widen(bytes[next]);
+        if byte == 0 {
             return Reading::Malformed;
         }
-        return read_last(first, byte, at + 1);
+        if more == 0 && LAST < byte {
+            return Reading::Malformed;
+        }
+        if byte < 128 {
+            return Reading::Value(value + scale * byte, next + 1);
+        }
+        value = value + scale * (byte - 128);
+        scale = scale * 128;
+        next = next + 1;
+        more = more - 1;
     }
-    if byte < 128 {
-        return read_last(first, byte, at + 1);
-    }
-    let rest = read_in(bytes, last, more - 1, false, at + 1);
-    match rest {
-        Reading::Value(high, next) => Reading::Value(byte - 128 + 128 * high, next),
-        Reading::Cut => Reading::Cut,
-        Reading::Malformed => Reading::Malformed,
-    }
-}
-
-// The number at an offset, which may lie past the end.
-pub fn read_at(bytes: &[u8], at: usize) -> Reading
-    ensures { λ r. ⌜ r ≡ readAt (now (bytes .entry)) at ⌝ }
-{
-    read_in(bytes, LAST, MORE, true, at)
+    Reading::Cut
 }
 
 // How many bytes the form of a number has.
