@@ -84,7 +84,7 @@ loop-again c =
     let more = i .loop-test .taken in
     let s = l .before .before .before .before .before .before in (
       omega arith,
-      gather-turns (planOf (s .args .plan)) (lent s) (s .args .sample) (l .loop .analyte) (l .loop .lines) (c .with-line .result) more
+      gather-turns (planOf (s .args .plan)) (lent s) (s .args .sample) (l .loop .analyte) (l .loop .lines) (c .with-line .result) (omega arith)
           (ap (λ (x : Seen). x .found) (c .before .look-down .ensures)) (c .with-line .ensures) (l .loop .inv .1),
     )
 
