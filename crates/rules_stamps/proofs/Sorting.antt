@@ -9,9 +9,9 @@ use native.Mathlib.Omega.{arith}
 use native.Mathlib.Nat.{not-suc-le-zero}
 use native.Mathlib.Decide.{decLt, ℕ-discrete}
 use native.Mathlib.Numerals.{add-one}
-use lib.Dec.{eqb}
+use lib.Dec.{ltb, eqb}
 use lib.ListN.{length, getD}
-use borrow.Author.Tests.{eqb-true, eq-eqb}
+use borrow.Author.Tests.{eqb-true, eq-eqb, lt-ltb, le-ltb}
 use Rattle.lists.specs.Runs.{run}
 use Rattle.lists.proofs.Running.{run-split}
 use Rattle.lists.proofs.Truths.{not-both, refuted, same-test, or-cases, or-left, or-right}
@@ -23,7 +23,7 @@ use Rattle.store.specs.Workers.{numberIn, placeIn, RisesIn, opened}
 use Rattle.store.proofs.RulingLists.{member-run, run-member, member-left, member-right, member-sides, run-different, different-both, both-different}
 use Rattle.store.proofs.Halving.{half-up, half-down}
 use Rattle.store.proofs.Opening.{length-opened, opened-before, opened-here, opened-after}
-use Rattle.rules_stamps.specs.Workers.{firsts, Sorted}
+use Rattle.rules_stamps.specs.Workers.{firsts, Sorted, Puts}
 
 -- Numbers that rise are different.
 module _ (column : List ℕ) (held : ℕ) (rises : RisesIn column 0 held) where
@@ -44,12 +44,9 @@ module _ (column : List ℕ) (held : ℕ) (rises : RisesIn column 0 held) where
       go j k a b e (no p) (yes q) = absurd (omega (arith, in-order k j q a))
       go j k a b e (no p) (no q) = omega arith
 
-  -- A number is among them exactly when it stands at its place.
+  -- A number that does not stand at its place is not among them.
   module _ (v at : ℕ) (e : at ≡ placeIn column 0 held v) where
-    pub put-there : at < held → numberIn column at ≡ v → member v (firsts held column) ≡ true
-    put-there h g = rw g at (run-member (numberIn column) 0 held at (omega arith) (omega arith))
-
-    pub put-absent : (at < held → numberIn column at ≡ v → ⊥) → member v (firsts held column) ≡ false
+    put-absent : (at < held → numberIn column at ≡ v → ⊥) → member v (firsts held column) ≡ false
     put-absent h =
         refuted (member v (firsts held column)) (λ t.
         let w = member-run (numberIn column) 0 held v t in
@@ -155,6 +152,35 @@ module _ (column : List ℕ) (held v at : ℕ) (long : length column ≡ places)
 
     pub put-sorted : Sorted (v ∷ firsts held column) (suc held) (opened column at held v)
     put-sorted = record { long = length-opened column held 0 (omega arith) at v within ∙ long; rises = put-rises; same = put-same }
+
+-- Put from the top down: the place is no higher than this one, and the numbers from here on are greater.
+module _ (column : List ℕ) (held v at : ℕ) (long : length column ≡ places) (room : held < places) (rises : RisesIn column 0 held) (within : at ≤ held)
+    (lower : placeIn column 0 held v ≤ at) (above : at < held → v < numberIn column at) where
+  put-here : at ≡ placeIn column 0 held v → Puts column held v true (opened column at held v)
+  put-here e =
+      let absent = put-absent column held rises v at e (λ h g. omega (arith, above h)) in
+      (sym (ap not absent), λ t. put-sorted column held v at long room within rises e absent)
+
+  -- It stops at a number that is not greater; that one is lower, or is the number itself.
+  pub put-stops : 0 < at → numberIn column (at - 1) ≤ v → Puts column held v (ltb (numberIn column (at - 1)) v) (opened column at held v)
+  put-stops z h = go (decLt (numberIn column (at - 1)) v)
+    where
+      go : Dec (numberIn column (at - 1) < v) → Puts column held v (ltb (numberIn column (at - 1)) v) (opened column at held v)
+      go (yes p) =
+          let up = half-up column 0 held (omega arith) rises v (at - 1) (omega arith) (omega arith) p in
+          rw (lt-ltb (numberIn column (at - 1)) v p) (put-here (omega arith))
+      go (no p) =
+          let same : numberIn column (at - 1) ≡ v = omega arith in
+          let there : member v (firsts held column) ≡ true = rw same at (run-member (numberIn column) 0 held (at - 1) (omega arith) (omega arith)) in
+          rw (le-ltb (numberIn column (at - 1)) v (omega arith)) (sym (ap not there), λ t. absurd (not-both t refl))
+
+  -- It goes on below one that is greater.
+  pub put-lower : 0 < at → v < numberIn column (at - 1) → placeIn column 0 held v ≤ at - 1
+  put-lower z h = half-down column 0 held (omega arith) v (at - 1) (omega arith) (omega arith) (omega arith)
+
+  -- It ends at the bottom.
+  pub put-lowest : at ≤ 0 → Puts column held v true (opened column at held v)
+  put-lowest z = put-here (omega arith)
 
 -- A number between two lists: what stands there, and whether all are different.
 equal-both-ways : (x y : ℕ) → eqb x y ≡ eqb y x

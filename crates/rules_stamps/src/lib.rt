@@ -1,46 +1,36 @@
 // "stamps .. all different": the stamps of all copies go into a scratch column, each to its place by rising order and only if it is not
 // there. They are taken from the last node to the root, and in a node by rising key.
 ghost use mathlib.Core.Path.{_≡_};
-ghost use mathlib.Core.Bool.{true, not};
-ghost use mathlib.Core.List.{_∷_, _++_};
-ghost use Prim.Native.Nat.{suc, _+_, _-_, _<_, _≤_};
+ghost use mathlib.Core.Bool.{true};
+ghost use mathlib.Core.List.{_++_};
+ghost use Prim.Native.Nat.{_+_, _-_, _<_, _≤_};
 ghost use lib.ListN.{length};
 ghost use Rattle.lists.specs.Runs.{run};
 ghost use Rattle.plan.specs.Sizes.{mostNodes};
-ghost use Rattle.store.specs.Copies.{member, different};
+ghost use Rattle.store.specs.Copies.{different};
 ghost use Rattle.store.specs.Layout.{places};
 ghost use Rattle.store.specs.StoreRules.{stampsFrom};
-ghost use Rattle.store.specs.Workers.{numberIn, placeIn, RisesIn};
-ghost use Rattle.rules_stamps.specs.Workers.{firsts, Sorted, Fitting};
+ghost use Rattle.store.specs.Workers.{numberIn, RisesIn};
+ghost use Rattle.rules_stamps.specs.Workers.{firsts, Sorted, Puts, Fitting};
 use store::Store;
-use store::columns;
 
-// A stamp's place in the column, which holds so many: the first whose stamp is not below it. From the top down, since older copies lie
-// deeper, and so the stamps come nearly in rising order.
-fn place_of(sorted: &[u32; Store::PLACES], held: usize, stamp: u32) -> usize
-    requires { ⌜ (held ≤ places) × RisesIn (now sorted) 0 held ⌝ }
-    ensures { λ r. ⌜ r ≡ placeIn (now (sorted .entry)) 0 held stamp ⌝ }
+// One stamp goes into the scratch column, which holds so many, if it is not there. From the top down, since older copies lie deeper, and so
+// the stamps come nearly in rising order; those above it move one place up.
+fn put_stamp(sorted: &mut [u32; Store::PLACES], held: usize, stamp: u32) -> bool
+    requires { ⌜ (held < places) × (length (now sorted) ≡ places) × RisesIn (now sorted) 0 held ⌝ }
+    ensures { λ r. ⌜ Puts (now (sorted .entry)) held stamp r (now (sorted .exit)) ⌝ }
 {
     let mut at = held;
     while 0 < at {
-        if sorted[at - 1] < stamp {
-            return at;
+        let below = sorted[at - 1];
+        if below <= stamp {
+            sorted[at] = stamp;
+            return below < stamp;
         }
+        sorted[at] = below;
         at -= 1;
     }
-    0
-}
-
-// One stamp goes into the scratch column, if it is not there.
-fn put_stamp(sorted: &mut [u32; Store::PLACES], held: usize, stamp: u32) -> bool
-    requires { ⌜ (held < places) × (length (now sorted) ≡ places) × RisesIn (now sorted) 0 held ⌝ }
-    ensures { λ r. ⌜ (r ≡ not (member stamp (firsts held (now (sorted .entry))))) × (r ≡ true → Sorted (stamp ∷ firsts held (now (sorted .entry))) (suc held) (now (sorted .exit))) ⌝ }
-{
-    let at = place_of(sorted, held, stamp);
-    if at < held && sorted[at] == stamp {
-        return false;
-    }
-    columns::open(sorted, at, held, stamp);
+    sorted[0] = stamp;
     true
 }
 
