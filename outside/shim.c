@@ -2,6 +2,8 @@
 
    In the module a function with an answer takes the answer's place as its first parameter and gives it back, as C does on
    x86-64. Elsewhere C hands that place over otherwise (on aarch64 in a register of its own). */
+#include <stdbool.h>
+
 #include "olipranj.h"
 
 void *module_olipranj_fresh(olipranj_answer *, olipranj_store *, uint32_t);
@@ -50,4 +52,12 @@ olipranj_answer olipranj_page(const olipranj_store *store, uint32_t sample, uint
 
 size_t olipranj_serve(const olipranj_store *store, uint32_t sample, const uint8_t *kept, size_t length) {
     return module_olipranj_serve(store, sample, kept, length);
+}
+
+/* The check of all store rules alone, to be measured; the header does not have it. */
+bool module_rules_good(uint32_t, uint32_t, const uint32_t *, const uint32_t *, const uint32_t *, const uint32_t *,
+                       const uint32_t *, const olipranj_slot *);
+
+bool olipranj_good_here(const olipranj_store *s) {
+    return module_rules_good(s->plan, s->clock, s->counts, s->keys, s->kinds, s->values, s->stamps, s->slots);
 }

@@ -121,9 +121,34 @@ fn rows(plan: u32, store: &model::Store) -> Vec<Row> {
     rows
 }
 
+/// The check of all store rules alone. The archive for x86-64 has no such function, see `outside/library`.
+#[cfg(not(target_arch = "x86_64"))]
+fn print_check(plan: u32, stores: &[model::Store; 3]) {
+    extern "C" {
+        fn olipranj_good_here(store: *const olipranj::Raw) -> bool;
+    }
+    // The pointer is to a store that lives through the call, and the function only reads it.
+    let good = |store: &olipranj::Store| unsafe { olipranj_good_here(store.raw()) };
+    let cells = stores.each_ref().map(|store| {
+        assert!(good(&raw(store)) && model::good(store));
+        let (ours, plain) = both(
+            (&raw(store), &mut |s| _ = black_box(good(black_box(s)))),
+            (store, &mut |s| _ = black_box(model::good(black_box(s)))),
+        );
+        format!("{ours:.0} / {plain:.0} = {:.1}", ours / plain)
+    });
+    println!("| {plan} | the check alone | {} |", cells.join(" | "));
+}
+
+#[cfg(target_arch = "x86_64")]
+fn print_check(plan: u32, _: &[model::Store; 3]) {
+    println!("| {plan} | the check alone, not in the archive for x86-64 | | | |");
+}
+
 /// One line for each call on the plan's three stores.
 fn print_plan(plan: u32) {
     let stores = FILLS.map(|fill| make(plan, fill));
+    print_check(plan, &stores);
     let mut all = stores.each_ref().map(|store| rows(plan, store));
     for at in 0..all[0].len() {
         let name = all[0][at].name;
