@@ -32,7 +32,17 @@ pub extern "C" fn olipranj_step(store: &mut Store, number: u32, x: u32, y: u32) 
 pub extern "C" fn olipranj_look(store: &Store, key: u32) -> Answer
     ensures { λ r. ⌜ Looks (now (store .entry)) key r ⌝ }
 {
-    searches::look(*store, key)
+    searches::lines::look_lent(
+        store.plan,
+        store.clock,
+        &store.counts,
+        &store.keys,
+        &store.kinds,
+        &store.values,
+        &store.stamps,
+        store.slots,
+        key,
+    )
 }
 
 // The store's image into the buffer.
