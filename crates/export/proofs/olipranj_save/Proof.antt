@@ -27,7 +27,7 @@ use denote.Builtin.{u8}
 use denote.Ref.{RefT, now, ShrRef, ptr-vals, shr-tells}
 use denote.Signature.{plain}
 use denote.Slice.{sliceVal, MutSlice, Room, finally, slice-vals, mut-slice-tells}
-use denote.Steps.{looks, shuts, owned, peeks, heard, nothing}
+use denote.Steps.{looks, shuts, peeks, heard, nothing}
 use denote.Struct.Steps.{spelt}
 use denote.Struct.Laws as LL
 use denote.Triple.Statement.{Contract, Triple}
