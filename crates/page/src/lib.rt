@@ -140,7 +140,7 @@ pub fn served_length_lent<'a>(
 }
 
 // The same of a store by value.
-pub fn served_length(store: Store, sample: u32, kept: &[u8]) -> usize
+fn served_length(store: Store, sample: u32, kept: &[u8]) -> usize
     ensures { λ r. ⌜ ServesLength store sample (now (kept .entry)) r ⌝ }
 {
     let slots = store.slots;
