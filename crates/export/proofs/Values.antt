@@ -1,7 +1,8 @@
 -- How the machine holds a store, an answer and an outcome, and that a value that is an outcome's is the one spelled here. Assumes nothing.
 use mathlib.Core.Path.{_≡_, ap}
-use mathlib.Core.List.{List, [], _∷_}
+use mathlib.Core.List.{List, [], _∷_, map}
 use mir.Val.{Val, vunit}
+use denote.Array.{arrayVal}
 use denote.Laws.{Is}
 use denote.Struct.Laws as LL
 use Rattle.store.specs.declared.Answer.{Answer}
@@ -11,11 +12,17 @@ use Rattle.store.proofs.Answer as R
 use Rattle.store.proofs.Answer.Laws as R′
 use Rattle.store.proofs.Outcome as O
 use Rattle.store.proofs.Outcome.Laws as O′
+use Rattle.store.proofs.Slot as Q
+use Rattle.store.proofs.Slot.Laws as Q′
 use Rattle.store.proofs.Store as S
 use Rattle.store.proofs.Store.Laws as S′
 
 abbrev pub store-val : Store → Val
 store-val s = LL.tuple-val S.the-type S′.the-laws (S.the-type .to s)
+
+-- A store's slots, as they lie in it.
+abbrev pub slots-val : Store → Val
+slots-val s = arrayVal (map (Q′.the-field-laws .val) (map (Q.the-type .to) (s .slots)))
 
 abbrev pub answer-val : Answer → Val
 answer-val a = LL.tuple-val R.the-type R′.the-laws (R.the-type .to a)

@@ -1,5 +1,5 @@
-// The C interface (include/olipranj.h): the public calls over a store behind a pointer. Where a call takes a store, it is read whole; the store
-// that a call gives is written behind the pointer.
+// The C interface (include/olipranj.h): the public calls over a store behind a pointer. A call that leaves the store as it is lends its columns
+// where they lie; a step reads it whole. The store that a call gives is written behind the pointer.
 ghost use Rattle.steps.specs.Promises.{Looks};
 ghost use Rattle.image.specs.Promises.{Saves};
 ghost use Rattle.page.specs.Promises.{Pages, ServesLength};
@@ -32,7 +32,17 @@ pub extern "C" fn olipranj_step(store: &mut Store, number: u32, x: u32, y: u32) 
 pub extern "C" fn olipranj_look(store: &Store, key: u32) -> Answer
     ensures { λ r. ⌜ Looks (now (store .entry)) key r ⌝ }
 {
-    searches::look(*store, key)
+    searches::lines::look_lent(
+        store.plan,
+        store.clock,
+        &store.counts,
+        &store.keys,
+        &store.kinds,
+        &store.values,
+        &store.stamps,
+        store.slots,
+        key,
+    )
 }
 
 // The store's image into the buffer.
@@ -40,7 +50,17 @@ pub extern "C" fn olipranj_look(store: &Store, key: u32) -> Answer
 pub extern "C" fn olipranj_save(store: &Store, buffer: &mut [u8]) -> Answer
     ensures { λ r. ⌜ Saves (now (store .entry)) (now (buffer .entry)) r (now (buffer .exit)) ⌝ }
 {
-    image::save(*store, buffer)
+    image::save_lent(
+        store.plan,
+        store.clock,
+        &store.counts,
+        &store.keys,
+        &store.kinds,
+        &store.values,
+        &store.stamps,
+        store.slots,
+        buffer,
+    )
 }
 
 // The store of an image, or the first fault and a fresh store of plan 1.
@@ -58,7 +78,18 @@ pub extern "C" fn olipranj_load(store: &mut Store, bytes: &[u8]) -> Answer
 pub extern "C" fn olipranj_page(store: &Store, sample: u32, buffer: &mut [u8]) -> Answer
     ensures { λ r. ⌜ Pages (now (store .entry)) sample (now (buffer .entry)) r (now (buffer .exit)) ⌝ }
 {
-    page::page(*store, sample, buffer)
+    page::page_lent(
+        store.plan,
+        store.clock,
+        &store.counts,
+        &store.keys,
+        &store.kinds,
+        &store.values,
+        &store.stamps,
+        store.slots,
+        sample,
+        buffer,
+    )
 }
 
 // How many bytes of the kept page to show; none: the notice is due.
@@ -66,5 +97,16 @@ pub extern "C" fn olipranj_page(store: &Store, sample: u32, buffer: &mut [u8]) -
 pub extern "C" fn olipranj_serve(store: &Store, sample: u32, kept: &[u8]) -> usize
     ensures { λ r. ⌜ ServesLength (now (store .entry)) sample (now (kept .entry)) r ⌝ }
 {
-    page::served_length(*store, sample, kept)
+    page::served_length_lent(
+        store.plan,
+        store.clock,
+        &store.counts,
+        &store.keys,
+        &store.kinds,
+        &store.values,
+        &store.stamps,
+        store.slots,
+        sample,
+        kept,
+    )
 }

@@ -5,6 +5,7 @@ ghost use lib.ListN.{length, replicate};
 ghost use Rattle.plan.specs.Sizes.{mostNodes};
 ghost use Rattle.store.specs.State.{slotCount, idle};
 ghost use Rattle.store.specs.StoreRules.{planNumberTest};
+ghost use Rattle.store.specs.Workers.{Sized};
 ghost use Rattle.wire.specs.Reading.{got};
 ghost use Rattle.image.specs.Loading.{nodesFrom, refusedLoad, copiesHeld, finished};
 ghost use Rattle.image.specs.Promises.{Saves, Loads};
@@ -21,12 +22,38 @@ mod writing; // writing.rt: an image written into a lent buffer
 // "format 1"
 pub const FORMAT: u32 = 1;
 
-// Saves the store into the buffer: DONE with the bytes written, BADSTORE, or SMALL with the bytes needed.
+// Saves a store whose columns are lent where they lie into the buffer: DONE with the bytes written, BADSTORE, or SMALL with the bytes needed.
+pub fn save_lent<'a>(
+    plan: u32,
+    clock: u32,
+    counts: &'a [u32; Store::NODES],
+    keys: &'a [u32; Store::PLACES],
+    kinds: &'a [u32; Store::PLACES],
+    values: &'a [u32; Store::PLACES],
+    stamps: &'a [u32; Store::PLACES],
+    slots: [Slot; Store::SLOTS],
+    buffer: &mut [u8],
+) -> Answer
+    requires { ⌜ Sized (now counts) (now keys) (now kinds) (now values) (now stamps) ⌝ }
+    ensures { λ r. ⌜ Saves (record { plan = plan; clock = clock; counts = now (counts .entry); keys = now (keys .entry); kinds = now (kinds .entry); values = now (values .entry); stamps = now (stamps .entry); slots = slots }) (now (buffer .entry)) r (now (buffer .exit)) ⌝ }
+{
+    if !rules::good(plan, clock, counts, keys, kinds, values, stamps, slots) {
+        return Answer::bare(Answer::BADSTORE);
+    }
+    let needed = lengths::image_length(plan, clock, counts, keys, kinds, values, stamps);
+    if buffer.len() < needed {
+        return Answer::of(Answer::SMALL, needed as u64, 0, 0, 0);
+    }
+    let written = writing::write_image(buffer, plan, clock, counts, keys, kinds, values, stamps);
+    Answer::of(Answer::DONE, written as u64, 0, 0, 0)
+}
+
+// The same of a store by value.
 pub fn save(store: Store, buffer: &mut [u8]) -> Answer
     ensures { λ r. ⌜ Saves store (now (buffer .entry)) r (now (buffer .exit)) ⌝ }
 {
     let slots = store.slots;
-    if !rules::good(
+    save_lent(
         store.plan,
         store.clock,
         &store.counts,
@@ -35,32 +62,8 @@ pub fn save(store: Store, buffer: &mut [u8]) -> Answer
         &store.values,
         &store.stamps,
         slots,
-    ) {
-        return Answer::bare(Answer::BADSTORE);
-    }
-    let needed = lengths::image_length(
-        store.plan,
-        store.clock,
-        &store.counts,
-        &store.keys,
-        &store.kinds,
-        &store.values,
-        &store.stamps,
-    );
-    if buffer.len() < needed {
-        return Answer::of(Answer::SMALL, needed as u64, 0, 0, 0);
-    }
-    let written = writing::write_image(
         buffer,
-        store.plan,
-        store.clock,
-        &store.counts,
-        &store.keys,
-        &store.kinds,
-        &store.values,
-        &store.stamps,
-    );
-    Answer::of(Answer::DONE, written as u64, 0, 0, 0)
+    )
 }
 
 // A refused load: its number and offset, and a fresh store of plan 1.

@@ -4,11 +4,12 @@ ghost use lib.ListN.{length};
 ghost use Rattle.lists.specs.Stands.{Wrote};
 ghost use Rattle.plan.specs.PlanTable.{planOf};
 ghost use Rattle.store.specs.Layout.{stateOf};
-ghost use Rattle.store.specs.Workers.{holding};
+ghost use Rattle.store.specs.Workers.{holding, Sized};
 ghost use Rattle.page.specs.Page.{lastSample, mostPageBytes, pageOf};
 ghost use Rattle.page.specs.Promises.{Pages, ServesLength, Serves};
 ghost use Rattle.page.specs.Workers.{Pageable};
 use store::Answer;
+use store::Slot;
 use store::Store;
 
 mod lines; // lines.rt: the lines of a page
@@ -38,21 +39,24 @@ fn write_now<'a>(
     writing::write_page(scratch, sample, lines)
 }
 
-// The page of a sample into the buffer: BADSTORE, SAMPLE, SMALL with the bytes needed, or DONE with the bytes written.
-pub fn page(store: Store, sample: u32, buffer: &mut [u8]) -> Answer
-    ensures { λ r. ⌜ Pages store sample (now (buffer .entry)) r (now (buffer .exit)) ⌝ }
+// The page of a sample into the buffer, of a store whose columns are lent where they lie: BADSTORE, SAMPLE, SMALL with the bytes needed, or
+// DONE with the bytes written.
+pub fn page_lent<'a>(
+    plan: u32,
+    clock: u32,
+    counts: &'a [u32; Store::NODES],
+    keys: &'a [u32; Store::PLACES],
+    kinds: &'a [u32; Store::PLACES],
+    values: &'a [u32; Store::PLACES],
+    stamps: &'a [u32; Store::PLACES],
+    slots: [Slot; Store::SLOTS],
+    sample: u32,
+    buffer: &mut [u8],
+) -> Answer
+    requires { ⌜ Sized (now counts) (now keys) (now kinds) (now values) (now stamps) ⌝ }
+    ensures { λ r. ⌜ Pages (record { plan = plan; clock = clock; counts = now (counts .entry); keys = now (keys .entry); kinds = now (kinds .entry); values = now (values .entry); stamps = now (stamps .entry); slots = slots }) sample (now (buffer .entry)) r (now (buffer .exit)) ⌝ }
 {
-    let slots = store.slots;
-    if !rules::good(
-        store.plan,
-        store.clock,
-        &store.counts,
-        &store.keys,
-        &store.kinds,
-        &store.values,
-        &store.stamps,
-        slots,
-    ) {
+    if !rules::good(plan, clock, counts, keys, kinds, values, stamps, slots) {
         return Answer::bare(Answer::BADSTORE);
     }
     if LAST_SAMPLE < sample {
@@ -61,12 +65,12 @@ pub fn page(store: Store, sample: u32, buffer: &mut [u8]) -> Answer
     let mut scratch = [0; LONGEST];
     let n = write_now(
         &mut scratch,
-        store.plan,
-        &store.counts,
-        &store.keys,
-        &store.kinds,
-        &store.values,
-        &store.stamps,
+        plan,
+        counts,
+        keys,
+        kinds,
+        values,
+        stamps,
         sample,
     );
     if buffer.len() < n {
@@ -76,12 +80,12 @@ pub fn page(store: Store, sample: u32, buffer: &mut [u8]) -> Answer
     Answer::of(Answer::DONE, n as u64, 0, 0, 0)
 }
 
-// How many of the kept bytes are the sample's page as it is now: its length if they begin with it; else, and for a bad store or sample, 0.
-pub fn served_length(store: Store, sample: u32, kept: &[u8]) -> usize
-    ensures { λ r. ⌜ ServesLength store sample (now (kept .entry)) r ⌝ }
+// The same of a store by value.
+pub fn page(store: Store, sample: u32, buffer: &mut [u8]) -> Answer
+    ensures { λ r. ⌜ Pages store sample (now (buffer .entry)) r (now (buffer .exit)) ⌝ }
 {
     let slots = store.slots;
-    if !rules::good(
+    page_lent(
         store.plan,
         store.clock,
         &store.counts,
@@ -90,7 +94,29 @@ pub fn served_length(store: Store, sample: u32, kept: &[u8]) -> usize
         &store.values,
         &store.stamps,
         slots,
-    ) {
+        sample,
+        buffer,
+    )
+}
+
+// How many of the kept bytes are the sample's page as it is now, of a store whose columns are lent where they lie: its length if they begin
+// with it; else, and for a bad store or sample, 0.
+pub fn served_length_lent<'a>(
+    plan: u32,
+    clock: u32,
+    counts: &'a [u32; Store::NODES],
+    keys: &'a [u32; Store::PLACES],
+    kinds: &'a [u32; Store::PLACES],
+    values: &'a [u32; Store::PLACES],
+    stamps: &'a [u32; Store::PLACES],
+    slots: [Slot; Store::SLOTS],
+    sample: u32,
+    kept: &[u8],
+) -> usize
+    requires { ⌜ Sized (now counts) (now keys) (now kinds) (now values) (now stamps) ⌝ }
+    ensures { λ r. ⌜ ServesLength (record { plan = plan; clock = clock; counts = now (counts .entry); keys = now (keys .entry); kinds = now (kinds .entry); values = now (values .entry); stamps = now (stamps .entry); slots = slots }) sample (now (kept .entry)) r ⌝ }
+{
+    if !rules::good(plan, clock, counts, keys, kinds, values, stamps, slots) {
         return 0;
     }
     if LAST_SAMPLE < sample {
@@ -99,18 +125,37 @@ pub fn served_length(store: Store, sample: u32, kept: &[u8]) -> usize
     let mut scratch = [0; LONGEST];
     let n = write_now(
         &mut scratch,
-        store.plan,
-        &store.counts,
-        &store.keys,
-        &store.kinds,
-        &store.values,
-        &store.stamps,
+        plan,
+        counts,
+        keys,
+        kinds,
+        values,
+        stamps,
         sample,
     );
     if writing::starts_with(kept, &scratch[..n]) {
         return n;
     }
     0
+}
+
+// The same of a store by value.
+fn served_length(store: Store, sample: u32, kept: &[u8]) -> usize
+    ensures { λ r. ⌜ ServesLength store sample (now (kept .entry)) r ⌝ }
+{
+    let slots = store.slots;
+    served_length_lent(
+        store.plan,
+        store.clock,
+        &store.counts,
+        &store.keys,
+        &store.kinds,
+        &store.values,
+        &store.stamps,
+        slots,
+        sample,
+        kept,
+    )
 }
 
 // "If the kept bytes begin with the sample's page as it is now, exactly that beginning is returned; otherwise, and for a bad store or

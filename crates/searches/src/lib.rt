@@ -89,7 +89,7 @@ pub fn look(store: Store, key: u32) -> Answer
     ensures { λ r. ⌜ Looks store key r ⌝ }
 {
     let slots = store.slots;
-    if !rules::good(
+    lines::look_lent(
         store.plan,
         store.clock,
         &store.counts,
@@ -98,16 +98,6 @@ pub fn look(store: Store, key: u32) -> Answer
         &store.values,
         &store.stamps,
         slots,
-    ) {
-        return Answer::bare(Answer::BADSTORE);
-    }
-    lines::looked(
-        store.plan,
-        &store.counts,
-        &store.keys,
-        &store.kinds,
-        &store.values,
-        &store.stamps,
         key,
     )
 }

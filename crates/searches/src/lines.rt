@@ -1,10 +1,11 @@
 // A look down one line's path, on lent columns, and the answers of an ended search or look.
 ghost use mathlib.Core.Path.{_≡_};
 ghost use mathlib.Core.Option.{none, some};
-ghost use Rattle.store.specs.Workers.{holding};
+ghost use Rattle.store.specs.Workers.{holding, Sized};
 ghost use Rattle.plan.specs.PlanTable.{planOf};
 ghost use Rattle.store.specs.Layout.{stateOf};
 ghost use Rattle.plan.specs.PlanArrays.{ArraysOf};
+ghost use Rattle.steps.specs.Promises.{Looks};
 ghost use Rattle.steps.specs.Searches.{ended, lookAnswer};
 ghost use Rattle.searches.specs.Workers.{Lookable, seenIn};
 use plan::Hop;
@@ -12,6 +13,7 @@ use plan::arrays;
 use store::Answer;
 use store::Copy;
 use store::Found;
+use store::Slot;
 use store::Store;
 use store::columns;
 
@@ -118,4 +120,25 @@ pub fn looked<'a>(
         return never(visits);
     };
     held(copy, visits)
+}
+
+// A look in a store whose columns are lent where they lie: its end, or BADSTORE.
+pub fn look_lent<'a>(
+    plan: u32,
+    clock: u32,
+    counts: &'a [u32; Store::NODES],
+    keys: &'a [u32; Store::PLACES],
+    kinds: &'a [u32; Store::PLACES],
+    values: &'a [u32; Store::PLACES],
+    stamps: &'a [u32; Store::PLACES],
+    slots: [Slot; Store::SLOTS],
+    key: u32,
+) -> Answer
+    requires { ⌜ Sized (now counts) (now keys) (now kinds) (now values) (now stamps) ⌝ }
+    ensures { λ r. ⌜ Looks (record { plan = plan; clock = clock; counts = now (counts .entry); keys = now (keys .entry); kinds = now (kinds .entry); values = now (values .entry); stamps = now (stamps .entry); slots = slots }) key r ⌝ }
+{
+    if !rules::good(plan, clock, counts, keys, kinds, values, stamps, slots) {
+        return Answer::bare(Answer::BADSTORE);
+    }
+    looked(plan, counts, keys, kinds, values, stamps, key)
 }

@@ -1,29 +1,44 @@
--- `page::page` meets its promise. Assumes nothing.
+-- `page::page_lent` meets its contract. Assumes nothing.
 use mathlib.Core.Path.{_≡_, sym, _∙_}
 use mathlib.Core.Bool.{true}
 use Prim.Native.Nat.{_≤_}
 use borrow.Author.Needs.{needs}
 use borrow.Author.Tests.{not-true, not-false}
 use lib.Seq.{length-take-le}
+use Rattle.store.specs.declared.Store.{Store}
 use Rattle.store.specs.StoreRules.{goodStore}
 use Rattle.page.specs.Page.{lastSample}
 use Rattle.page.specs.Promises.{pageNow}
 use Rattle.page.proofs.NodeByNode.{good-pageable}
 use Rattle.page.proofs.PageWays.{Holds, page-held, page-bad-store, page-bad-sample, page-too-small, page-done}
-use Rattle.page.proofs.page.Statement.{statement}
-use Rattle.page.proofs.page.Tie as tie
+use Rattle.page.proofs.page_lent.Statement.{statement}
+use Rattle.page.proofs.page_lent.Tie as tie
 
--- The call's beginning, seen from the check.
+-- The call's beginning, seen from the check, and the store of what is lent and given.
 abbrev first : tie.After-good2 → tie.Start
-first g = g .before .before .before .before .before .before .before .before .before
+first g = g .before .before
+
+abbrev asked : tie.After-good2 → Store
+asked g =
+    let a = first g .args in
+    record {
+      plan = a .plan;
+      clock = a .clock;
+      counts = a .counts .now;
+      keys = a .keys .now;
+      kinds = a .kinds .now;
+      values = a .values .now;
+      stamps = a .stamps .now;
+      slots = a .slots;
+    }
 
 -- Past the first test the store is good,
-good : (i : tie.Else1) → goodStore (first (i .before) .args .t1) ≡ true
+good : (i : tie.Else1) → goodStore (asked (i .before)) ≡ true
 good i = sym (i .before .good2 .ensures) ∙ not-false (i .before .good2 .result) (i .if1 .left)
 
 -- past the second the sample is not too large, and past the writing of the scratch it begins with the sample's page.
 abbrev test : tie.After-write-now → tie.Else1
-test w = w .before .before .before .before .before .before .before .before .before
+test w = w .before .before .before
 
 abbrev entry : tie.After-write-now → tie.Start
 entry w = first (test w .before)
@@ -31,8 +46,8 @@ entry w = first (test w .before)
 small : (w : tie.After-write-now) → entry w .args .sample ≤ lastSample
 small w = search needs
 
-held : (w : tie.After-write-now) → Holds (pageNow (entry w .args .t1) (entry w .args .sample)) (w .write-now .result) (w .write-now .last .0)
-held w = page-held (entry w .args .t1) (entry w .args .sample) (small w) (search needs) (w .write-now .ensures)
+held : (w : tie.After-write-now) → Holds (pageNow (asked (test w .before)) (entry w .args .sample)) (w .write-now .result) (w .write-now .last .0)
+held w = page-held (asked (test w .before)) (entry w .args .sample) (small w) (search needs) (w .write-now .ensures)
 
 good-requires : tie.Need-good-requires
 good-requires c κs = search needs
@@ -44,7 +59,7 @@ returns : tie.Need-returns
 returns c =
     let g = c .before .before in
     let a = first g .args in
-    page-bad-store (a .t1) (a .sample) (a .buffer .now) (sym (g .good2 .ensures) ∙ not-true (g .good2 .result) (c .before .if1 .taken)) (c .bare .ensures)
+    page-bad-store (asked g) (a .sample) (a .buffer .now) (sym (g .good2 .ensures) ∙ not-true (g .good2 .result) (c .before .if1 .taken)) (c .bare .ensures)
 
 bare-requires-2 : tie.Need-bare-requires-2
 bare-requires-2 c κs = search needs
@@ -53,15 +68,15 @@ returns-2 : tie.Need-returns-2
 returns-2 c =
     let i = c .before .before in
     let a = first (i .before) .args in
-    page-bad-sample (a .t1) (a .sample) (a .buffer .now) (good i) (search needs) (c .bare2 .ensures)
+    page-bad-sample (asked (i .before)) (a .sample) (a .buffer .now) (good i) (search needs) (c .bare2 .ensures)
 
 slice-aggregate-write-now : tie.Need-slice-aggregate-write-now
 slice-aggregate-write-now c = search needs
 
 write-now-requires : tie.Need-write-now-requires
 write-now-requires c κs =
-    let i = c .before .before .before .before .before .before .before .before in
-    (good-pageable (first (i .before) .args .t1) (good i), search needs, search needs)
+    let i = c .before .before in
+    (good-pageable (asked (i .before)) (good i), search needs, search needs)
 
 of-requires : tie.Need-of-requires
 of-requires c κs = search needs
@@ -70,7 +85,7 @@ returns-3 : tie.Need-returns-3
 returns-3 c =
     let w = c .before .before .before in
     let a = entry w .args in
-    page-too-small (a .t1) (a .sample) (a .buffer .now) (good (test w)) (small w) (held w) (search needs) (c .of .ensures)
+    page-too-small (asked (test w .before)) (a .sample) (a .buffer .now) (good (test w)) (small w) (held w) (search needs) (c .of .ensures)
 
 array-share-prefix-scratch : tie.Need-array-share-prefix-scratch
 array-share-prefix-scratch c = held (c .before .before .before) .room
@@ -91,10 +106,10 @@ returns-4 : tie.Need-returns-4
 returns-4 c =
     let w = c .before .before .before .before .before .before .before .before in
     let a = entry w .args in
-    page-done (a .t1) (a .sample) (a .buffer .now) (good (test w)) (small w) (held w) (search needs) (c .of2 .ensures) (c .before .before .before .lay .ensures)
+    page-done (asked (test w .before)) (a .sample) (a .buffer .now) (good (test w)) (small w) (held w) (search needs) (c .of2 .ensures) (c .before .before .before .lay .ensures)
 
-pub page-spec : {M : Type 1} → statement M
-page-spec =
+pub page-lent-spec : {M : Type 1} → statement M
+page-lent-spec =
     tie.close
     (tie.spec
     good-requires
