@@ -24,6 +24,10 @@ FreshensBehind plan = Gives (freshOutcome plan)
 abbrev pub StepsBehind : Store → ℕ → ℕ → ℕ → Answer → Store → Type 0
 StepsBehind before number x y = Gives (onStore (stepOf (stepRecord number x y) 0) before)
 
+-- The same whatever the second number.
+abbrev pub SearchesBehind : Store → ℕ → ℕ → Answer → Store → Type 0
+SearchesBehind before number x r after = (y : ℕ) → StepsBehind before number x y r after
+
 -- The store of the image, or the first fault and a fresh store of plan 1, whatever stood there.
 abbrev pub LoadsBehind : List ℕ → Answer → Store → Type 0
 LoadsBehind bytes = Gives (loadOutcome bytes)

@@ -1,9 +1,13 @@
 // The C interface (include/olipranj.h): the public calls over a store behind a pointer. A call that leaves the store as it is lends its columns
-// where they lie; a step reads it whole. The store that a call gives is written behind the pointer.
+// where they lie, and so does a step that alters the slots alone; the other steps read it whole. The store that a call gives is written behind
+// the pointer.
 ghost use Rattle.steps.specs.Promises.{Looks};
 ghost use Rattle.image.specs.Promises.{Saves};
 ghost use Rattle.page.specs.Promises.{Pages, ServesLength};
-ghost use Rattle.export.specs.Promises.{FreshensBehind, StepsBehind, LoadsBehind};
+ghost use Prim.Native.Nat.{_<_};
+ghost use Rattle.schedule.specs.Schedule.{CARRY};
+ghost use Rattle.export.specs.Promises.{FreshensBehind, StepsBehind, SearchesBehind, LoadsBehind};
+use schedule::Step;
 use store::Answer;
 use store::Store;
 
@@ -17,14 +21,45 @@ pub extern "C" fn olipranj_fresh(store: &mut Store, plan: u32) -> Answer
     outcome.answer
 }
 
+// A step past CARRY leaves the columns as they are: they are lent where they lie, and the slots alone are written.
+fn step_lent(store: &mut Store, number: u32, x: u32) -> Answer
+    requires { ⌜ CARRY < number ⌝ }
+    ensures { λ r. ⌜ SearchesBehind (now (store .entry)) number x r (now (store .exit)) ⌝ }
+{
+    let moved = runner::lent::moved(
+        store.plan,
+        store.clock,
+        &store.counts,
+        &store.keys,
+        &store.kinds,
+        &store.values,
+        &store.stamps,
+        store.slots,
+        number,
+        x,
+    );
+    store.slots = moved.slots;
+    moved.answer
+}
+
+// Any step, on the store read whole and written whole.
+fn step_whole(store: &mut Store, step: u32, x: u32, y: u32) -> Answer
+    ensures { λ r. ⌜ StepsBehind (now (store .entry)) step x y r (now (store .exit)) ⌝ }
+{
+    let outcome = runner::do_step(*store, step, x, y, 0);
+    *store = outcome.store;
+    outcome.answer
+}
+
 // One step by its number; an unknown one is OP with a 0, after BADSTORE.
 #[no_mangle]
 pub extern "C" fn olipranj_step(store: &mut Store, number: u32, x: u32, y: u32) -> Answer
     ensures { λ r. ⌜ StepsBehind (now (store .entry)) number x y r (now (store .exit)) ⌝ }
 {
-    let outcome = runner::do_step(*store, number, x, y, 0);
-    *store = outcome.store;
-    outcome.answer
+    if Step::CARRY < number {
+        return step_lent(store, number, x);
+    }
+    step_whole(store, number, x, y)
 }
 
 // A whole search at once.
