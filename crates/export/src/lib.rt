@@ -6,7 +6,7 @@ ghost use Rattle.image.specs.Promises.{Saves};
 ghost use Rattle.page.specs.Promises.{Pages, ServesLength};
 ghost use Prim.Native.Nat.{_<_};
 ghost use Rattle.schedule.specs.Schedule.{CARRY};
-ghost use Rattle.export.specs.Promises.{FreshensBehind, StepsBehind, SearchesBehind, LoadsBehind};
+ghost use Rattle.export.specs.Promises.{FreshensBehind, StepsBehind, SearchesBehind, EntersBehind, LoadsBehind};
 use schedule::Step;
 use store::Answer;
 use store::Store;
@@ -40,6 +40,31 @@ fn step_lent(store: &mut Store, number: u32, x: u32) -> Answer
     );
     store.slots = moved.slots;
     moved.answer
+}
+
+// An entry: decided on columns lent where they lie; then each column is written there.
+fn entry_lent(store: &mut Store, kind: u32, key: u32, value: u32) -> Answer
+    ensures { λ r. ⌜ EntersBehind (now (store .entry)) kind key value r (now (store .exit)) ⌝ }
+{
+    let stamp = store.clock;
+    let decision = entries::decision::decide(
+        store.plan,
+        stamp,
+        &store.counts,
+        &store.keys,
+        &store.kinds,
+        &store.values,
+        &store.stamps,
+        store.slots,
+        key,
+    );
+    entries::put(&mut store.keys, decision, key);
+    entries::put(&mut store.kinds, decision, kind);
+    entries::put(&mut store.values, decision, value);
+    entries::put(&mut store.stamps, decision, stamp);
+    entries::put_count(&mut store.counts, decision.count);
+    store.clock = decision.clock;
+    decision.answer
 }
 
 // Any step, on the store read whole and written whole.
