@@ -1,6 +1,6 @@
 // The C interface (include/olipranj.h): the public calls over a store behind a pointer. A call that leaves the store as it is lends its columns
-// where they lie, and so does a step that alters the slots alone; the other steps read it whole. The store that a call gives is written behind
-// the pointer.
+// where they lie; so do the steps past CARRY, which alter the slots alone, and the entries, which then write the columns there. The other
+// steps read the store whole and write it whole.
 ghost use Rattle.steps.specs.Promises.{Looks};
 ghost use Rattle.image.specs.Promises.{Saves};
 ghost use Rattle.page.specs.Promises.{Pages, ServesLength};
@@ -9,6 +9,7 @@ ghost use Rattle.schedule.specs.Schedule.{CARRY};
 ghost use Rattle.export.specs.Promises.{FreshensBehind, StepsBehind, SearchesBehind, EntersBehind, LoadsBehind};
 use schedule::Step;
 use store::Answer;
+use store::Copy;
 use store::Store;
 
 // A fresh store of the plan, or PLAN and a fresh store of plan 1.
@@ -67,7 +68,7 @@ fn entry_lent(store: &mut Store, kind: u32, key: u32, value: u32) -> Answer
     decision.answer
 }
 
-// Any step, on the store read whole and written whole.
+// A step on the store read whole and written whole.
 fn step_whole(store: &mut Store, step: u32, x: u32, y: u32) -> Answer
     ensures { λ r. ⌜ StepsBehind (now (store .entry)) step x y r (now (store .exit)) ⌝ }
 {
@@ -83,6 +84,12 @@ pub extern "C" fn olipranj_step(store: &mut Store, number: u32, x: u32, y: u32) 
 {
     if Step::CARRY < number {
         return step_lent(store, number, x);
+    }
+    if number == Step::ENTER {
+        return entry_lent(store, Copy::RESULT, x, y);
+    }
+    if number == Step::WITHDRAW {
+        return entry_lent(store, Copy::WITHDRAWN, x, 0);
     }
     step_whole(store, number, x, y)
 }
