@@ -1,7 +1,7 @@
 // Enter and withdraw. Document 01, "What each step does": "an entry either way".
 ghost use mathlib.Core.Path.{_≡_};
 ghost use Prim.Native.Nat.{_<_, _≤_};
-ghost use lib.ListN.{length};
+ghost use lib.ListN.{length, set};
 ghost use Rattle.steps.specs.Entries.{entry as entryStep};
 ghost use Rattle.steps.specs.Promises.{Enters, Withdraws};
 ghost use Rattle.store.specs.Calls.{onStore};
@@ -14,16 +14,23 @@ use store::Outcome;
 use store::Store;
 use store::columns;
 
-mod decision; // decision.rt: whether an entry is accepted, and where its copy stands
+pub mod decision; // decision.rt: whether an entry is accepted, and where its copy stands
 
 // A column after the entry: the number stands at the copy's place, unless the entry is refused.
-fn put(column: &mut [u32; Store::PLACES], decision: Decision, number: u32)
+pub fn put(column: &mut [u32; Store::PLACES], decision: Decision, number: u32)
     requires { ⌜ (decision .at ≤ decision .end) × (decision .end < width) × (length (now column) ≡ places) ⌝ }
     ensures { λ _. ⌜ now (column .exit) ≡ columnBy decision (now (column .entry)) number ⌝ }
 {
     if decision.accepted {
         columns::open(column, decision.at, decision.end, number);
     }
+}
+
+// The root's count after the entry.
+pub fn put_count(counts: &mut [u32; Store::NODES], count: u32)
+    ensures { λ _. ⌜ now (counts .exit) ≡ set (now (counts .entry)) 0 count ⌝ }
+{
+    counts[0] = count;
 }
 
 // An entry: decided first; then the columns are written where they lie, one by one. A refusal writes back what was there.

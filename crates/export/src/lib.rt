@@ -1,10 +1,15 @@
 // The C interface (include/olipranj.h): the public calls over a store behind a pointer. A call that leaves the store as it is lends its columns
-// where they lie; a step reads it whole. The store that a call gives is written behind the pointer.
+// where they lie; so do the steps past CARRY, which alter the slots alone, and the entries, which then write the columns there. The other
+// steps read the store whole and write it whole.
 ghost use Rattle.steps.specs.Promises.{Looks};
 ghost use Rattle.image.specs.Promises.{Saves};
 ghost use Rattle.page.specs.Promises.{Pages, ServesLength};
-ghost use Rattle.export.specs.Promises.{FreshensBehind, StepsBehind, LoadsBehind};
+ghost use Prim.Native.Nat.{_<_};
+ghost use Rattle.schedule.specs.Schedule.{CARRY};
+ghost use Rattle.export.specs.Promises.{FreshensBehind, StepsBehind, SearchesBehind, EntersBehind, LoadsBehind};
+use schedule::Step;
 use store::Answer;
+use store::Copy;
 use store::Store;
 
 // A fresh store of the plan, or PLAN and a fresh store of plan 1.
@@ -17,14 +22,76 @@ pub extern "C" fn olipranj_fresh(store: &mut Store, plan: u32) -> Answer
     outcome.answer
 }
 
+// A step past CARRY leaves the columns as they are: they are lent where they lie, and the slots alone are written.
+fn step_lent(store: &mut Store, number: u32, x: u32) -> Answer
+    requires { ⌜ CARRY < number ⌝ }
+    ensures { λ r. ⌜ SearchesBehind (now (store .entry)) number x r (now (store .exit)) ⌝ }
+{
+    let moved = runner::lent::moved(
+        store.plan,
+        store.clock,
+        &store.counts,
+        &store.keys,
+        &store.kinds,
+        &store.values,
+        &store.stamps,
+        store.slots,
+        number,
+        x,
+    );
+    store.slots = moved.slots;
+    moved.answer
+}
+
+// An entry: decided on columns lent where they lie; then each column is written there.
+fn entry_lent(store: &mut Store, kind: u32, key: u32, value: u32) -> Answer
+    ensures { λ r. ⌜ EntersBehind (now (store .entry)) kind key value r (now (store .exit)) ⌝ }
+{
+    let stamp = store.clock;
+    let decision = entries::decision::decide(
+        store.plan,
+        stamp,
+        &store.counts,
+        &store.keys,
+        &store.kinds,
+        &store.values,
+        &store.stamps,
+        store.slots,
+        key,
+    );
+    entries::put(&mut store.keys, decision, key);
+    entries::put(&mut store.kinds, decision, kind);
+    entries::put(&mut store.values, decision, value);
+    entries::put(&mut store.stamps, decision, stamp);
+    entries::put_count(&mut store.counts, decision.count);
+    store.clock = decision.clock;
+    decision.answer
+}
+
+// A step on the store read whole and written whole.
+fn step_whole(store: &mut Store, step: u32, x: u32, y: u32) -> Answer
+    ensures { λ r. ⌜ StepsBehind (now (store .entry)) step x y r (now (store .exit)) ⌝ }
+{
+    let outcome = runner::do_step(*store, step, x, y, 0);
+    *store = outcome.store;
+    outcome.answer
+}
+
 // One step by its number; an unknown one is OP with a 0, after BADSTORE.
 #[no_mangle]
 pub extern "C" fn olipranj_step(store: &mut Store, number: u32, x: u32, y: u32) -> Answer
     ensures { λ r. ⌜ StepsBehind (now (store .entry)) number x y r (now (store .exit)) ⌝ }
 {
-    let outcome = runner::do_step(*store, number, x, y, 0);
-    *store = outcome.store;
-    outcome.answer
+    if Step::CARRY < number {
+        return step_lent(store, number, x);
+    }
+    if number == Step::ENTER {
+        return entry_lent(store, Copy::RESULT, x, y);
+    }
+    if number == Step::WITHDRAW {
+        return entry_lent(store, Copy::WITHDRAWN, x, 0);
+    }
+    step_whole(store, number, x, y)
 }
 
 // A whole search at once.

@@ -15,6 +15,7 @@ use Rattle.store.specs.Layout.{stateOf, storeOf}
 use Rattle.store.specs.StoreRules.{goodStore}
 use Rattle.store.specs.Calls.{Effect, onStore}
 use Rattle.store.proofs.Lifting.{on-bad, on-way, good-back}
+use Rattle.searches.specs.Workers.{withSlots, Moves}
 use Rattle.schedule.specs.declared.Step.{Step}
 use Rattle.schedule.specs.Schedule.{stepRecord}
 use Rattle.schedule.specs.Running.{noStep, stepOf, unknownStep, runOutcome}
@@ -45,3 +46,11 @@ module _ (z : Store) (place : ℕ) where
   pub unknown-op : {a : Answer} → goodStore z ≡ true → a ≡ answer OP place 0 0 0
       → record { answer = a; store = z } ≡ onStore (λ p s. unknownStep place s) z
   unknown-op good e = rw e (on-way (λ p s. unknownStep place s) z good (answer OP place 0 0 0) (stateOf z) z refl (sym (good-back z good)))
+
+-- The same of its slots alone.
+module _ (z : Store) where
+  pub moves-bad : {a : Answer} → goodStore z ≡ false → a ≡ bare BADSTORE → Moves (λ p s. unknownStep 0 s) z (record { answer = a; slots = z .slots })
+  moves-bad bad e = unknown-bad z 0 bad (ap (λ (b : Answer). record { answer = b; store = withSlots (z .slots) z }) e)
+
+  pub moves-op : {a : Answer} → goodStore z ≡ true → a ≡ answer OP 0 0 0 0 → Moves (λ p s. unknownStep 0 s) z (record { answer = a; slots = z .slots })
+  moves-op good e = unknown-op z 0 good e

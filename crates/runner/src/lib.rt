@@ -10,6 +10,8 @@ use store::Answer;
 use store::Outcome;
 use store::Store;
 
+pub mod lent; // lent.rt: the steps that leave the columns as they are
+
 // An unknown step: OP with the place, after BADSTORE. The store is lent here alone, so that no other step copies it for that.
 fn unknown(store: Store, place: usize) -> Outcome
     ensures { λ r. ⌜ r ≡ onStore (λ p s. unknownStep place s) store ⌝ }

@@ -7,7 +7,7 @@ use store::Outcome;
 use store::Store;
 
 pub mod lines; // lines.rt: a look down one line's path, and the answers of ended searches
-mod slots; // slots.rt: what is done with the search slots
+pub mod slots; // slots.rt: what is done with the search slots
 
 // Start a search for a key: its slot. BADSTORE, or SLOTS where all run.
 pub fn start(mut store: Store, key: u32) -> Outcome
