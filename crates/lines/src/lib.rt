@@ -1,5 +1,4 @@
 // Printed lines: six numbers in decimal with single spaces, and a line feed. Document 01, "A schedule in full".
-ghost use mathlib.Core.Path.{_≡_};
 ghost use mathlib.Core.List.{[], _∷_, _++_};
 ghost use Prim.Native.Nat.{_+_, _≤_, _<_};
 ghost use lib.ListN.{length};

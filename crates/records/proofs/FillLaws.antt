@@ -1,21 +1,21 @@
 -- A list while records are laid down at its beginning, and what decoding has laid down at last. Assumes nothing.
-use mathlib.Core.Path.{_≡_, refl, sym, ap, _∙_}
+use mathlib.Core.Path.{_≡_, refl, ap, _∙_}
 use mathlib.Core.Bool.{true, false}
-use mathlib.Core.List.{List, [], _∷_, _++_}
+use mathlib.Core.List.{List, _++_}
 use mathlib.Core.Logic.{⊎-elim}
-use Prim.Native.Nat.{ℕ, zero, suc, _+_, _<_, _≤_}
+use Prim.Native.Nat.{ℕ, zero, suc, _+_, _≤_}
 use native.Mathlib.Omega.{arith}
 use native.Mathlib.Nat.{zero-add}
 use native.Mathlib.Numerals.{add-one}
 use lib.Dec.{ltb}
-use lib.ListN.{length, getD, take, drop, set, replicate, length-set, length-append, length-drop, length-replicate}
+use lib.ListN.{length, getD, take, drop, set, length-set, length-append}
 use lib.Seq.{paste-suc, take-append-seam}
 use borrow.Author.Tests.{ltb-false}
 use Rattle.lists.proofs.Truths.{bool?}
 use Rattle.store.specs.Answers.{SMALL}
-use Rattle.wire.specs.Reading.{Got, got, fault}
+use Rattle.wire.specs.Reading.{fault}
 use Rattle.schedule.specs.declared.Step.{Step}
-use Rattle.schedule.specs.Schedule.{mostSteps, Schedule, scheduleAt, recordsOf, decodeAnswer, decodeList}
+use Rattle.schedule.specs.Schedule.{mostSteps, scheduleAt, recordsOf, decodeAnswer, decodeList}
 use Rattle.schedule.specs.Running.{noStep}
 use Rattle.schedule.specs.Workers.{noSteps, laid, decodedOf, decodedInto}
 use Rattle.schedule.proofs.ScheduleLaws.{schedule-few}

@@ -1,25 +1,21 @@
 -- The stamp in reach from a key's next step, walked down node by node. Assumes nothing.
 use mathlib.Core.Path.{_≡_, sym, _∙_}
-use mathlib.Core.Bool.{true}
 use mathlib.Core.List.{List, []}
 use mathlib.Core.Option.{Option}
 use Prim.Native.Nat.{ℕ, _+_, _-_, _*_, _<_, _≤_}
 use native.Mathlib.Omega.{arith}
 use lib.ListN.{getD}
 use Rattle.lists.specs.Runs.{run}
-use Rattle.lists.proofs.Truths.{both-le}
 use Rattle.plan.specs.declared.Hop.{Hop}
 use Rattle.plan.specs.declared.Hop.the-variants.{To, Ends}
 use Rattle.plan.specs.Plan.{Plan, size, next, walk}
 use Rattle.plan.specs.PlanRules.{PlanRules}
-use Rattle.plan.specs.PlanTable.{planOf, plans}
+use Rattle.plan.specs.PlanTable.{planOf}
 use Rattle.plan.proofs.NextLaws.{next-down}
-use Rattle.plan.proofs.TableLaws.{table-rules}
 use Rattle.store.specs.declared.Copy.{Copy}
 use Rattle.store.specs.Copies.{keyOf, find, stampOf}
 use Rattle.store.specs.State.{line, firstOn, orElse, inReach}
 use Rattle.store.specs.Layout.{width, copyIn, nodeIn, nodeOf, stateOf}
-use Rattle.store.specs.StoreRules.{planNumberTest}
 use Rattle.store.specs.Workers.{numberIn, placeIn, Ordered}
 use Rattle.store.proofs.Laying.{state-node}
 use Rattle.store.proofs.Halving.{found-at, none-at}

@@ -1,20 +1,19 @@
 -- Decoding never looks further than its first 2818 bytes: so many of any bytes, or more, are decoded as all of them are. Assumes nothing.
 use mathlib.Core.Path.{_≡_, refl, ap, _∙_}
 use mathlib.Core.Bool.{Bool, true, false, cond}
-use mathlib.Core.List.{List, [], _∷_}
+use mathlib.Core.List.{List, []}
 use Prim.Native.Nat.{ℕ, zero, suc, _+_, _*_, _<_, _≤_}
 use native.Mathlib.Omega.{arith}
 use lib.Dec.{leb}
-use lib.ListN.{length, getD, take, length-take}
+use lib.ListN.{length, take, length-take}
 use lib.Seq.{getD-take}
 use borrow.Author.Tests.{leb-true, le-leb}
 use Rattle.lists.proofs.Truths.{same-test}
 use Rattle.number.specs.Number.{Bytes, lastByte, moreBytes, readIn, readAt}
-use Rattle.store.specs.Answers.{PLAN, OP, MANY}
+use Rattle.store.specs.Answers.{PLAN, OP}
 use Rattle.store.specs.StoreRules.{planNumberTest}
 use Rattle.wire.specs.Reading.{Got, got, fault, bind, numbered, numberAt}
-use Rattle.schedule.specs.declared.Step.{Step}
-use Rattle.schedule.specs.Schedule.{CANCEL, mostSteps, Schedule, stepRecord, knownStep, hasTwo, secondAt, stepAt, stepsAt, scheduleAt}
+use Rattle.schedule.specs.Schedule.{mostSteps, knownStep, secondAt, stepAt, stepsAt, scheduleAt}
 use Rattle.schedule.proofs.ScheduleLaws.{number-given, step-given, known-between, plan-small}
 
 -- The plan in one byte, and 256 steps of 11.

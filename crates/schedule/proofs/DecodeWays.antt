@@ -6,7 +6,7 @@ use Prim.Native.Nat.{ℕ, zero, suc, _+_, _-_, _<_, _≤_}
 use native.Mathlib.Omega.{arith}
 use native.Mathlib.Numerals.{add-one}
 use lib.Dec.{leb, eqb}
-use lib.ListN.{length, drop, set, length-append, length-drop}
+use lib.ListN.{length, drop, set, length-append}
 use lib.Seq.{drop-cons, append-snoc, set-append-seam}
 use borrow.Author.Tests.{lt-ltb, le-ltb, lt-leb, le-leb, eq-eqb, ne-eqb}
 use Rattle.lists.proofs.Truths.{not-both}

@@ -1,8 +1,8 @@
 -- The runner, and the lines that the program prints. Document 01, "Bytes" and "A schedule in full".
-use mathlib.Core.Bool.{Bool, cond}
+use mathlib.Core.Bool.{cond}
 use mathlib.Core.List.{List, [], _∷_}
 use Prim.Native.Nat.{ℕ}
-use lib.Dec.{ltb, eqb}
+use lib.Dec.{eqb}
 use lib.ListN.{length, getD}
 use Rattle.plan.specs.Plan.{Plan}
 use Rattle.store.specs.declared.Answer.{Answer}

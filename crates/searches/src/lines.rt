@@ -25,7 +25,7 @@ pub struct Seen {
 
 // "A whole search at once": node by node, until one has a copy of the key, a withdrawn one included, or the path ends. The plan's arrays are
 // taken once by who looks, and lent.
-pub fn look_down<'a>(
+fn look_down<'a>(
     plan: u32,
     edges: &'a [u32; plan::MOST_NODES],
     lows: &'a [[u32; plan::MOST_EDGES]; plan::MOST_NODES],

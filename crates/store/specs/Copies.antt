@@ -1,6 +1,5 @@
 -- Copies, and the look in one node. Document 01, "Lines, copies, plans" and "What each step does".
 -- The lists here are of any things with a key: copies, and in the proofs also keys alone and places.
-use mathlib.Core.Path.{_≡_}
 use mathlib.Core.Bool.{Bool, true, false, cond, not, _&&_, _||_}
 use mathlib.Core.List.{List, [], _∷_}
 use mathlib.Core.Option.{Option, none, some}

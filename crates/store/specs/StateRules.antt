@@ -5,7 +5,6 @@ use Prim.Native.Nat.{ℕ, suc, _<_, _≤_}
 use lib.ListN.{length, getD}
 use Rattle.plan.specs.Plan.{Plan, size, capacityOf, path}
 use Rattle.store.specs.declared.Copy.{Copy}
-use Rattle.store.specs.declared.Slot.{Slot}
 use Rattle.store.specs.Copies.{WITHDRAWN, RESULT}
 use Rattle.store.specs.State.{State, nodeAt, copyAt, slotAt, idle, lastClock, slotCount}
 

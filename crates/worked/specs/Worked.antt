@@ -3,16 +3,14 @@ use mathlib.Core.Path.{_≡_}
 use mathlib.Core.List.{List, [], _∷_}
 use Prim.Native.Nat.{ℕ}
 use lib.ListN.{replicate}
-use Rattle.plan.specs.PlanTable.{planOf}
 use Rattle.store.specs.declared.Answer.{Answer}
 use Rattle.store.specs.declared.Store.{Store}
 use Rattle.store.specs.Answers.{DONE, CLOCK, FULL, SLOT, IDLE, SAMPLE, CUT, answer, bare}
-use Rattle.store.specs.State.{State, slotCount, idle, fresh}
+use Rattle.store.specs.State.{slotCount, idle}
 use Rattle.store.specs.Layout.{storeOf, freshStore}
 use Rattle.store.specs.Calls.{onStore, ofStore}
 use Rattle.steps.specs.Searches.{lookAnswer}
 use Rattle.wire.specs.Reading.{Got, got, fault}
-use Rattle.image.specs.Image.{image}
 use Rattle.image.specs.Loading.{loadOutcome}
 use Rattle.image.specs.Promises.{saveBuffer}
 use Rattle.page.specs.Promises.{pageAnswer, pageBuffer}

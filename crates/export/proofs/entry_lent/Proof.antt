@@ -46,7 +46,6 @@ use denote.Exit.{yes}
 use Rattle.store.specs.declared.Store.{Store}
 use Rattle.store.specs.declared.Answer.{Answer}
 use Rattle.store.specs.declared.Outcome.{Outcome}
-use Rattle.store.specs.Calls.{onStore}
 use Rattle.store.specs.Layout.{width, places}
 use Rattle.store.proofs.Store as S
 use Rattle.store.proofs.Store.Laws as S′
@@ -54,7 +53,6 @@ use Rattle.store.proofs.Answer as R
 use Rattle.store.proofs.Answer.Laws as R′
 use Rattle.store.proofs.Slot as Q
 use Rattle.store.proofs.Slot.Laws as Q′
-use Rattle.steps.specs.Entries.{entry}
 use Rattle.entries.specs.declared.decision.Decision.{Decision}
 use Rattle.entries.specs.Decisions.{columnBy, outcomeBy, Decides}
 use Rattle.entries.proofs.decision.Decision as Dc
