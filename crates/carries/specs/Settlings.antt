@@ -11,6 +11,7 @@ use Rattle.store.specs.Answers.{bare}
 use Rattle.store.specs.Layout.{width}
 use Rattle.store.specs.StoreRules.{goodStore}
 use Rattle.store.specs.Calls.{onStore}
+use Rattle.store.specs.Workers.{ofParts}
 use Rattle.steps.specs.Carries.{carryStep}
 use Rattle.carries.specs.declared.settling.Settled.{Settled}
 use Rattle.carries.specs.Writings.{Movable, carriedColumn}
@@ -57,20 +58,6 @@ pub record Settles (z : Store) (n i : ℕ) (stay target : List ℕ) (r : Settled
   pub movable : Movable (take (r .kept) stay) (take (r .got) target) (r .from) (r .had) (r .start)
   pub outcome : record { answer = r .answer; store = settledStore stay target r z } ≡ onStore (carryStep n i) z
 
--- A store by its parts: those that a carry is settled by, and the others.
-abbrev pub whole : ℕ → List ℕ → List ℕ → ℕ → List ℕ → List ℕ → List ℕ → List Slot → Store
-whole plan counts keys clock kinds values stamps slots =
-    record {
-      plan = plan;
-      clock = clock;
-      counts = counts;
-      keys = keys;
-      kinds = kinds;
-      values = values;
-      stamps = stamps;
-      slots = slots;
-    }
-
 -- The plan number, counts and keys of a good store, whatever else it holds.
 pub record OfGood (plan : ℕ) (counts keys : List ℕ) : Type 0 where
   pub clock : ℕ
@@ -78,10 +65,10 @@ pub record OfGood (plan : ℕ) (counts keys : List ℕ) : Type 0 where
   pub values : List ℕ
   pub stamps : List ℕ
   pub slots : List Slot
-  pub good : goodStore (whole plan counts keys clock kinds values stamps slots) ≡ true
+  pub good : goodStore (ofParts plan clock counts keys kinds values stamps slots) ≡ true
 
 -- What is settled by them, whatever else the good store holds.
 abbrev pub SettlesIn : ℕ → List ℕ → List ℕ → ℕ → ℕ → List ℕ → List ℕ → Settled → Type 0
 SettlesIn plan counts keys n i stay target r =
-    (clock : ℕ) (kinds values stamps : List ℕ) (slots : List Slot) → goodStore (whole plan counts keys clock kinds values stamps slots) ≡ true
-    → Settles (whole plan counts keys clock kinds values stamps slots) n i stay target r
+    (clock : ℕ) (kinds values stamps : List ℕ) (slots : List Slot) → goodStore (ofParts plan clock counts keys kinds values stamps slots) ≡ true
+    → Settles (ofParts plan clock counts keys kinds values stamps slots) n i stay target r

@@ -6,8 +6,8 @@ ghost use Rattle.plan.specs.PlanRules.{IsEdge};
 ghost use Rattle.plan.specs.PlanTable.{planOf};
 ghost use Rattle.store.specs.Answers.{DONE, answer};
 ghost use Rattle.store.specs.Layout.{width};
-ghost use Rattle.store.specs.Workers.{Sized};
-ghost use Rattle.carries.specs.Settlings.{nothing, whole, OfGood, Settles, SettlesIn};
+ghost use Rattle.store.specs.Workers.{Sized, ofParts};
+ghost use Rattle.carries.specs.Settlings.{nothing, OfGood, Settles, SettlesIn};
 use crate::decision::count_held;
 use crate::decision::decide;
 use store::Answer;
@@ -116,7 +116,7 @@ pub fn settle<'a>(
     edge: u32,
 ) -> Settled
     requires { ⌜ Sized (now counts) (now keys) (now kinds) (now values) (now stamps) × (length (now stay) ≡ width) × (length (now target) ≡ width) ⌝ }
-    ensures { λ r. ⌜ Settles (whole plan (now (counts .entry)) (now (keys .entry)) clock (now (kinds .entry)) (now (values .entry)) (now (stamps .entry)) slots) node edge (now (stay .exit)) (now (target .exit)) r ⌝ }
+    ensures { λ r. ⌜ Settles (ofParts plan clock (now (counts .entry)) (now (keys .entry)) (now (kinds .entry)) (now (values .entry)) (now (stamps .entry)) slots) node edge (now (stay .exit)) (now (target .exit)) r ⌝ }
 {
     let first = counts[0];
     if !rules::good(plan, clock, counts, keys, kinds, values, stamps, slots) {

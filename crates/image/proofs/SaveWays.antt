@@ -1,5 +1,5 @@
 -- Why save gives what it promises: one law for each way out. Assumes nothing.
-use mathlib.Core.Path.{_≡_, refl, sym, ap, _∙_}
+use mathlib.Core.Path.{_≡_, sym, ap, _∙_}
 use mathlib.Core.Bool.{true, false}
 use mathlib.Core.List.{List}
 use Prim.Native.Nat.{ℕ, _<_, _≤_}
@@ -26,10 +26,6 @@ use Rattle.image.specs.Workers.{Columns, columns, imageIn, WithinPlaces}
 -- The columns of a store, and its image from them.
 abbrev pub columnsIn : Store → Columns
 columnsIn z = columns (z .keys) (z .kinds) (z .values) (z .stamps)
-
-image-in : (z : Store) → imageIn (z .plan) (z .clock) (z .counts) (columnsIn z) ≡ image z
-unfolding stateOf imageOf
-image-in z = refl
 
 -- A bad store.
 pub save-bad : (z : Store) (before : List ℕ) {r : Answer} → goodStore z ≡ false → r ≡ bare BADSTORE → Saves z before r before

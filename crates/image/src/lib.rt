@@ -5,7 +5,7 @@ ghost use lib.ListN.{length, replicate};
 ghost use Rattle.plan.specs.Sizes.{mostNodes};
 ghost use Rattle.store.specs.State.{slotCount, idle};
 ghost use Rattle.store.specs.StoreRules.{planNumberTest};
-ghost use Rattle.store.specs.Workers.{Sized};
+ghost use Rattle.store.specs.Workers.{Sized, ofParts};
 ghost use Rattle.wire.specs.Reading.{got};
 ghost use Rattle.image.specs.Loading.{nodesFrom, refusedLoad, copiesHeld, finished};
 ghost use Rattle.image.specs.Promises.{Saves, Loads};
@@ -35,7 +35,7 @@ pub fn save_lent<'a>(
     buffer: &mut [u8],
 ) -> Answer
     requires { ⌜ Sized (now counts) (now keys) (now kinds) (now values) (now stamps) ⌝ }
-    ensures { λ r. ⌜ Saves (record { plan = plan; clock = clock; counts = now (counts .entry); keys = now (keys .entry); kinds = now (kinds .entry); values = now (values .entry); stamps = now (stamps .entry); slots = slots }) (now (buffer .entry)) r (now (buffer .exit)) ⌝ }
+    ensures { λ r. ⌜ Saves (ofParts plan clock (now (counts .entry)) (now (keys .entry)) (now (kinds .entry)) (now (values .entry)) (now (stamps .entry)) slots) (now (buffer .entry)) r (now (buffer .exit)) ⌝ }
 {
     if !rules::good(plan, clock, counts, keys, kinds, values, stamps, slots) {
         return Answer::bare(Answer::BADSTORE);

@@ -8,8 +8,8 @@ use native.Mathlib.Omega.{arith}
 use native.Mathlib.Numerals.{add-one}
 use native.Mathlib.Nat.{add-zero}
 use lib.Dec.{ltb}
-use lib.ListN.{length, getD, set, take, drop, length-append, length-drop, drop-of-length-le, List·getD-append}
-use lib.Seq.{sets, sets-eq, length-sets, length-take-le, drop-cons, drop-drop, drop-length, take-at, drop-at, drop-append-seam, getD-drop, getD-set-other}
+use lib.ListN.{length, getD, set, take, drop, length-append, length-drop, drop-of-length-le}
+use lib.Seq.{sets, sets-eq, length-sets, length-take-le, drop-cons, drop-drop, drop-length, drop-at, drop-append-seam}
 use borrow.Author.Tests.{ltb-true, ltb-false}
 use Rattle.lists.specs.Stands.{Stands, Wrote}
 
@@ -88,20 +88,6 @@ module _ {A : Type 0} where
   pub stands-front : (l t : List A) → Stands (l ++ t) 0 l (length l)
   stands-front l t = record { here = ap (λ (r : List A). l ++ r) (sym (drop-append-seam l t)); width = omega arith }
 
-  -- Each element of a run stands in the list at its own place.
-  pub stands-element : {s : List A} {at : ℕ} (d : A) {l : List A} {next : ℕ} → Stands s at l next → (i : ℕ) → i < length l
-      → getD s (at + i) d ≡ getD l i d
-  stands-element {s} {at} d {l} {next} h i g =
-      sym (getD-drop at s i d) ∙ ap (λ (t : List A). getD t i d) (h .here) ∙ List·getD-append l (drop next s) d i g
-
-  -- Between two places stands one run only.
-  pub stands-same : {s : List A} {at : ℕ} {l k : List A} {next : ℕ} → Stands s at l next → Stands s at k next → l ≡ k
-  stands-same {s} {at} {l} {k} {next} a b =
-      let v = a .width in
-      let w = b .width in
-      let e : length k ≡ length l = omega arith in
-      sym (take-at l (drop next s) (length l) refl) ∙ ap (take (length l)) (sym (a .here) ∙ b .here) ∙ take-at k (drop next s) (length l) e
-
   -- What is left from a place on is the run that stands there and what is left after it.
   pub stands-lengths : {s : List A} {at : ℕ} {l : List A} {next : ℕ} → Stands s at l next → length s - at ≡ length l + (length s - next)
   stands-lengths {s} {at} {l} {next} h =
@@ -160,24 +146,6 @@ module _ {A : Type 0} where
             ∙ ap (λ (r : List A). l ++ r) (sym p);
         width = w .to;
       }
-
-  -- A write leaves each element before its place as it was.
-  pub wrote-before : {b : List A} {at : ℕ} {l : List A} {next : ℕ} {c : List A} (d : A) → Wrote b at l next c → (i : ℕ) → i < at
-      → getD c i d ≡ getD b i d
-  wrote-before {b} {at} {l} d w i h = ap (λ (t : List A). getD t i d) (w .holds) ∙ go l b at h
-    where
-      go : (l b : List A) (at : ℕ) → i < at → getD (sets b at l) i d ≡ getD b i d
-      go [] b at h = refl
-      go (x ∷ l) b at h = go l (set b at x) (suc at) (omega arith) ∙ getD-set-other b at i x d (omega arith)
-
-  -- A write leaves each element from its end on as it was.
-  pub wrote-after : {b : List A} {at : ℕ} {l : List A} {next : ℕ} {c : List A} (d : A) → Wrote b at l next c → (i : ℕ) → next ≤ i
-      → getD c i d ≡ getD b i d
-  wrote-after {b} {at} {l} d w i h = ap (λ (t : List A). getD t i d) (w .holds) ∙ go l b at (let e = w .to in omega arith)
-    where
-      go : (l b : List A) (at : ℕ) → at + length l ≤ i → getD (sets b at l) i d ≡ getD b i d
-      go [] b at h = refl
-      go (x ∷ l) b at h = go l (set b at x) (suc at) (omega arith) ∙ getD-set-other b at i x d (omega arith)
 
   -- A list stands in itself, from its beginning to its end.
   pub stands-itself : (l : List A) → Stands l 0 l (length l)

@@ -4,7 +4,7 @@ ghost use lib.ListN.{length};
 ghost use Rattle.lists.specs.Stands.{Wrote};
 ghost use Rattle.plan.specs.PlanTable.{planOf};
 ghost use Rattle.store.specs.Layout.{stateOf};
-ghost use Rattle.store.specs.Workers.{holding, Sized};
+ghost use Rattle.store.specs.Workers.{holding, Sized, ofParts};
 ghost use Rattle.page.specs.Page.{lastSample, mostPageBytes, pageOf};
 ghost use Rattle.page.specs.Promises.{Pages, ServesLength, Serves};
 ghost use Rattle.page.specs.Workers.{Pageable};
@@ -54,7 +54,7 @@ pub fn page_lent<'a>(
     buffer: &mut [u8],
 ) -> Answer
     requires { ⌜ Sized (now counts) (now keys) (now kinds) (now values) (now stamps) ⌝ }
-    ensures { λ r. ⌜ Pages (record { plan = plan; clock = clock; counts = now (counts .entry); keys = now (keys .entry); kinds = now (kinds .entry); values = now (values .entry); stamps = now (stamps .entry); slots = slots }) sample (now (buffer .entry)) r (now (buffer .exit)) ⌝ }
+    ensures { λ r. ⌜ Pages (ofParts plan clock (now (counts .entry)) (now (keys .entry)) (now (kinds .entry)) (now (values .entry)) (now (stamps .entry)) slots) sample (now (buffer .entry)) r (now (buffer .exit)) ⌝ }
 {
     if !rules::good(plan, clock, counts, keys, kinds, values, stamps, slots) {
         return Answer::bare(Answer::BADSTORE);
@@ -114,7 +114,7 @@ pub fn served_length_lent<'a>(
     kept: &[u8],
 ) -> usize
     requires { ⌜ Sized (now counts) (now keys) (now kinds) (now values) (now stamps) ⌝ }
-    ensures { λ r. ⌜ ServesLength (record { plan = plan; clock = clock; counts = now (counts .entry); keys = now (keys .entry); kinds = now (kinds .entry); values = now (values .entry); stamps = now (stamps .entry); slots = slots }) sample (now (kept .entry)) r ⌝ }
+    ensures { λ r. ⌜ ServesLength (ofParts plan clock (now (counts .entry)) (now (keys .entry)) (now (kinds .entry)) (now (values .entry)) (now (stamps .entry)) slots) sample (now (kept .entry)) r ⌝ }
 {
     if !rules::good(plan, clock, counts, keys, kinds, values, stamps, slots) {
         return 0;

@@ -129,10 +129,6 @@ next-edge p n k t e = go (decLt n (size p))
 pub next-in-plan : (p : Plan) (n k t : ℕ) → next p n k ≡ To t → n < size p
 next-in-plan p n k t e = next-edge p n k t e .1 .is-edge .node
 
-pub past-ends : (p : Plan) (n k : ℕ) → size p ≤ n → next p n k ≡ Ends
-unfolding next firstEdge
-past-ends p n k h = ap (λ (es : List Edge). firstEdge es k) (no-edges p n h)
-
 module _ (p : Plan) (rules : PlanRules p) where
   -- The next step goes down: to a node of the plan with a greater number.
   pub next-down : (n k t : ℕ) → next p n k ≡ To t → (n < t) × (t < size p)

@@ -163,16 +163,9 @@ module _ (p : Plan) (rules : PlanRules p) (k : ℕ) where
       go (no q) (yes r) = absurd (omega (arith, path-down j i r h))
       go (no q) (no r) = omega arith
 
-  -- From a node of the path on, the rest of it is that node's path.
-  pub rest-of-path : (i : ℕ) → i < length (path p k) → drop i (path p k) ≡ pathFrom p k (getD (path p k) i 0)
-  rest-of-path i h = one-path (λ m. next p m k) (path-rest (λ m. next p m k) root-path i h) (path-is (getD (path p k) i 0) (path-in-plan i h))
-
   -- A key's path has at least two nodes, and so an edge, since the root covers every key.
   pub two-on-path : k ≤ lastKey → 2 ≤ length (path p k)
   two-on-path h =
       let w = root-next p rules k h in
       let d = down 0 (w .0) (w .1) in
       rw (path-goes 0 (w .0) (root-in-plan p rules) (w .1)) (omega (arith, path-some (λ m. next p m k) (path-is (w .0) (d .1))))
-
-  pub edge-on-path : k ≤ lastKey → 1 ≤ edgesOn p k
-  edge-on-path h = omega (arith, two-on-path h)

@@ -1,7 +1,7 @@
 // The check of all store rules, on lent columns. Document 01, "Store rules". Its three parts are crates of their own.
 ghost use mathlib.Core.Path.{_≡_};
 ghost use Rattle.store.specs.StoreRules.{goodStore};
-ghost use Rattle.store.specs.Workers.{Sized};
+ghost use Rattle.store.specs.Workers.{Sized, ofParts};
 use store::Slot;
 use store::Store;
 
@@ -17,7 +17,7 @@ pub fn good<'a>(
     slots: [Slot; Store::SLOTS],
 ) -> bool
     requires { ⌜ Sized (now counts) (now keys) (now kinds) (now values) (now stamps) ⌝ }
-    ensures { λ r. ⌜ r ≡ goodStore (record { plan = plan; clock = clock; counts = now (counts .entry); keys = now (keys .entry); kinds = now (kinds .entry); values = now (values .entry); stamps = now (stamps .entry); slots = slots }) ⌝ }
+    ensures { λ r. ⌜ r ≡ goodStore (ofParts plan clock (now (counts .entry)) (now (keys .entry)) (now (kinds .entry)) (now (values .entry)) (now (stamps .entry)) slots) ⌝ }
 {
     if plan < 1 {
         return false;

@@ -1,5 +1,5 @@
 // The steps that leave the columns as they are, searches and unknown ones, on columns lent where they lie.
-ghost use Rattle.store.specs.Workers.{Sized};
+ghost use Rattle.store.specs.Workers.{Sized, ofParts};
 ghost use Prim.Native.Nat.{_<_};
 ghost use Rattle.schedule.specs.Schedule.{CARRY};
 ghost use Rattle.schedule.specs.Running.{unknownStep};
@@ -24,7 +24,7 @@ fn unknown_in<'a>(
     slots: [Slot; Store::SLOTS],
 ) -> Moved
     requires { ⌜ Sized (now counts) (now keys) (now kinds) (now values) (now stamps) ⌝ }
-    ensures { λ r. ⌜ Moves (λ p s. unknownStep 0 s) (record { plan = plan; clock = clock; counts = now (counts .entry); keys = now (keys .entry); kinds = now (kinds .entry); values = now (values .entry); stamps = now (stamps .entry); slots = slots }) r ⌝ }
+    ensures { λ r. ⌜ Moves (λ p s. unknownStep 0 s) (ofParts plan clock (now (counts .entry)) (now (keys .entry)) (now (kinds .entry)) (now (values .entry)) (now (stamps .entry)) slots) r ⌝ }
 {
     if !rules::good(plan, clock, counts, keys, kinds, values, stamps, slots) {
         return Moved {
@@ -52,7 +52,7 @@ pub fn moved<'a>(
     x: u32,
 ) -> Moved
     requires { ⌜ Sized (now counts) (now keys) (now kinds) (now values) (now stamps) × (CARRY < number) ⌝ }
-    ensures { λ r. ⌜ MovesBy number x (record { plan = plan; clock = clock; counts = now (counts .entry); keys = now (keys .entry); kinds = now (kinds .entry); values = now (values .entry); stamps = now (stamps .entry); slots = slots }) r ⌝ }
+    ensures { λ r. ⌜ MovesBy number x (ofParts plan clock (now (counts .entry)) (now (keys .entry)) (now (kinds .entry)) (now (values .entry)) (now (stamps .entry)) slots) r ⌝ }
 {
     if number == Step::START {
         return slots::start_in(plan, clock, counts, keys, kinds, values, stamps, slots, x);

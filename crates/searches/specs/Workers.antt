@@ -16,7 +16,7 @@ use Rattle.store.specs.Copies.{foundOf}
 use Rattle.store.specs.State.{State, slotCount, idle, line, current}
 use Rattle.store.specs.Layout.{stateOf}
 use Rattle.store.specs.Calls.{Effect, onStore}
-use Rattle.store.specs.Workers.{Ordered}
+use Rattle.store.specs.Workers.{Ordered, ofParts}
 use Rattle.steps.specs.Searches.{startStep, stepStep, cancelStep, visitsOn}
 use Rattle.searches.specs.declared.lines.Seen.{Seen}
 use Rattle.searches.specs.declared.slots.Moved.{Moved}
@@ -76,7 +76,7 @@ StepsIn plan counts keys kinds values stamps slots slot r =
     ≡ movedBy
     (stepStep slot (planOf plan)
     (stateOf
-    (record { plan = plan; clock = clock; counts = counts; keys = keys; kinds = kinds; values = values; stamps = stamps; slots = slots })))
+    (ofParts plan clock counts keys kinds values stamps slots)))
 
 -- The store with other slots.
 abbrev pub withSlots : List Slot → Store → Store

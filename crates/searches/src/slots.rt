@@ -2,7 +2,7 @@
 ghost use mathlib.Core.Path.{_≡_};
 ghost use Prim.Native.Nat.{_<_};
 ghost use Rattle.store.specs.State.{slotCount, idle};
-ghost use Rattle.store.specs.Workers.{Sized};
+ghost use Rattle.store.specs.Workers.{Sized, ofParts};
 ghost use Rattle.steps.specs.Searches.{running, startStep, stepStep, cancelStep};
 ghost use Rattle.searches.specs.Workers.{wrote, kept, Steppable, Running, StartsIn, CancelsIn, StepsIn, Moves};
 use crate::lines;
@@ -174,7 +174,7 @@ pub fn start_in<'a>(
     key: u32,
 ) -> Moved
     requires { ⌜ Sized (now counts) (now keys) (now kinds) (now values) (now stamps) ⌝ }
-    ensures { λ r. ⌜ Moves (startStep key) (record { plan = plan; clock = clock; counts = now (counts .entry); keys = now (keys .entry); kinds = now (kinds .entry); values = now (values .entry); stamps = now (stamps .entry); slots = slots }) r ⌝ }
+    ensures { λ r. ⌜ Moves (startStep key) (ofParts plan clock (now (counts .entry)) (now (keys .entry)) (now (kinds .entry)) (now (values .entry)) (now (stamps .entry)) slots) r ⌝ }
 {
     if !rules::good(plan, clock, counts, keys, kinds, values, stamps, slots) {
         return refused(Answer::BADSTORE, slots);
@@ -195,7 +195,7 @@ pub fn step_in<'a>(
     slot: u32,
 ) -> Moved
     requires { ⌜ Sized (now counts) (now keys) (now kinds) (now values) (now stamps) ⌝ }
-    ensures { λ r. ⌜ Moves (stepStep slot) (record { plan = plan; clock = clock; counts = now (counts .entry); keys = now (keys .entry); kinds = now (kinds .entry); values = now (values .entry); stamps = now (stamps .entry); slots = slots }) r ⌝ }
+    ensures { λ r. ⌜ Moves (stepStep slot) (ofParts plan clock (now (counts .entry)) (now (keys .entry)) (now (kinds .entry)) (now (values .entry)) (now (stamps .entry)) slots) r ⌝ }
 {
     if !rules::good(plan, clock, counts, keys, kinds, values, stamps, slots) {
         return refused(Answer::BADSTORE, slots);
@@ -216,7 +216,7 @@ pub fn cancel_in<'a>(
     slot: u32,
 ) -> Moved
     requires { ⌜ Sized (now counts) (now keys) (now kinds) (now values) (now stamps) ⌝ }
-    ensures { λ r. ⌜ Moves (cancelStep slot) (record { plan = plan; clock = clock; counts = now (counts .entry); keys = now (keys .entry); kinds = now (kinds .entry); values = now (values .entry); stamps = now (stamps .entry); slots = slots }) r ⌝ }
+    ensures { λ r. ⌜ Moves (cancelStep slot) (ofParts plan clock (now (counts .entry)) (now (keys .entry)) (now (kinds .entry)) (now (values .entry)) (now (stamps .entry)) slots) r ⌝ }
 {
     if !rules::good(plan, clock, counts, keys, kinds, values, stamps, slots) {
         return refused(Answer::BADSTORE, slots);

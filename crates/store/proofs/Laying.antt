@@ -8,7 +8,7 @@ use native.Mathlib.Decide.{decLt, ℕ-discrete}
 use lib.ListN.{length, getD, set, replicate, length-set, length-map, length-append, length-replicate, getD-replicate, List·getD-append, List·getD-eq-default}
 use lib.Seq.{ext-getD, sets, length-sets, getD-append-seam, getD-append-add, getD-set-same, getD-set-other}
 use Rattle.lists.specs.Runs.{run}
-use Rattle.lists.proofs.Running.{length-run, getD-run, getD-run-0, as-run, map-run}
+use Rattle.lists.proofs.Running.{length-run, getD-run, getD-run-0, as-run}
 use Rattle.lists.proofs.Storing.{sets-below, sets-past, sets-inside, set-run, getD-same, getD-map}
 use Rattle.plan.specs.Sizes.{mostNodes}
 use Rattle.plan.specs.Plan.{Plan, size}
@@ -33,12 +33,6 @@ module _ (counts keys kinds values stamps : List ℕ) (n : ℕ) where
       → getD (nodeIn counts keys kinds values stamps n) i noCopy ≡ copyIn keys kinds values stamps (width * n + i)
   unfolding nodeIn
   node-in-copy i h = getD-run (copyIn keys kinds values stamps) (width * n) (getD counts n 0) i noCopy h
-
-  -- One number of each of its copies is a run of places: with the key the run of `λ i. getD keys i 0`, and so for the other columns.
-  pub node-in-part : (part : Copy → ℕ)
-      → map part (nodeIn counts keys kinds values stamps n) ≡ run (width * n) (getD counts n 0) (λ i. part (copyIn keys kinds values stamps i))
-  unfolding nodeIn
-  node-in-part part = map-run part (copyIn keys kinds values stamps) (width * n) (getD counts n 0)
 
   -- A look among its places is a look in it.
   pub node-looked : (k : ℕ)
@@ -211,20 +205,6 @@ copy-written part ns n i x in-list few held fits =
     here j h (no e) =
         getD-set-other c (width * n + i) (width * n + j) (part x) 0 (λ same. e (omega arith)) ∙ place-at part ns n j few h
         ∙ ap part (sym (getD-set-other xs i j x noCopy e))
-
--- A column where two nodes are written, as a carry does.
-pub two-written : {n t : ℕ} {xs ys : List Copy} {ns ls ms : List (List Copy)} → OneNode n xs ns ls → OneNode t ys ls ms → (n ≡ t → ⊥)
-    → (part : Copy → ℕ) (c : List ℕ) → length c ≡ places → ((i : ℕ) → i < width → getD c (width * n + i) 0 ≡ part (getD xs i noCopy))
-    → ((i : ℕ) → i < width → getD c (width * t + i) 0 ≡ part (getD ys i noCopy))
-    → ((m i : ℕ) → i < width → (m ≡ n → ⊥) → (m ≡ t → ⊥) → getD c (width * m + i) 0 ≡ getD (column part ns) (width * m + i) 0)
-    → c ≡ column part ms
-two-written {n} {t} {ns = ns} {ls} {ms} first second apart part c long here there others =
-    column-is part ms c long (λ m i h g. go m i h g (ℕ-discrete m t) (ℕ-discrete m n))
-  where
-    go : (m i : ℕ) → m < mostNodes → i < width → Dec (m ≡ t) → Dec (m ≡ n) → getD c (width * m + i) 0 ≡ part (getD (getD ms m []) i noCopy)
-    go m i h g (yes e) d = rw (e, second .here) (there i g)
-    go m i h g (no e) (yes d) = rw (d, second .others n apart, first .here) (here i g)
-    go m i h g (no e) (no d) = rw (second .others m e, first .others m d) (others m i g d e ∙ place-at part ns m i h g)
 
 -- A store is the store of a state by its plan's number, clock, counts, columns and slots.
 pub store-is : (plan : ℕ) (s : State) (z : Store) → z .plan ≡ plan → z .clock ≡ s .clock

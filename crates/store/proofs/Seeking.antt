@@ -8,7 +8,7 @@ use native.Mathlib.Nat.{le-of-suc-le-suc, not-suc-le-zero}
 use native.Mathlib.Decide.{decLt, ℕ-discrete}
 use native.Mathlib.Omega.{arith}
 use lib.Dec.{ltb, eqb}
-use lib.ListN.{length, getD, length-map, List·getD-map}
+use lib.ListN.{length, getD}
 use borrow.Author.Tests.{ltb-true, ltb-false, eq-eqb, ne-eqb}
 use Rattle.lists.specs.Runs.{run}
 use Rattle.lists.proofs.Running.{length-run, getD-run, map-run}
@@ -190,10 +190,6 @@ module _ {A B : Type 0} (key : A → ℕ) (g : B → A) where
       go true e = refl
       go false e = e
 
-  pub rises-map : (d : B) (xs : List B) → Rises (λ x. key (g x)) d xs → Rises key (g d) (map g xs)
-  rises-map d xs r i h =
-      rw (List·getD-map g xs i d, List·getD-map g xs (suc i) d) (r i (rw length-map at h))
-
 -- A run: its things stand at the places from .. from + n.
 module _ {A : Type 0} (key : A → ℕ) (d : A) (f : ℕ → A) (from n : ℕ) where
   in-run : (i : ℕ) → from ≤ i → i < from + n → getD (run from n f) (i - from) d ≡ f i
@@ -233,13 +229,6 @@ module _ {A : Type 0} (key : A → ℕ) (d : A) (f : ℕ → A) (from n : ℕ) w
         let b = below-up key d (run from n f) k (i - from) (rw (in-run i p q) h) in
         omega arith
 
-    pub place-found : at < from + n → key (f at) ≡ k → find key (run from n f) k ≡ some (f at)
-    place-found h q =
-        let l = length-run f from n in
-        let g = in-run at (omega arith) h in
-        find-first key d (run from n f) k (at - from) (omega arith) (ap key g ∙ q) (λ j p. before-below key d (run from n f) k j (omega arith))
-        ∙ ap some g
-
     module _ (r : Rises key d (run from n f)) where
       pub place-down : (i : ℕ) → from ≤ i → i < from + n → key (f i) < k → i < at
       place-down i p q h =
@@ -262,10 +251,6 @@ module _ {A : Type 0} (key : A → ℕ) (d : A) (f : ℕ → A) (from n : ℕ) w
       let l = length-run f from n in
       let g = in-run i p q in
       find-rising key d (run from n f) r k (i - from) (omega arith) (ap key g ∙ h) ∙ ap some g
-
-  -- The same on the places themselves, each with its thing's key.
-  pub below-run : (k : ℕ) → below key (run from n f) k ≡ below (λ i. key (f i)) (run from n itself) k
-  below-run k = ap (λ (xs : List A). below key xs k) (sym (map-run f itself from n)) ∙ below-map key f (run from n itself) k
 
   pub find-run : (k : ℕ) → find key (run from n f) k ≡ Option·map f (find (λ i. key (f i)) (run from n itself) k)
   find-run k = ap (λ (xs : List A). find key xs k) (sym (map-run f itself from n)) ∙ find-map key f (run from n itself) k

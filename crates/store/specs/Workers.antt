@@ -8,6 +8,7 @@ use lib.ListN.{length, getD, take, drop}
 use lib.Seq.{slice}
 use Rattle.lists.specs.Runs.{run}
 use Rattle.plan.specs.Sizes.{mostNodes}
+use Rattle.store.specs.declared.Slot.{Slot}
 use Rattle.store.specs.declared.Store.{Store}
 use Rattle.store.specs.Layout.{width, places}
 
@@ -52,10 +53,14 @@ pub record Sized (counts keys kinds values stamps : List ℕ) : Type 0 where
   pub values-512 : length values ≡ places
   pub stamps-512 : length stamps ≡ places
 
--- A store of the columns that a worker is lent. No look reads its searches, so there are none.
+-- The store of the parts that a worker is lent.
+abbrev pub ofParts : ℕ → ℕ → List ℕ → List ℕ → List ℕ → List ℕ → List ℕ → List Slot → Store
+ofParts plan clock counts keys kinds values stamps slots =
+    record { plan = plan; clock = clock; counts = counts; keys = keys; kinds = kinds; values = values; stamps = stamps; slots = slots }
+
+-- The same for a look: it reads no searches, so there are none.
 abbrev pub holding : ℕ → ℕ → List ℕ → List ℕ → List ℕ → List ℕ → List ℕ → Store
-holding plan clock counts keys kinds values stamps =
-    record { plan = plan; clock = clock; counts = counts; keys = keys; kinds = kinds; values = values; stamps = stamps; slots = [] }
+holding plan clock counts keys kinds values stamps = ofParts plan clock counts keys kinds values stamps []
 
 -- A list with x put in at a place; those from there up to end stand one place further up, over the one that stood at end.
 unfoldable pub opened : {A : Type 0} → List A → ℕ → ℕ → A → List A

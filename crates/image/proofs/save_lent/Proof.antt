@@ -5,6 +5,7 @@ use native.Mathlib.Omega.{arith}
 use borrow.Author.Tests.{not-true, not-false}
 use Rattle.store.specs.declared.Store.{Store}
 use Rattle.store.specs.StoreRules.{goodStore}
+use Rattle.store.specs.Workers.{ofParts}
 use Rattle.image.proofs.SaveWays.{save-bad, good-plan, good-within, save-small, save-done}
 use borrow.Author.Needs.{needs}
 use Rattle.image.proofs.save_lent.Statement.{statement}
@@ -17,16 +18,7 @@ first g = g .before .before
 abbrev asked : tie.After-good2 → Store
 asked g =
     let a = first g .args in
-    record {
-      plan = a .plan;
-      clock = a .clock;
-      counts = a .counts .now;
-      keys = a .keys .now;
-      kinds = a .kinds .now;
-      values = a .values .now;
-      stamps = a .stamps .now;
-      slots = a .slots;
-    }
+    ofParts (a .plan) (a .clock) (a .counts .now) (a .keys .now) (a .kinds .now) (a .values .now) (a .stamps .now) (a .slots)
 
 -- Past the first test the store is good.
 good : (i : tie.Else1) → goodStore (asked (i .before)) ≡ true

@@ -5,6 +5,7 @@ use lib.ListN.{length}
 use borrow.Author.Tests.{not-true, not-false}
 use Rattle.store.specs.declared.Store.{Store}
 use Rattle.store.specs.State.{slotCount}
+use Rattle.store.specs.Workers.{ofParts}
 use Rattle.rules.proofs.Judging.{number-low, number-high, number-in, clock-low, clock-in, number-fails, clock-fails, tidy-fails, paths-fail, stamps-decide, tidy-ordered}
 use borrow.Author.Needs.{needs}
 use Rattle.rules.proofs.good.Statement.{statement}
@@ -14,16 +15,7 @@ use Rattle.rules.proofs.good.Tie as tie
 abbrev asked : tie.Start → Store
 asked s =
     let a = s .args in
-    record {
-      plan = a .plan;
-      clock = a .clock;
-      counts = a .counts .now;
-      keys = a .keys .now;
-      kinds = a .kinds .now;
-      values = a .values .now;
-      stamps = a .stamps .now;
-      slots = a .slots;
-    }
+    ofParts (a .plan) (a .clock) (a .counts .now) (a .keys .now) (a .kinds .now) (a .values .now) (a .stamps .now) (a .slots)
 
 eight : (s : tie.Start) → length (s .args .slots) ≡ slotCount
 eight s = search needs

@@ -5,8 +5,8 @@ use borrow.Author.Needs.{needs}
 use Rattle.plan.specs.Sizes.{mostNodes}
 use Rattle.store.specs.declared.Store.{Store}
 use Rattle.store.specs.Layout.{width, countOf}
+use Rattle.store.specs.Workers.{ofParts}
 use Rattle.store.proofs.GoodNodes.{count-fits}
-use Rattle.carries.specs.Settlings.{whole}
 use Rattle.carries.proofs.Carrying.{target-few, node-few, ready, counts-go, stays-within, settled-along}
 use Rattle.carries.proofs.settling.along.Statement.{statement}
 use Rattle.carries.proofs.settling.along.Tie as tie
@@ -16,7 +16,7 @@ abbrev Z : tie.Start → Store
 Z s =
     let a = s .args in
     let o = s .pre .0 in
-    whole (a .plan) (a .counts .now) (a .keys .now) (o .clock) (o .kinds) (o .values) (o .stamps) (o .slots)
+    ofParts (a .plan) (o .clock) (a .counts .now) (a .keys .now) (o .kinds) (o .values) (o .stamps) (o .slots)
 
 -- The edge: its node and its target are nodes of a store,
 source : (c : tie.After-edge-at) → c .before .args .node < mostNodes
@@ -108,7 +108,7 @@ returns c =
     let s = e .before in
     λ clock kinds values stamps slots good.
     let a = s .args in
-    let z = whole (a .plan) (a .counts .now) (a .keys .now) clock kinds values stamps slots in
+    let z = ofParts (a .plan) clock (a .counts .now) (a .keys .now) kinds values stamps slots in
     settled-along z good (s .args .node) (s .args .edge) (s .pre .1) (e .edge-at .result) (e .edge-at .ensures) (k .capacity .result) (k .capacity .ensures)
     (d .decide .ensures) (w .tally .result) (h .count-held .result) (w .tally .ensures) (h .count-held .ensures)
 

@@ -7,9 +7,9 @@ use borrow.Author.Tests.{not-true, not-false}
 use Rattle.store.specs.declared.Store.{Store}
 use Rattle.store.specs.Answers.{BADSTORE, NODE, EDGE, bare}
 use Rattle.store.specs.StoreRules.{goodStore}
+use Rattle.store.specs.Workers.{ofParts}
 use Rattle.store.proofs.Lifting.{on-broken}
 use Rattle.steps.specs.Carries.{carryStep}
-use Rattle.carries.specs.Settlings.{whole}
 use Rattle.carries.proofs.Carrying.{no-node, no-edge, settled-none}
 use Rattle.carries.proofs.settling.settle.Statement.{statement}
 use Rattle.carries.proofs.settling.settle.Tie as tie
@@ -18,7 +18,7 @@ use Rattle.carries.proofs.settling.settle.Tie as tie
 abbrev asked : tie.Start → Store
 asked s =
     let a = s .args in
-    whole (a .plan) (a .counts .now) (a .keys .now) (a .clock) (a .kinds .now) (a .values .now) (a .stamps .now) (a .slots)
+    ofParts (a .plan) (a .clock) (a .counts .now) (a .keys .now) (a .kinds .now) (a .values .now) (a .stamps .now) (a .slots)
 
 -- Past the check it is good.
 checked : (c : tie.Else1) → goodStore (asked (c .before .before .before)) ≡ true

@@ -10,6 +10,7 @@ use borrow.Author.Tests.{not-true, not-false, eqb-true, eqb-false}
 use Rattle.store.specs.declared.Store.{Store}
 use Rattle.store.specs.Layout.{width, countOf}
 use Rattle.store.specs.StoreRules.{goodStore}
+use Rattle.store.specs.Workers.{ofParts}
 use Rattle.entries.proofs.Entering.{root-fits, root-rises, decides-bad, decides-late, decides-replaced, decides-added, decides-full}
 use Rattle.entries.proofs.decision.decide.Statement.{statement}
 use Rattle.entries.proofs.decision.decide.Tie as tie
@@ -18,16 +19,7 @@ use Rattle.entries.proofs.decision.decide.Tie as tie
 abbrev lent : tie.Start → Store
 lent s =
     let a = s .args in
-    record {
-      plan = a .plan;
-      clock = a .clock;
-      counts = a .counts .now;
-      keys = a .keys .now;
-      kinds = a .kinds .now;
-      values = a .values .now;
-      stamps = a .stamps .now;
-      slots = a .slots;
-    }
+    ofParts (a .plan) (a .clock) (a .counts .now) (a .keys .now) (a .kinds .now) (a .values .now) (a .stamps .now) (a .slots)
 
 -- Past the check of the rules the store is good.
 abbrev first : tie.Else1 → tie.Start

@@ -5,6 +5,7 @@ use native.Mathlib.Omega.{arith}
 use lib.Dec.{lit<}
 use borrow.Author.Needs.{needs}
 use Rattle.store.specs.declared.Store.{Store}
+use Rattle.store.specs.Workers.{ofParts}
 use Rattle.steps.specs.Searches.{startStep, stepStep, cancelStep}
 use Rattle.schedule.specs.Running.{unknownStep}
 use Rattle.schedule.proofs.StepLaws.{does-start, does-step, does-cancel, does-unknown}
@@ -16,16 +17,7 @@ use Rattle.runner.proofs.lent.moved.Tie as tie
 abbrev asked : tie.Start → Store
 asked s =
     let a = s .args in
-    record {
-      plan = a .plan;
-      clock = a .clock;
-      counts = a .counts .now;
-      keys = a .keys .now;
-      kinds = a .kinds .now;
-      values = a .values .now;
-      stamps = a .stamps .now;
-      slots = a .slots;
-    }
+    ofParts (a .plan) (a .clock) (a .counts .now) (a .keys .now) (a .kinds .now) (a .values .now) (a .stamps .now) (a .slots)
 
 -- A number past CARRY is none up to it.
 past : (n k : ℕ) → k < 4 → 3 < n → n ≡ k → ⊥

@@ -3,6 +3,7 @@ use mathlib.Core.Path.{sym, _∙_}
 use borrow.Author.Needs.{needs}
 use borrow.Author.Tests.{not-true, not-false}
 use Rattle.store.specs.declared.Store.{Store}
+use Rattle.store.specs.Workers.{ofParts}
 use Rattle.runner.proofs.RunWays.{moves-bad, moves-op}
 use Rattle.runner.proofs.lent.unknown_in.Statement.{statement}
 use Rattle.runner.proofs.lent.unknown_in.Tie as tie
@@ -11,16 +12,7 @@ use Rattle.runner.proofs.lent.unknown_in.Tie as tie
 abbrev asked : tie.Start → Store
 asked s =
     let a = s .args in
-    record {
-      plan = a .plan;
-      clock = a .clock;
-      counts = a .counts .now;
-      keys = a .keys .now;
-      kinds = a .kinds .now;
-      values = a .values .now;
-      stamps = a .stamps .now;
-      slots = a .slots;
-    }
+    ofParts (a .plan) (a .clock) (a .counts .now) (a .keys .now) (a .kinds .now) (a .values .now) (a .stamps .now) (a .slots)
 
 good-requires : tie.Need-good-requires
 good-requires c κs = search needs

@@ -3,6 +3,7 @@ use mathlib.Core.Path.{sym, _∙_}
 use borrow.Author.Needs.{needs}
 use borrow.Author.Tests.{not-true, not-false}
 use Rattle.store.specs.declared.Store.{Store}
+use Rattle.store.specs.Workers.{ofParts}
 use Rattle.store.proofs.Lifting.{of-bad}
 use Rattle.steps.specs.Searches.{lookAnswer}
 use Rattle.searches.proofs.Ending.{good-lookable, look-lent}
@@ -13,16 +14,7 @@ use Rattle.searches.proofs.lines.look_lent.Tie as tie
 abbrev asked : tie.Start → Store
 asked s =
     let a = s .args in
-    record {
-      plan = a .plan;
-      clock = a .clock;
-      counts = a .counts .now;
-      keys = a .keys .now;
-      kinds = a .kinds .now;
-      values = a .values .now;
-      stamps = a .stamps .now;
-      slots = a .slots;
-    }
+    ofParts (a .plan) (a .clock) (a .counts .now) (a .keys .now) (a .kinds .now) (a .values .now) (a .stamps .now) (a .slots)
 
 good-requires : tie.Need-good-requires
 good-requires c κs = search needs

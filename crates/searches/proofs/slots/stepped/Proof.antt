@@ -7,6 +7,7 @@ use Rattle.plan.specs.PlanTable.{planOf}
 use Rattle.store.specs.declared.Store.{Store}
 use Rattle.store.specs.State.{slotCount}
 use Rattle.store.specs.Layout.{stateOf}
+use Rattle.store.specs.Workers.{ofParts}
 use Rattle.steps.specs.Searches.{stepStep}
 use Rattle.searches.proofs.Slotting.{no-slot, slot-rests}
 use borrow.Author.Needs.{needs}
@@ -17,16 +18,7 @@ use Rattle.searches.proofs.slots.stepped.Tie as tie
 abbrev columns : tie.Start → ℕ → Store
 columns s clock =
     let a = s .args in
-    record {
-      plan = a .plan;
-      clock = clock;
-      counts = a .counts .now;
-      keys = a .keys .now;
-      kinds = a .kinds .now;
-      values = a .values .now;
-      stamps = a .stamps .now;
-      slots = a .t7;
-    }
+    ofParts (a .plan) clock (a .counts .now) (a .keys .now) (a .kinds .now) (a .values .now) (a .stamps .now) (a .t7)
 
 refused-requires : tie.Need-refused-requires
 refused-requires c κs = search needs

@@ -7,6 +7,7 @@ use Rattle.plan.specs.Sizes.{mostNodes}
 use Rattle.plan.proofs.TableLaws.{table-rules}
 use Rattle.store.specs.declared.Store.{Store}
 use Rattle.store.specs.State.{slotCount, idle}
+use Rattle.store.specs.Workers.{ofParts}
 use Rattle.searches.proofs.Slotting.{wrote-same, step-held, step-never, step-goes}
 use borrow.Author.Needs.{needs}
 use Rattle.searches.proofs.slots.visited.Statement.{statement}
@@ -16,16 +17,7 @@ use Rattle.searches.proofs.slots.visited.Tie as tie
 abbrev lent : tie.Start → ℕ → Store
 lent s clock =
     let a = s .args in
-    record {
-      plan = a .plan;
-      clock = clock;
-      counts = a .counts .now;
-      keys = a .keys .now;
-      kinds = a .kinds .now;
-      values = a .values .now;
-      stamps = a .stamps .now;
-      slots = a .t7;
-    }
+    ofParts (a .plan) clock (a .counts .now) (a .keys .now) (a .kinds .now) (a .values .now) (a .stamps .now) (a .t7)
 
 long : (s : tie.Start) → length (s .args .t7) ≡ slotCount
 long s = search needs
