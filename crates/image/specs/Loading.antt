@@ -59,16 +59,19 @@ nodesAt s (n ∷ ns) at =
 abbrev pub loaded : ℕ → List (List Copy) → State
 loaded clock ns = record { clock = clock; nodes = ns; slots = replicate slotCount idle }
 
--- Format, plan, clock (RULE for 0), nodes.
+-- After the head the nodes; they make the store.
 unfoldable pub nodesFrom : List ℕ → ℕ → ℕ → ℕ → Got Store
 nodesFrom s plan clock at = bind (nodesAt s (planOf plan) at) λ ns end. got (storeOf plan (loaded clock ns)) end
 
+-- The clock, RULE for 0, and what follows it.
 unfoldable pub clockFrom : List ℕ → ℕ → ℕ → Got Store
 clockFrom s plan at = bind (numberAt s at) λ clock a. checked (ltb 0 clock) RULE at (nodesFrom s plan clock a)
 
+-- The plan, PLAN for none of the three, and what follows it.
 unfoldable pub planFrom : List ℕ → ℕ → Got Store
 planFrom s at = bind (numberAt s at) λ plan a. checked (planNumberTest plan) PLAN at (clockFrom s plan a)
 
+-- The image: its format, FORMAT for another, and what follows it.
 unfoldable pub imageAt : List ℕ → Got Store
 imageAt s = bind (numberAt s 0) λ format a. checked (eqb format formatNumber) FORMAT 0 (planFrom s a)
 

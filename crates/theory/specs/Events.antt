@@ -139,7 +139,7 @@ unfoldable pub ownSteps : ℕ → List Event → ℕ
 ownSteps i [] = 0
 ownSteps i (e ∷ es) = bit (isOwnStep i e) + ownSteps i es
 
--- No event of a sequence cancels the search in a slot.
+-- An event that cancels the search in a slot;
 unfoldable pub cancelsSlot : ℕ → Event → Bool
 cancelsSlot i (cancels j) = eqb j i
 cancelsSlot i (steps j) = false
@@ -149,6 +149,7 @@ cancelsSlot i (carries n j) = false
 cancelsSlot i (starts k) = false
 cancelsSlot i asks = false
 
+-- and no event of a sequence does.
 unfoldable pub notCancelled : ℕ → List Event → Bool
 notCancelled i [] = true
 notCancelled i (e ∷ es) = not (cancelsSlot i e) && notCancelled i es
@@ -161,16 +162,18 @@ pub record EndsIn (p : Plan) (i : ℕ) (es : List Event) (s : State) : Type 0 wh
   pub until : goesOn p i first s ≡ true
   pub done : answerOf p (steps i) (run p first s) .number ≡ DONE
 
--- The sequence that reaches demand 3's bound: enter the line, carry it down its whole path, and again, so many times.
+-- The number, among a node's edges, of the first that holds the key.
 unfoldable pub edgeFor : List Edge → ℕ → ℕ
 edgeFor [] k = 0
 edgeFor (e ∷ es) k = cond (holds e k) 0 (suc (edgeFor es k))
 
+-- The carries that take a line down from each node of a list to the next.
 unfoldable pub carriesDown : Plan → ℕ → List ℕ → List Event
 carriesDown p k [] = []
 carriesDown p k (n ∷ []) = []
 carriesDown p k (n ∷ m ∷ ns) = carries n (edgeFor (edgesOf p n) k) ∷ carriesDown p k (m ∷ ns)
 
+-- The sequence that reaches demand 3's bound: enter the line, carry it down its whole path, and again, so many times.
 unfoldable pub rounds : Plan → ℕ → ℕ → ℕ → List Event
 rounds p k v zero = []
 rounds p k v (suc r) = enters k v ∷ carriesDown p k (path p k) ++ rounds p k v r

@@ -48,11 +48,11 @@ abbrev pub InHistory : History → ℕ → Option Copy → Type 0
 InHistory h k none = Unit {0}
 InHistory h k (some x) = (x .key ≡ k) × List·Memᴰ x h
 
--- HInit: "never" of every key is in the history.
+-- HInit: "never" of every key is in the history; by the definition above it is in every one.
 abbrev pub HInit : History → Type 0
 HInit h = (k : ℕ) → InHistory h k none
 
--- HUnique: a key and a stamp have one copy, and no copy has the stamp of "never".
+-- HUnique: a stamp has one copy, and so has a key and a stamp; and no copy has the stamp of "never".
 pub record HUnique (h : History) : Type 0 where
   pub one : (x y : Copy) → List·Memᴰ x h → List·Memᴰ y h → x .stamp ≡ y .stamp → x ≡ y
   pub above-never : (x : Copy) → List·Memᴰ x h → 1 ≤ x .stamp
