@@ -20,6 +20,7 @@ use Rattle.store.specs.Workers.{Ordered}
 use Rattle.steps.specs.Searches.{startStep, stepStep, cancelStep, visitsOn}
 use Rattle.searches.specs.declared.lines.Seen.{Seen}
 use Rattle.searches.specs.declared.slots.Moved.{Moved}
+use Rattle.searches.specs.declared.slots.Turn.{Turn}
 
 -- What a look down a path asks for: a plan's number, and nodes in which a look can go by halves. A good store has both.
 pub record Lookable (plan : ℕ) (counts keys : List ℕ) : Type 0 where
@@ -42,6 +43,13 @@ wrote a slots i q = record { answer = a; slots = set slots i q }
 abbrev pub kept : ℕ → List Slot → Moved
 kept number slots = record { answer = bare number; slots = slots }
 
+-- What was decided is done: one slot is written. A refusal writes the first as it was.
+abbrev pub turned : List Slot → Turn → Moved
+turned slots t = wrote (t .answer) slots (t .at) (t .slot)
+
+abbrev pub stays : ℕ → List Slot → Turn
+stays number slots = record { answer = bare number; at = 0; slot = getD slots 0 idle }
+
 -- A slot's search stands at a node of the plan, after fewer visits than a plan may have nodes.
 pub record Stands (plan : ℕ) (q : Slot) : Type 0 where
   pub node : q .node < size (planOf plan)
@@ -59,24 +67,29 @@ pub record Running (plan : ℕ) (counts keys : List ℕ) (slots : List Slot) (i 
   pub runs : getD slots i idle .running ≢ 0
   pub stands : Stands plan (getD slots i idle)
 
--- What start and cancel do with slots, whatever else a state holds,
-abbrev pub StartsIn : List Slot → ℕ → Moved → Type 0
+-- What start and cancel decide, whatever else a state holds,
+abbrev pub StartsIn : List Slot → ℕ → Turn → Type 0
 StartsIn slots key r =
-    (p : Plan) (clock : ℕ) (nodes : List (List Copy)) → r ≡ movedBy (startStep key p (record { clock = clock; nodes = nodes; slots = slots }))
+    (r .at < slotCount)
+    × ((p : Plan) (clock : ℕ) (nodes : List (List Copy))
+    → turned slots r ≡ movedBy (startStep key p (record { clock = clock; nodes = nodes; slots = slots })))
 
-abbrev pub CancelsIn : List Slot → ℕ → Moved → Type 0
+abbrev pub CancelsIn : List Slot → ℕ → Turn → Type 0
 CancelsIn slots slot r =
-    (p : Plan) (clock : ℕ) (nodes : List (List Copy)) → r ≡ movedBy (cancelStep slot p (record { clock = clock; nodes = nodes; slots = slots }))
+    (r .at < slotCount)
+    × ((p : Plan) (clock : ℕ) (nodes : List (List Copy))
+    → turned slots r ≡ movedBy (cancelStep slot p (record { clock = clock; nodes = nodes; slots = slots })))
 
 -- and a step, whatever the clock.
-abbrev pub StepsIn : ℕ → List ℕ → List ℕ → List ℕ → List ℕ → List ℕ → List Slot → ℕ → Moved → Type 0
+abbrev pub StepsIn : ℕ → List ℕ → List ℕ → List ℕ → List ℕ → List ℕ → List Slot → ℕ → Turn → Type 0
 StepsIn plan counts keys kinds values stamps slots slot r =
-    (clock : ℕ)
-    → r
+    (r .at < slotCount)
+    × ((clock : ℕ)
+    → turned slots r
     ≡ movedBy
     (stepStep slot (planOf plan)
     (stateOf
-    (record { plan = plan; clock = clock; counts = counts; keys = keys; kinds = kinds; values = values; stamps = stamps; slots = slots })))
+    (record { plan = plan; clock = clock; counts = counts; keys = keys; kinds = kinds; values = values; stamps = stamps; slots = slots }))))
 
 -- The store with other slots.
 abbrev pub withSlots : List Slot → Store → Store
@@ -95,3 +108,7 @@ withSlots slots z =
 -- What a call does with a store's slots, of any store: with its answer, the store with these slots is the call's outcome.
 abbrev pub Moves : (Plan → State → Effect) → Store → Moved → Type 0
 Moves f z r = record { answer = r .answer; store = withSlots (r .slots) z } ≡ onStore f z
+
+-- What a call decides, of any store: done, it is what the call does.
+abbrev pub Turns : (Plan → State → Effect) → Store → Turn → Type 0
+Turns f z r = (r .at < slotCount) × Moves f z (turned (z .slots) r)

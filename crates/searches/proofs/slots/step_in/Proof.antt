@@ -1,13 +1,8 @@
 -- `searches::slots::step_in` meets its contract. Assumes nothing.
-use mathlib.Core.Path.{sym, _∙_}
 use borrow.Author.Needs.{needs}
-use borrow.Author.Tests.{not-true, not-false}
-use Rattle.plan.specs.PlanTable.{planOf}
 use Rattle.store.specs.declared.Store.{Store}
-use Rattle.store.specs.Layout.{stateOf}
 use Rattle.steps.specs.Searches.{stepStep}
-use Rattle.steps.proofs.LineSteps.{step-still}
-use Rattle.searches.proofs.Moving.{good-steppable, moved-out, moved-bad}
+use Rattle.searches.proofs.Moving.{turn-done}
 use Rattle.searches.proofs.slots.step_in.Statement.{statement}
 use Rattle.searches.proofs.slots.step_in.Tie as tie
 
@@ -26,29 +21,16 @@ asked s =
       slots = a .slots;
     }
 
-good-requires : tie.Need-good-requires
-good-requires c κs = search needs
+step-turn-requires : tie.Need-step-turn-requires
+step-turn-requires c κs = search needs
 
-refused-requires : tie.Need-refused-requires
-refused-requires c κs = search needs
+settled-requires : tie.Need-settled-requires
+settled-requires c κs = c .step-turn .ensures .0
 
 returns : tie.Need-returns
 returns c =
-    let g = c .before .before in
-    let s = g .before in
-    moved-bad (asked s) (sym (g .good2 .ensures) ∙ not-true (g .good2 .result) (c .before .if1 .taken)) (stepStep (s .args .slot)) (c .refused .result) (c .refused .ensures)
-
-stepped-requires : tie.Need-stepped-requires
-stepped-requires c κs = good-steppable (asked (c .before .before)) (sym (c .before .good2 .ensures) ∙ not-false (c .before .good2 .result) (c .if1 .left))
-
-returns-2 : tie.Need-returns-2
-returns-2 c =
-    let g = c .before .before in
-    let s = g .before in
-    let z = asked s in
-    let good = sym (g .good2 .ensures) ∙ not-false (g .good2 .result) (c .before .if1 .left) in
-    moved-out z good (stepStep (s .args .slot)) (step-still (s .args .slot) (planOf (z .plan)) (stateOf z)) (c .stepped .result)
-    (c .stepped .ensures (z .clock))
+    let t = c .before in
+    turn-done (asked (t .before)) (stepStep (t .before .args .slot)) (t .step-turn .result) (t .step-turn .ensures) (c .settled .result) (c .settled .ensures)
 
 pub step-in-spec : {M : Type 1} → statement M
-step-in-spec = tie.close (tie.spec good-requires refused-requires returns stepped-requires returns-2)
+step-in-spec = tie.close (tie.spec step-turn-requires settled-requires returns)
