@@ -20,9 +20,13 @@ use Rattle.steps.proofs.LineSteps.{Still}
 use Rattle.steps.proofs.OnPaths.{on-path-in-plan}
 use Rattle.searches.specs.declared.slots.Moved.{Moved}
 use Rattle.searches.specs.declared.slots.Turn.{Turn}
-use Rattle.searches.specs.Workers.{Stands, Steppable, movedBy, turned, stays, withSlots, Moves, Turns}
+use Rattle.searches.specs.Workers.{Stands, Steppable, movedBy, turned, stays, withSlots, Moves}
 use Rattle.searches.proofs.Ending.{good-lookable}
 use Rattle.searches.proofs.Slotting.{turn-stays}
+
+-- What a call decides, of any store: done, it is what the call does.
+abbrev pub Turns : (Plan → State → Effect) → Store → Turn → Type 0
+Turns f z r = (r .at < slotCount) × Moves f z (turned (z .slots) r)
 
 module _ (z : Store) (good : goodStore z ≡ true) where
   -- A running search stands on its key's path, so at a node of the plan, after fewer visits than a plan may have nodes.

@@ -4,7 +4,7 @@ use mathlib.Core.Logic.{_≢_}
 use mathlib.Core.List.{List}
 use mathlib.Core.Option.{none, some}
 use Prim.Native.Nat.{ℕ, suc, _<_, _≤_}
-use lib.ListN.{length, getD}
+use lib.ListN.{length, getD, set}
 use lib.Seq.{set-getD}
 use lib.Dec.{lit<}
 use borrow.Author.Tests.{lt-ltb, le-ltb, eq-eqb, ne-eqb}
@@ -23,9 +23,17 @@ use Rattle.store.specs.Layout.{nodeOf, stateOf}
 use Rattle.store.specs.Calls.{Effect}
 use Rattle.store.proofs.Halving.{found-none, found-some}
 use Rattle.steps.specs.Searches.{running, lowestIdle, startStep, ended, withRunning, stepStep, cancelStep}
+use Rattle.searches.specs.declared.slots.Moved.{Moved}
 use Rattle.searches.specs.declared.slots.Turn.{Turn}
-use Rattle.searches.specs.Workers.{movedBy, wrote, kept, turned, stays}
+use Rattle.searches.specs.Workers.{movedBy, turned, stays}
 use Rattle.searches.proofs.Descending.{line-looked}
+
+-- One slot is written; or a refusal, and the slots as they were.
+abbrev pub wrote : Answer → List Slot → ℕ → Slot → Moved
+wrote a slots i q = record { answer = a; slots = set slots i q }
+
+abbrev pub kept : ℕ → List Slot → Moved
+kept number slots = record { answer = bare number; slots = slots }
 
 -- A turn that is known by an equation, and one that is a refusal: it leaves the slots as they were.
 pub turn-is : (qs : List Slot) {r t : Turn} → r ≡ t → t .at < slotCount → (r .at < slotCount) × (turned qs r ≡ turned qs t)

@@ -7,7 +7,6 @@ use lib.ListN.{getD, set}
 use Rattle.plan.specs.Sizes.{mostNodes}
 use Rattle.plan.specs.Plan.{Plan, size, path}
 use Rattle.plan.specs.PlanTable.{planOf, plans}
-use Rattle.store.specs.declared.Answer.{Answer}
 use Rattle.store.specs.declared.Copy.{Copy}
 use Rattle.store.specs.declared.Slot.{Slot}
 use Rattle.store.specs.declared.Store.{Store}
@@ -36,16 +35,9 @@ seenIn z k =
 abbrev pub movedBy : Effect → Moved
 movedBy e = record { answer = e .answer; slots = e .after .slots }
 
--- One slot is written; or a refusal, and the slots as they were.
-abbrev pub wrote : Answer → List Slot → ℕ → Slot → Moved
-wrote a slots i q = record { answer = a; slots = set slots i q }
-
-abbrev pub kept : ℕ → List Slot → Moved
-kept number slots = record { answer = bare number; slots = slots }
-
 -- What was decided is done: one slot is written. A refusal writes the first as it was.
 abbrev pub turned : List Slot → Turn → Moved
-turned slots t = wrote (t .answer) slots (t .at) (t .slot)
+turned slots t = record { answer = t .answer; slots = set slots (t .at) (t .slot) }
 
 abbrev pub stays : ℕ → List Slot → Turn
 stays number slots = record { answer = bare number; at = 0; slot = getD slots 0 idle }
@@ -108,7 +100,3 @@ withSlots slots z =
 -- What a call does with a store's slots, of any store: with its answer, the store with these slots is the call's outcome.
 abbrev pub Moves : (Plan → State → Effect) → Store → Moved → Type 0
 Moves f z r = record { answer = r .answer; store = withSlots (r .slots) z } ≡ onStore f z
-
--- What a call decides, of any store: done, it is what the call does.
-abbrev pub Turns : (Plan → State → Effect) → Store → Turn → Type 0
-Turns f z r = (r .at < slotCount) × Moves f z (turned (z .slots) r)

@@ -4,7 +4,7 @@ ghost use Prim.Native.Nat.{_<_};
 ghost use Rattle.store.specs.State.{slotCount, idle};
 ghost use Rattle.store.specs.Workers.{Sized};
 ghost use Rattle.steps.specs.Searches.{running, startStep, stepStep, cancelStep};
-ghost use Rattle.searches.specs.Workers.{stays, turned, Steppable, Running, StartsIn, CancelsIn, StepsIn, Turns, Moves};
+ghost use Rattle.searches.specs.Workers.{stays, turned, Steppable, Running, StartsIn, CancelsIn, StepsIn, Moves};
 use crate::lines;
 use plan::Hop;
 use store::Answer;
@@ -67,7 +67,7 @@ fn refused(number: u32, slots: [Slot; Store::SLOTS]) -> Turn
     }
 }
 
-// The slots are written in one place, whatever was decided.
+// The slots are written in one place, whatever was decided: with a write on each way out the compiler took them apart, number by number.
 fn settled(turn: Turn, mut slots: [Slot; Store::SLOTS]) -> Moved
     requires { ⌜ turn .at < slotCount ⌝ }
     ensures { λ r. ⌜ r ≡ turned slots turn ⌝ }
@@ -178,69 +178,6 @@ fn cancelled(slots: [Slot; Store::SLOTS], slot: u32) -> Turn
     freed(Answer::bare(Answer::DONE), at)
 }
 
-// What start decides: BADSTORE where a store rule is broken.
-fn start_turn<'a>(
-    plan: u32,
-    clock: u32,
-    counts: &'a [u32; Store::NODES],
-    keys: &'a [u32; Store::PLACES],
-    kinds: &'a [u32; Store::PLACES],
-    values: &'a [u32; Store::PLACES],
-    stamps: &'a [u32; Store::PLACES],
-    slots: [Slot; Store::SLOTS],
-    key: u32,
-) -> Turn
-    requires { ⌜ Sized (now counts) (now keys) (now kinds) (now values) (now stamps) ⌝ }
-    ensures { λ r. ⌜ Turns (startStep key) (record { plan = plan; clock = clock; counts = now (counts .entry); keys = now (keys .entry); kinds = now (kinds .entry); values = now (values .entry); stamps = now (stamps .entry); slots = slots }) r ⌝ }
-{
-    if !rules::good(plan, clock, counts, keys, kinds, values, stamps, slots) {
-        return refused(Answer::BADSTORE, slots);
-    }
-    started(slots, key)
-}
-
-// What a step decides.
-fn step_turn<'a>(
-    plan: u32,
-    clock: u32,
-    counts: &'a [u32; Store::NODES],
-    keys: &'a [u32; Store::PLACES],
-    kinds: &'a [u32; Store::PLACES],
-    values: &'a [u32; Store::PLACES],
-    stamps: &'a [u32; Store::PLACES],
-    slots: [Slot; Store::SLOTS],
-    slot: u32,
-) -> Turn
-    requires { ⌜ Sized (now counts) (now keys) (now kinds) (now values) (now stamps) ⌝ }
-    ensures { λ r. ⌜ Turns (stepStep slot) (record { plan = plan; clock = clock; counts = now (counts .entry); keys = now (keys .entry); kinds = now (kinds .entry); values = now (values .entry); stamps = now (stamps .entry); slots = slots }) r ⌝ }
-{
-    if !rules::good(plan, clock, counts, keys, kinds, values, stamps, slots) {
-        return refused(Answer::BADSTORE, slots);
-    }
-    stepped(plan, counts, keys, kinds, values, stamps, slots, slot)
-}
-
-// What cancel decides.
-fn cancel_turn<'a>(
-    plan: u32,
-    clock: u32,
-    counts: &'a [u32; Store::NODES],
-    keys: &'a [u32; Store::PLACES],
-    kinds: &'a [u32; Store::PLACES],
-    values: &'a [u32; Store::PLACES],
-    stamps: &'a [u32; Store::PLACES],
-    slots: [Slot; Store::SLOTS],
-    slot: u32,
-) -> Turn
-    requires { ⌜ Sized (now counts) (now keys) (now kinds) (now values) (now stamps) ⌝ }
-    ensures { λ r. ⌜ Turns (cancelStep slot) (record { plan = plan; clock = clock; counts = now (counts .entry); keys = now (keys .entry); kinds = now (kinds .entry); values = now (values .entry); stamps = now (stamps .entry); slots = slots }) r ⌝ }
-{
-    if !rules::good(plan, clock, counts, keys, kinds, values, stamps, slots) {
-        return refused(Answer::BADSTORE, slots);
-    }
-    cancelled(slots, slot)
-}
-
 // What start does with a store's slots: BADSTORE, and the slots as they were, where a store rule is broken.
 pub fn start_in<'a>(
     plan: u32,
@@ -256,7 +193,11 @@ pub fn start_in<'a>(
     requires { ⌜ Sized (now counts) (now keys) (now kinds) (now values) (now stamps) ⌝ }
     ensures { λ r. ⌜ Moves (startStep key) (record { plan = plan; clock = clock; counts = now (counts .entry); keys = now (keys .entry); kinds = now (kinds .entry); values = now (values .entry); stamps = now (stamps .entry); slots = slots }) r ⌝ }
 {
-    let turn = start_turn(plan, clock, counts, keys, kinds, values, stamps, slots, key);
+    let turn = if rules::good(plan, clock, counts, keys, kinds, values, stamps, slots) {
+        started(slots, key)
+    } else {
+        refused(Answer::BADSTORE, slots)
+    };
     settled(turn, slots)
 }
 
@@ -275,17 +216,11 @@ pub fn step_in<'a>(
     requires { ⌜ Sized (now counts) (now keys) (now kinds) (now values) (now stamps) ⌝ }
     ensures { λ r. ⌜ Moves (stepStep slot) (record { plan = plan; clock = clock; counts = now (counts .entry); keys = now (keys .entry); kinds = now (kinds .entry); values = now (values .entry); stamps = now (stamps .entry); slots = slots }) r ⌝ }
 {
-    let turn = step_turn(
-        plan,
-        clock,
-        counts,
-        keys,
-        kinds,
-        values,
-        stamps,
-        slots,
-        slot,
-    );
+    let turn = if rules::good(plan, clock, counts, keys, kinds, values, stamps, slots) {
+        stepped(plan, counts, keys, kinds, values, stamps, slots, slot)
+    } else {
+        refused(Answer::BADSTORE, slots)
+    };
     settled(turn, slots)
 }
 
@@ -304,16 +239,10 @@ pub fn cancel_in<'a>(
     requires { ⌜ Sized (now counts) (now keys) (now kinds) (now values) (now stamps) ⌝ }
     ensures { λ r. ⌜ Moves (cancelStep slot) (record { plan = plan; clock = clock; counts = now (counts .entry); keys = now (keys .entry); kinds = now (kinds .entry); values = now (values .entry); stamps = now (stamps .entry); slots = slots }) r ⌝ }
 {
-    let turn = cancel_turn(
-        plan,
-        clock,
-        counts,
-        keys,
-        kinds,
-        values,
-        stamps,
-        slots,
-        slot,
-    );
+    let turn = if rules::good(plan, clock, counts, keys, kinds, values, stamps, slots) {
+        cancelled(slots, slot)
+    } else {
+        refused(Answer::BADSTORE, slots)
+    };
     settled(turn, slots)
 }

@@ -1,8 +1,14 @@
 -- `searches::slots::step_in` meets its contract. Assumes nothing.
+use mathlib.Core.Path.{sym, subst, _∙_}
+use mathlib.Core.Logic.{⊎-elim}
 use borrow.Author.Needs.{needs}
+use Rattle.plan.specs.PlanTable.{planOf}
 use Rattle.store.specs.declared.Store.{Store}
+use Rattle.store.specs.Layout.{stateOf}
 use Rattle.steps.specs.Searches.{stepStep}
-use Rattle.searches.proofs.Moving.{turn-done}
+use Rattle.steps.proofs.LineSteps.{step-still}
+use Rattle.searches.specs.declared.slots.Turn.{Turn}
+use Rattle.searches.proofs.Moving.{Turns, good-steppable, turn-out, turn-bad, turn-done}
 use Rattle.searches.proofs.slots.step_in.Statement.{statement}
 use Rattle.searches.proofs.slots.step_in.Tie as tie
 
@@ -21,16 +27,37 @@ asked s =
       slots = a .slots;
     }
 
-step-turn-requires : tie.Need-step-turn-requires
-step-turn-requires c κs = search needs
+good-requires : tie.Need-good-requires
+good-requires c κs = search needs
+
+stepped-requires : tie.Need-stepped-requires
+stepped-requires c κs = good-steppable (asked (c .before .before)) (sym (c .before .good2 .ensures) ∙ c .if1 .taken)
+
+refused-requires : tie.Need-refused-requires
+refused-requires c κs = search needs
+
+-- Either way what is decided is the call's.
+turns : (c : tie.Joined1) → Turns (stepStep (c .before .before .args .slot)) (asked (c .before .before)) (c .if1 .turn)
+turns c =
+    let g = c .before in
+    let s = g .before in
+    let z = asked s in
+    let f = stepStep (s .args .slot) in
+    ⊎-elim
+    (λ w.
+    subst (λ (t : Turn). Turns f z t) (sym (w .2))
+    (turn-out z (sym (g .good2 .ensures) ∙ w .0 .taken) f (step-still (s .args .slot) (planOf (z .plan)) (stateOf z)) (w .1 .result) (w .1 .ensures .0) (w .1 .ensures .1 (z .clock))))
+    (λ w. subst (λ (t : Turn). Turns f z t) (sym (w .2)) (turn-bad z (sym (g .good2 .ensures) ∙ w .0 .left) f (w .1 .result) (w .1 .ensures)))
+    (c .if1 .came)
 
 settled-requires : tie.Need-settled-requires
-settled-requires c κs = c .step-turn .ensures .0
+settled-requires c κs = turns c .0
 
 returns : tie.Need-returns
 returns c =
-    let t = c .before in
-    turn-done (asked (t .before)) (stepStep (t .before .args .slot)) (t .step-turn .result) (t .step-turn .ensures) (c .settled .result) (c .settled .ensures)
+    let j = c .before in
+    let s = j .before .before in
+    turn-done (asked s) (stepStep (s .args .slot)) (j .if1 .turn) (turns j) (c .settled .result) (c .settled .ensures)
 
 pub step-in-spec : {M : Type 1} → statement M
-step-in-spec = tie.close (tie.spec step-turn-requires settled-requires returns)
+step-in-spec = tie.close (tie.spec good-requires stepped-requires refused-requires settled-requires returns)
