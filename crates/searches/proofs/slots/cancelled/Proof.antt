@@ -49,7 +49,7 @@ returns-3 c =
     let s = c .before .before .before .before in
     let l : length (s .args .t1) ≡ slotCount = search needs in
     let i = s .args .slot in
-    let w = turn-is (s .args .t1) (c .freed .ensures) (c .before .before .before .if1 .left) in (
+    let w = turn-is (s .args .t1) (c .freed .ensures) (omega (arith, c .before .before .before .if1 .left)) in (
       w .0,
       λ p clock nodes.
           w .1
