@@ -4,7 +4,7 @@ use mathlib.Core.Bool.{Bool, true, false, _&&_}
 use mathlib.Core.List.{List, [], _∷_, _++_, map}
 use Prim.Native.Nat.{ℕ, zero, suc, _+_, _-_, _<_, _≤_}
 use native.Mathlib.Omega.{arith}
-use native.Mathlib.Nat.{add-suc, suc-add, add-zero, zero-add, le-of-suc-le-suc, not-suc-le-zero}
+use native.Mathlib.Nat.{add-suc, suc-add, add-zero, zero-add}
 use native.Mathlib.Decide.{decLt}
 use native.Mathlib.Numerals.{add-one}
 use lib.ListN.{length, getD, List·getD-eq-default}
@@ -95,12 +95,6 @@ as-run-0 f l n d h k = as-run f l 0 n d h (λ j g. k j g ∙ ap f (sym (zero-add
 -- Past a run's end stands the default.
 pub getD-run-past : {A : Type 0} (f : ℕ → A) (i n j : ℕ) (d : A) → n ≤ j → getD (run i n f) j d ≡ d
 getD-run-past f i n j d h = List·getD-eq-default (run i n f) d (omega (arith, length-run f i n))
-
--- Within a list the default does not matter, also after a map.
-pub getD-map-within : {A B : Type 0} (f : A → B) (l : List A) (j : ℕ) (d : B) (c : A) → j < length l → getD (map f l) j d ≡ f (getD l j c)
-getD-map-within f [] j d c h = absurd (not-suc-le-zero h)
-getD-map-within f (x ∷ xs) zero d c h = refl
-getD-map-within f (x ∷ xs) (suc j) d c h = getD-map-within f xs j d c (le-of-suc-le-suc h)
 
 -- Two tests that are the same at each of the numbers are the same for all of them,
 pub same-all : (f g : ℕ → Bool) (i n : ℕ) → ((j : ℕ) → f j ≡ g j) → allFrom i n f ≡ allFrom i n g

@@ -1,46 +1,31 @@
--- In a table with a row for each plan the row of a plan's number is the plan's own, and the plan's arrays say what the plan does:
--- for every number, also one that no plan has. Assumes nothing.
+-- A plan by its number, in a table with a row for each plan; and the plan's arrays say what the plan does: for every number, also one that
+-- no plan has. Assumes nothing.
 use mathlib.Core.Path.{_≡_, refl, sym, ap, _∙_}
-use mathlib.Core.List.{List, [], map}
-use Prim.Native.Nat.{ℕ, zero, suc, _-_, _<_, _≤_}
+use mathlib.Core.List.{List, []}
+use Prim.Native.Nat.{ℕ, zero, suc, _<_, _≤_}
 use native.Mathlib.Omega.{arith}
 use native.Mathlib.Nat.{not-suc-le-zero}
 use native.Mathlib.Decide.{decLt}
-use lib.ListN.{length, getD, List·getD-eq-default}
-use Rattle.lists.proofs.Running.{getD-map-within}
+use lib.ListN.{length, getD}
 use Rattle.plan.specs.declared.Hop.{Hop}
 use Rattle.plan.specs.declared.Edge.{Edge}
 use Rattle.plan.specs.Sizes.{mostNodes, mostEdges}
 use Rattle.plan.specs.Plan.{Plan, noEdge, size, capacityOf, edgesOf, edgeOf, firstEdge, next}
-use Rattle.plan.specs.PlanTable.{planTable, plans, planOf}
-use Rattle.plan.specs.PlanArrays.{ArraysOf, atNode, Grid, edgeCountIn, edgesIn, capacitiesRow, countsRow, gridOf, rowOf}
-use Rattle.plan.proofs.TableLaws.{table-rules, no-plan}
+use Rattle.plan.specs.PlanTable.{plans, planOf}
+use Rattle.plan.specs.PlanArrays.{ArraysOf, atNode, Grid, edgeCountIn, edgesIn, capacitiesRow, countsRow, gridOf}
+use Rattle.plan.proofs.TableLaws.{plans-three, table-rules, no-plan}
 use Rattle.plan.proofs.ArrayLaws.{capacities-back, count-back, edges-back}
 
--- The row of a number is the number less 1, and past the last row for 0.
-pub row-is : (plan : ℕ) → 1 ≤ plan → plan - 1 ≡ rowOf plan
-unfolding rowOf
-row-is zero h = absurd (omega arith)
-row-is (suc p) h = omega arith
+-- What is said of the plan by a number that is p, and by one that no plan has.
+pub at-plan : {A : Type 0} (f : Plan → A) (plan p : ℕ) → plan ≡ p → f (planOf p) ≡ f (planOf plan)
+at-plan f plan p e = ap (λ (i : ℕ). f (planOf i)) (sym e)
 
-pub row-none : (plan : ℕ) → plan < 1 → plans ≡ rowOf plan
-unfolding rowOf
-row-none zero h = refl
-row-none (suc p) h = absurd (omega arith)
-
-row-plan : (plan r : ℕ) → r ≡ rowOf plan → planOf plan ≡ getD planTable r []
-unfolding planOf rowOf plans
-row-plan zero r e = sym (List·getD-eq-default planTable [] (omega arith))
-row-plan (suc p) r e = ap (λ (i : ℕ). getD planTable i []) (sym e)
-
--- What a table of the plans' f has in the plan's row, and what stands for it past the last row.
-pub at-row : {A : Type 0} (f : Plan → A) (d : A) (plan r : ℕ) → r ≡ rowOf plan → r < plans → getD (map f planTable) r d ≡ f (planOf plan)
-unfolding plans
-at-row f d plan r e h = getD-map-within f planTable r d [] h ∙ ap f (sym (row-plan plan r e))
-
-pub past-rows : {A : Type 0} (f : Plan → A) (plan r : ℕ) → r ≡ rowOf plan → plans ≤ r → f [] ≡ f (planOf plan)
-unfolding plans
-past-rows f plan r e h = ap f (sym (row-plan plan r e ∙ List·getD-eq-default planTable [] h))
+pub past-plans : {A : Type 0} (f : Plan → A) (plan : ℕ) → (plan ≡ 1 → ⊥) → (plan ≡ 2 → ⊥) → (plan ≡ 3 → ⊥) → f [] ≡ f (planOf plan)
+unfolding planOf
+past-plans f zero a b c = refl
+past-plans f (suc p) a b c =
+    let three = plans-three in
+    ap f (sym (no-plan (suc p) (omega arith)))
 
 -- A plan by any number has at most so many nodes, and edges at each.
 pub few-nodes : (plan : ℕ) → size (planOf plan) ≤ mostNodes

@@ -3,14 +3,14 @@
 use mathlib.Core.Path.{_≡_}
 use mathlib.Core.Bool.{cond}
 use mathlib.Core.List.{List, []}
-use Prim.Native.Nat.{ℕ, zero, suc, min}
+use Prim.Native.Nat.{ℕ, min}
 use lib.Dec.{ltb}
 use lib.ListN.{length, getD}
 use Rattle.lists.specs.Runs.{run}
 use Rattle.plan.specs.declared.Edge.{Edge}
 use Rattle.plan.specs.Sizes.{mostNodes, mostEdges}
 use Rattle.plan.specs.Plan.{Plan, capacityOf, edgesOf, edgeOf}
-use Rattle.plan.specs.PlanTable.{planOf, plans}
+use Rattle.plan.specs.PlanTable.{planOf}
 
 -- A number for each edge, by node and then by edge.
 abbrev pub Grid : Type 0
@@ -44,11 +44,6 @@ countsRow p = run 0 mostNodes (λ n. length (edgesOf p n))
 
 unfoldable pub gridOf : (Edge → ℕ) → Plan → Grid
 gridOf part p = run 0 mostNodes (λ n. run 0 mostEdges (λ i. part (edgeOf p n i)))
-
--- The plan's row in a table of all plans: its number less 1, and past the last row for a number that no plan has.
-unfoldable pub rowOf : ℕ → ℕ
-rowOf zero = plans
-rowOf (suc p) = p
 
 -- Arrays that are the plan's, taken once and lent.
 pub record ArraysOf (plan : ℕ) (edges : List ℕ) (lows highs targets : Grid) : Type 0 where

@@ -4,7 +4,7 @@ ghost use lib.ListN.{length};
 ghost use Rattle.plan.specs.Plan.{size, capacityOf, edgesOf, edgeOf};
 ghost use Rattle.plan.specs.Plan.{next as nextOf};
 ghost use Rattle.plan.specs.PlanTable.{planOf};
-ghost use Rattle.plan.specs.PlanArrays.{rowOf, capacitiesRow, countsRow, gridOf};
+ghost use Rattle.plan.specs.PlanArrays.{capacitiesRow, countsRow, gridOf};
 
 pub mod arrays; // arrays.rt: a plan's arrays, lent
 
@@ -85,76 +85,73 @@ const TARGETS: [[[u32; MOST_EDGES]; MOST_NODES]; PLANS] = [
     [TO_1_AND_2, TO_3, TO_3, NONE, NONE, NONE, NONE, NONE],
 ];
 
-// The plan's row of the table: past the last for a number that no plan has.
-fn row(plan: u32) -> usize
-    ensures { λ r. ⌜ r ≡ rowOf plan ⌝ }
-{
-    if 1 <= plan {
-        return plan as usize - 1;
-    }
-    PLANS
-}
-
 // The number of the plan's nodes; none for a number that no plan has.
 pub fn nodes(plan: u32) -> u32
     ensures { λ r. ⌜ r ≡ size (planOf plan) ⌝ }
 {
-    let p = row(plan);
-    if p < PLANS {
-        return NODE_COUNTS[p];
+    match plan {
+        1 => NODE_COUNTS[0],
+        2 => NODE_COUNTS[1],
+        3 => NODE_COUNTS[2],
+        _ => 0,
     }
-    0
 }
 
-// The plan's arrays, all zeros for a number that no plan has. A loop takes them once, and lends them to the readers of arrays.rt.
+// The plan's arrays, all zeros for a number that no plan has. A loop takes them once, and lends them to the readers of arrays.rt. A constant is
+// built anew where it is read: with the row's number written out that row alone is built, and not the table.
 pub fn capacities_of(plan: u32) -> [u32; MOST_NODES]
     ensures { λ r. ⌜ r ≡ capacitiesRow (planOf plan) ⌝ }
 {
-    let p = row(plan);
-    if p < PLANS {
-        return CAPACITIES[p];
+    match plan {
+        1 => CAPACITIES[0],
+        2 => CAPACITIES[1],
+        3 => CAPACITIES[2],
+        _ => [0; MOST_NODES],
     }
-    [0; MOST_NODES]
 }
 
 pub fn edge_counts_of(plan: u32) -> [u32; MOST_NODES]
     ensures { λ r. ⌜ r ≡ countsRow (planOf plan) ⌝ }
 {
-    let p = row(plan);
-    if p < PLANS {
-        return EDGE_COUNTS[p];
+    match plan {
+        1 => EDGE_COUNTS[0],
+        2 => EDGE_COUNTS[1],
+        3 => EDGE_COUNTS[2],
+        _ => [0; MOST_NODES],
     }
-    [0; MOST_NODES]
 }
 
 pub fn lowest_of(plan: u32) -> [[u32; MOST_EDGES]; MOST_NODES]
     ensures { λ r. ⌜ r ≡ gridOf (λ e. e .lowest) (planOf plan) ⌝ }
 {
-    let p = row(plan);
-    if p < PLANS {
-        return LOWEST[p];
+    match plan {
+        1 => LOWEST[0],
+        2 => LOWEST[1],
+        3 => LOWEST[2],
+        _ => [NONE; MOST_NODES],
     }
-    [NONE; MOST_NODES]
 }
 
 pub fn highest_of(plan: u32) -> [[u32; MOST_EDGES]; MOST_NODES]
     ensures { λ r. ⌜ r ≡ gridOf (λ e. e .highest) (planOf plan) ⌝ }
 {
-    let p = row(plan);
-    if p < PLANS {
-        return HIGHEST[p];
+    match plan {
+        1 => HIGHEST[0],
+        2 => HIGHEST[1],
+        3 => HIGHEST[2],
+        _ => [NONE; MOST_NODES],
     }
-    [NONE; MOST_NODES]
 }
 
 pub fn targets_of(plan: u32) -> [[u32; MOST_EDGES]; MOST_NODES]
     ensures { λ r. ⌜ r ≡ gridOf (λ e. e .target) (planOf plan) ⌝ }
 {
-    let p = row(plan);
-    if p < PLANS {
-        return TARGETS[p];
+    match plan {
+        1 => TARGETS[0],
+        2 => TARGETS[1],
+        3 => TARGETS[2],
+        _ => [NONE; MOST_NODES],
     }
-    [NONE; MOST_NODES]
 }
 
 // The node's capacity; 0 where the plan has no such node.

@@ -19,8 +19,14 @@ use Rattle.store.proofs.Lifting.{plan-good, state-good, good-back, on-bad, on-w
 use Rattle.steps.proofs.LineSteps.{Still}
 use Rattle.steps.proofs.OnPaths.{on-path-in-plan}
 use Rattle.searches.specs.declared.slots.Moved.{Moved}
-use Rattle.searches.specs.Workers.{Stands, Steppable, movedBy, kept, withSlots, Moves}
+use Rattle.searches.specs.declared.slots.Turn.{Turn}
+use Rattle.searches.specs.Workers.{Stands, Steppable, movedBy, turned, stays, withSlots, Moves}
 use Rattle.searches.proofs.Ending.{good-lookable}
+use Rattle.searches.proofs.Slotting.{turn-stays}
+
+-- What a call decides, of any store: done, it is what the call does.
+abbrev pub Turns : (Plan → State → Effect) → Store → Turn → Type 0
+Turns f z r = (r .at < slotCount) × Moves f z (turned (z .slots) r)
 
 module _ (z : Store) (good : goodStore z ≡ true) where
   -- A running search stands on its key's path, so at a node of the plan, after fewer visits than a plan may have nodes.
@@ -46,14 +52,23 @@ module _ (z : Store) (good : goodStore z ≡ true) where
       ∙ ap (withSlots (t .slots)) (good-back z good)
 
   -- A step that leaves nodes and clock: its answer and slots give the call's outcome.
-  pub moved-out : (f : Plan → State → Effect) → Still (stateOf z) (f (planOf (z .plan)) (stateOf z) .after)
+  moved-out : (f : Plan → State → Effect) → Still (stateOf z) (f (planOf (z .plan)) (stateOf z) .after)
       → (m : Moved) → m ≡ movedBy (f (planOf (z .plan)) (stateOf z)) → Moves f z m
   moved-out f still m e =
       let w = f (planOf (z .plan)) (stateOf z) in
       ap (λ (n : Moved). record { answer = n .answer; store = withSlots (n .slots) z }) e
       ∙ on-way f z good (w .answer) (w .after) (withSlots (w .after .slots) z) refl (sym (still-store (w .after) still))
 
+  pub turn-out : (f : Plan → State → Effect) → Still (stateOf z) (f (planOf (z .plan)) (stateOf z) .after)
+      → (t : Turn) → t .at < slotCount → turned (z .slots) t ≡ movedBy (f (planOf (z .plan)) (stateOf z)) → Turns f z t
+  turn-out f still t h e = (h, moved-out f still (turned (z .slots) t) e)
+
 -- And so do BADSTORE and the slots as they were, on a bad store.
-pub moved-bad : (z : Store) → goodStore z ≡ false → (f : Plan → State → Effect) (m : Moved) → m ≡ kept BADSTORE (z .slots) → Moves f z m
-moved-bad z bad f m e =
-    ap (λ (n : Moved). record { answer = n .answer; store = withSlots (n .slots) z }) e ∙ sym (on-bad f z bad)
+pub turn-bad : (z : Store) → goodStore z ≡ false → (f : Plan → State → Effect) (t : Turn) → t ≡ stays BADSTORE (z .slots) → Turns f z t
+turn-bad z bad f t e =
+    let w = turn-stays BADSTORE (z .slots) e in
+    (w .0, ap (λ (n : Moved). record { answer = n .answer; store = withSlots (n .slots) z }) (w .1) ∙ sym (on-bad f z bad))
+
+-- What was decided, done.
+pub turn-done : (z : Store) (f : Plan → State → Effect) (t : Turn) → Turns f z t → (m : Moved) → m ≡ turned (z .slots) t → Moves f z m
+turn-done z f t w m e = ap (λ (n : Moved). record { answer = n .answer; store = withSlots (n .slots) z }) e ∙ w .1

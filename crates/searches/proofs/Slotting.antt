@@ -1,10 +1,12 @@
 -- What start, step and cancel do with the slots, way out by way out. Assumes nothing.
-use mathlib.Core.Path.{_≡_, ap, _∙_}
+use mathlib.Core.Path.{_≡_, sym, ap, subst, _∙_}
 use mathlib.Core.Logic.{_≢_}
 use mathlib.Core.List.{List}
 use mathlib.Core.Option.{none, some}
 use Prim.Native.Nat.{ℕ, suc, _<_, _≤_}
-use lib.ListN.{length, getD}
+use lib.ListN.{length, getD, set}
+use lib.Seq.{set-getD}
+use lib.Dec.{lit<}
 use borrow.Author.Tests.{lt-ltb, le-ltb, eq-eqb, ne-eqb}
 use Rattle.plan.specs.declared.Hop.the-variants.{To, Ends}
 use Rattle.plan.specs.Plan.{Plan, size, next}
@@ -16,13 +18,31 @@ use Rattle.store.specs.declared.Slot.{Slot}
 use Rattle.store.specs.declared.Store.{Store}
 use Rattle.store.specs.Answers.{DONE, GOING, SLOTS, SLOT, IDLE, answer, bare}
 use Rattle.store.specs.Copies.{keyOf, find, foundOf}
-use Rattle.store.specs.State.{State, slotAt, idle}
+use Rattle.store.specs.State.{State, slotCount, slotAt, idle}
 use Rattle.store.specs.Layout.{nodeOf, stateOf}
 use Rattle.store.specs.Calls.{Effect}
 use Rattle.store.proofs.Halving.{found-none, found-some}
 use Rattle.steps.specs.Searches.{running, lowestIdle, startStep, ended, withRunning, stepStep, cancelStep}
-use Rattle.searches.specs.Workers.{movedBy, wrote, kept}
+use Rattle.searches.specs.declared.slots.Moved.{Moved}
+use Rattle.searches.specs.declared.slots.Turn.{Turn}
+use Rattle.searches.specs.Workers.{movedBy, turned, stays}
 use Rattle.searches.proofs.Descending.{line-looked}
+
+-- One slot is written; or a refusal, and the slots as they were.
+abbrev pub wrote : Answer → List Slot → ℕ → Slot → Moved
+wrote a slots i q = record { answer = a; slots = set slots i q }
+
+abbrev pub kept : ℕ → List Slot → Moved
+kept number slots = record { answer = bare number; slots = slots }
+
+-- A turn that is known by an equation, and one that is a refusal: it leaves the slots as they were.
+pub turn-is : (qs : List Slot) {r t : Turn} → r ≡ t → t .at < slotCount → (r .at < slotCount) × (turned qs r ≡ turned qs t)
+turn-is qs e h = (subst (λ (u : Turn). u .at < slotCount) (sym e) h, ap (turned qs) e)
+
+pub turn-stays : (number : ℕ) (qs : List Slot) {r : Turn} → r ≡ stays number qs → (r .at < slotCount) × (turned qs r ≡ kept number qs)
+turn-stays number qs e =
+    let t = turn-is qs e (lit< tt) in
+    (t .0, t .1 ∙ ap (λ (l : List Slot). record { answer = bare number; slots = l }) (set-getD qs 0 idle))
 
 -- A slot written with an answer, both known by equations.
 pub wrote-same : {a b : Answer} {q r : Slot} (qs : List Slot) (i : ℕ) → a ≡ b → q ≡ r → wrote a qs i q ≡ wrote b qs i r

@@ -7,7 +7,6 @@ use lib.ListN.{getD, set}
 use Rattle.plan.specs.Sizes.{mostNodes}
 use Rattle.plan.specs.Plan.{Plan, size, path}
 use Rattle.plan.specs.PlanTable.{planOf, plans}
-use Rattle.store.specs.declared.Answer.{Answer}
 use Rattle.store.specs.declared.Copy.{Copy}
 use Rattle.store.specs.declared.Slot.{Slot}
 use Rattle.store.specs.declared.Store.{Store}
@@ -20,6 +19,7 @@ use Rattle.store.specs.Workers.{Ordered, ofParts}
 use Rattle.steps.specs.Searches.{startStep, stepStep, cancelStep, visitsOn}
 use Rattle.searches.specs.declared.lines.Seen.{Seen}
 use Rattle.searches.specs.declared.slots.Moved.{Moved}
+use Rattle.searches.specs.declared.slots.Turn.{Turn}
 
 -- What a look down a path asks for: a plan's number, and nodes in which a look can go by halves. A good store has both.
 pub record Lookable (plan : ℕ) (counts keys : List ℕ) : Type 0 where
@@ -35,12 +35,12 @@ seenIn z k =
 abbrev pub movedBy : Effect → Moved
 movedBy e = record { answer = e .answer; slots = e .after .slots }
 
--- One slot is written; or a refusal, and the slots as they were.
-abbrev pub wrote : Answer → List Slot → ℕ → Slot → Moved
-wrote a slots i q = record { answer = a; slots = set slots i q }
+-- What was decided is done: one slot is written. A refusal writes the first as it was.
+abbrev pub turned : List Slot → Turn → Moved
+turned slots t = record { answer = t .answer; slots = set slots (t .at) (t .slot) }
 
-abbrev pub kept : ℕ → List Slot → Moved
-kept number slots = record { answer = bare number; slots = slots }
+abbrev pub stays : ℕ → List Slot → Turn
+stays number slots = record { answer = bare number; at = 0; slot = getD slots 0 idle }
 
 -- A slot's search stands at a node of the plan, after fewer visits than a plan may have nodes.
 pub record Stands (plan : ℕ) (q : Slot) : Type 0 where
@@ -59,24 +59,29 @@ pub record Running (plan : ℕ) (counts keys : List ℕ) (slots : List Slot) (i 
   pub runs : getD slots i idle .running ≢ 0
   pub stands : Stands plan (getD slots i idle)
 
--- What start and cancel do with slots, whatever else a state holds,
-abbrev pub StartsIn : List Slot → ℕ → Moved → Type 0
+-- What start and cancel decide, whatever else a state holds,
+abbrev pub StartsIn : List Slot → ℕ → Turn → Type 0
 StartsIn slots key r =
-    (p : Plan) (clock : ℕ) (nodes : List (List Copy)) → r ≡ movedBy (startStep key p (record { clock = clock; nodes = nodes; slots = slots }))
+    (r .at < slotCount)
+    × ((p : Plan) (clock : ℕ) (nodes : List (List Copy))
+    → turned slots r ≡ movedBy (startStep key p (record { clock = clock; nodes = nodes; slots = slots })))
 
-abbrev pub CancelsIn : List Slot → ℕ → Moved → Type 0
+abbrev pub CancelsIn : List Slot → ℕ → Turn → Type 0
 CancelsIn slots slot r =
-    (p : Plan) (clock : ℕ) (nodes : List (List Copy)) → r ≡ movedBy (cancelStep slot p (record { clock = clock; nodes = nodes; slots = slots }))
+    (r .at < slotCount)
+    × ((p : Plan) (clock : ℕ) (nodes : List (List Copy))
+    → turned slots r ≡ movedBy (cancelStep slot p (record { clock = clock; nodes = nodes; slots = slots })))
 
 -- and a step, whatever the clock.
-abbrev pub StepsIn : ℕ → List ℕ → List ℕ → List ℕ → List ℕ → List ℕ → List Slot → ℕ → Moved → Type 0
+abbrev pub StepsIn : ℕ → List ℕ → List ℕ → List ℕ → List ℕ → List ℕ → List Slot → ℕ → Turn → Type 0
 StepsIn plan counts keys kinds values stamps slots slot r =
-    (clock : ℕ)
-    → r
+    (r .at < slotCount)
+    × ((clock : ℕ)
+    → turned slots r
     ≡ movedBy
     (stepStep slot (planOf plan)
     (stateOf
-    (ofParts plan clock counts keys kinds values stamps slots)))
+    (ofParts plan clock counts keys kinds values stamps slots))))
 
 -- The store with other slots.
 abbrev pub withSlots : List Slot → Store → Store

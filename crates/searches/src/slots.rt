@@ -4,7 +4,7 @@ ghost use Prim.Native.Nat.{_<_};
 ghost use Rattle.store.specs.State.{slotCount, idle};
 ghost use Rattle.store.specs.Workers.{Sized, ofParts};
 ghost use Rattle.steps.specs.Searches.{running, startStep, stepStep, cancelStep};
-ghost use Rattle.searches.specs.Workers.{wrote, kept, Steppable, Running, StartsIn, CancelsIn, StepsIn, Moves};
+ghost use Rattle.searches.specs.Workers.{stays, turned, Steppable, Running, StartsIn, CancelsIn, StepsIn, Moves};
 use crate::lines;
 use plan::Hop;
 use store::Answer;
@@ -19,6 +19,13 @@ pub struct Moved {
     pub slots: [Slot; Store::SLOTS],
 }
 
+// What is decided before the slots are written: the answer, and what one slot holds after it.
+pub struct Turn {
+    pub answer: Answer,
+    pub at: usize,
+    pub slot: Slot,
+}
+
 // A running search: its key, the node that it stands at, and the nodes visited.
 fn search_at(key: u32, node: u32, visits: u32) -> Slot
     ensures { λ r. ⌜ r ≡ running key node visits ⌝ }
@@ -31,22 +38,9 @@ fn search_at(key: u32, node: u32, visits: u32) -> Slot
     }
 }
 
-// One slot is written.
-fn written(answer: Answer, mut slots: [Slot; Store::SLOTS], i: usize, slot: Slot) -> Moved
-    requires { ⌜ i < slotCount ⌝ }
-    ensures { λ r. ⌜ r ≡ wrote answer slots i slot ⌝ }
-{
-    slots[i] = slot;
-    Moved {
-        answer: answer,
-        slots: slots,
-    }
-}
-
 // "Ending makes the slot idle."
-fn freed(answer: Answer, slots: [Slot; Store::SLOTS], i: usize) -> Moved
-    requires { ⌜ i < slotCount ⌝ }
-    ensures { λ r. ⌜ r ≡ wrote answer slots i idle ⌝ }
+fn freed(answer: Answer, i: usize) -> Turn
+    ensures { λ r. ⌜ r ≡ record { answer = answer; at = i; slot = idle } ⌝ }
 {
     let idle = Slot {
         running: 0,
@@ -54,21 +48,42 @@ fn freed(answer: Answer, slots: [Slot; Store::SLOTS], i: usize) -> Moved
         node: 0,
         visits: 0,
     };
-    written(answer, slots, i, idle)
+    Turn {
+        answer: answer,
+        at: i,
+        slot: idle,
+    }
 }
 
-// A refusal leaves the slots as they were.
-fn refused(number: u32, slots: [Slot; Store::SLOTS]) -> Moved
-    ensures { λ r. ⌜ r ≡ kept number slots ⌝ }
+// A refusal leaves the slots as they were: the first is to hold what it holds.
+fn refused(number: u32, slots: [Slot; Store::SLOTS]) -> Turn
+    ensures { λ r. ⌜ r ≡ stays number slots ⌝ }
 {
-    Moved {
+    let first = slots[0];
+    Turn {
         answer: Answer::bare(number),
+        at: 0,
+        slot: first,
+    }
+}
+
+// The slots are written in one place, whatever was decided: with a write on each way out the compiler took them apart, number by number.
+fn settled(turn: Turn, mut slots: [Slot; Store::SLOTS]) -> Moved
+    requires { ⌜ turn .at < slotCount ⌝ }
+    ensures { λ r. ⌜ r ≡ turned slots turn ⌝ }
+{
+    let at = turn.at;
+    let slot = turn.slot;
+    slots[at] = slot;
+    let answer = turn.answer;
+    Moved {
+        answer: answer,
         slots: slots,
     }
 }
 
 // "The lowest idle slot takes the key, at the root, 0 visits." SLOTS where none is idle.
-fn started(slots: [Slot; Store::SLOTS], key: u32) -> Moved
+fn started(slots: [Slot; Store::SLOTS], key: u32) -> Turn
     ensures { λ r. ⌜ StartsIn slots key r ⌝ }
 {
     let mut n = 0;
@@ -81,12 +96,11 @@ fn started(slots: [Slot; Store::SLOTS], key: u32) -> Moved
         }
         n += 1;
     };
-    written(
-        Answer::of(Answer::DONE, slot as u64, 0, 0, 0),
-        slots,
-        slot,
-        search_at(key, 0, 0),
-    )
+    Turn {
+        answer: Answer::of(Answer::DONE, slot as u64, 0, 0, 0),
+        at: slot,
+        slot: search_at(key, 0, 0),
+    }
 }
 
 // "One node is visited" by the search in slot i. Found ends it; nothing sends it to the key's next node, or ends it as never entered.
@@ -99,7 +113,7 @@ fn visited<'a>(
     stamps: &'a [u32; Store::PLACES],
     slots: [Slot; Store::SLOTS],
     i: usize,
-) -> Moved
+) -> Turn
     requires { ⌜ Running plan (now counts) (now keys) slots i ⌝ }
     ensures { λ r. ⌜ StepsIn plan (now (counts .entry)) (now (keys .entry)) (now (kinds .entry)) (now (values .entry)) (now (stamps .entry)) slots i r ⌝ }
 {
@@ -115,12 +129,15 @@ fn visited<'a>(
         search.key,
     ) else {
         let Hop::To(to) = plan::next(plan, search.node, search.key) else {
-            return freed(lines::never(visits), slots, i);
+            return freed(lines::never(visits), i);
         };
-        let answer = Answer::of(Answer::GOING, to as u64, visits as u64, 0, 0);
-        return written(answer, slots, i, search_at(search.key, to, visits));
+        return Turn {
+            answer: Answer::of(Answer::GOING, to as u64, visits as u64, 0, 0),
+            at: i,
+            slot: search_at(search.key, to, visits),
+        };
     };
-    freed(lines::held(copy, visits), slots, i)
+    freed(lines::held(copy, visits), i)
 }
 
 // A step of the search in a slot. SLOT before IDLE.
@@ -133,7 +150,7 @@ fn stepped<'a>(
     stamps: &'a [u32; Store::PLACES],
     slots: [Slot; Store::SLOTS],
     slot: u32,
-) -> Moved
+) -> Turn
     requires { ⌜ Steppable plan (now counts) (now keys) slots ⌝ }
     ensures { λ r. ⌜ StepsIn plan (now (counts .entry)) (now (keys .entry)) (now (kinds .entry)) (now (values .entry)) (now (stamps .entry)) slots slot r ⌝ }
 {
@@ -148,7 +165,7 @@ fn stepped<'a>(
 }
 
 // "The slot becomes idle." SLOT before IDLE.
-fn cancelled(slots: [Slot; Store::SLOTS], slot: u32) -> Moved
+fn cancelled(slots: [Slot; Store::SLOTS], slot: u32) -> Turn
     ensures { λ r. ⌜ CancelsIn slots slot r ⌝ }
 {
     let at = slot as usize;
@@ -158,7 +175,7 @@ fn cancelled(slots: [Slot; Store::SLOTS], slot: u32) -> Moved
     if slots[at].running == 0 {
         return refused(Answer::IDLE, slots);
     }
-    freed(Answer::bare(Answer::DONE), slots, at)
+    freed(Answer::bare(Answer::DONE), at)
 }
 
 // What start does with a store's slots: BADSTORE, and the slots as they were, where a store rule is broken.
@@ -176,10 +193,12 @@ pub fn start_in<'a>(
     requires { ⌜ Sized (now counts) (now keys) (now kinds) (now values) (now stamps) ⌝ }
     ensures { λ r. ⌜ Moves (startStep key) (ofParts plan clock (now (counts .entry)) (now (keys .entry)) (now (kinds .entry)) (now (values .entry)) (now (stamps .entry)) slots) r ⌝ }
 {
-    if !rules::good(plan, clock, counts, keys, kinds, values, stamps, slots) {
-        return refused(Answer::BADSTORE, slots);
-    }
-    started(slots, key)
+    let turn = if rules::good(plan, clock, counts, keys, kinds, values, stamps, slots) {
+        started(slots, key)
+    } else {
+        refused(Answer::BADSTORE, slots)
+    };
+    settled(turn, slots)
 }
 
 // What a step does with them.
@@ -197,10 +216,12 @@ pub fn step_in<'a>(
     requires { ⌜ Sized (now counts) (now keys) (now kinds) (now values) (now stamps) ⌝ }
     ensures { λ r. ⌜ Moves (stepStep slot) (ofParts plan clock (now (counts .entry)) (now (keys .entry)) (now (kinds .entry)) (now (values .entry)) (now (stamps .entry)) slots) r ⌝ }
 {
-    if !rules::good(plan, clock, counts, keys, kinds, values, stamps, slots) {
-        return refused(Answer::BADSTORE, slots);
-    }
-    stepped(plan, counts, keys, kinds, values, stamps, slots, slot)
+    let turn = if rules::good(plan, clock, counts, keys, kinds, values, stamps, slots) {
+        stepped(plan, counts, keys, kinds, values, stamps, slots, slot)
+    } else {
+        refused(Answer::BADSTORE, slots)
+    };
+    settled(turn, slots)
 }
 
 // What cancel does with them.
@@ -218,8 +239,10 @@ pub fn cancel_in<'a>(
     requires { ⌜ Sized (now counts) (now keys) (now kinds) (now values) (now stamps) ⌝ }
     ensures { λ r. ⌜ Moves (cancelStep slot) (ofParts plan clock (now (counts .entry)) (now (keys .entry)) (now (kinds .entry)) (now (values .entry)) (now (stamps .entry)) slots) r ⌝ }
 {
-    if !rules::good(plan, clock, counts, keys, kinds, values, stamps, slots) {
-        return refused(Answer::BADSTORE, slots);
-    }
-    cancelled(slots, slot)
+    let turn = if rules::good(plan, clock, counts, keys, kinds, values, stamps, slots) {
+        cancelled(slots, slot)
+    } else {
+        refused(Answer::BADSTORE, slots)
+    };
+    settled(turn, slots)
 }

@@ -2,9 +2,10 @@
 use mathlib.Core.Path.{_≡_, refl, sym, _∙_}
 use native.Mathlib.Omega.{arith}
 use lib.ListN.{length}
+use Rattle.store.specs.Answers.{SLOT, IDLE}
 use Rattle.store.specs.State.{slotCount}
 use Rattle.steps.specs.Searches.{cancelStep}
-use Rattle.searches.proofs.Slotting.{wrote-same, no-slot, slot-rests, cancels}
+use Rattle.searches.proofs.Slotting.{turn-is, turn-stays, wrote-same, no-slot, slot-rests, cancels}
 use borrow.Author.Needs.{needs}
 use Rattle.searches.proofs.slots.cancelled.Statement.{statement}
 use Rattle.searches.proofs.slots.cancelled.Tie as tie
@@ -17,7 +18,8 @@ unfolding cancelStep
 returns c =
     let s = c .before .before in
     let l : length (s .args .t1) ≡ slotCount = search needs in
-    λ p clock nodes. c .refused .ensures ∙ sym (no-slot p (record { clock = clock; nodes = nodes; slots = s .args .t1 }) _ (s .args .slot) (omega arith))
+    let w = turn-stays SLOT (s .args .t1) (c .refused .ensures) in
+    (w .0, λ p clock nodes. w .1 ∙ sym (no-slot p (record { clock = clock; nodes = nodes; slots = s .args .t1 }) _ (s .args .slot) (omega arith)))
 
 mul-if2 : tie.Need-mul-if2
 mul-if2 c = search needs
@@ -33,7 +35,8 @@ unfolding cancelStep
 returns-2 c =
     let s = c .before .before .before in
     let l : length (s .args .t1) ≡ slotCount = search needs in
-    λ p clock nodes. c .refused2 .ensures ∙ sym (slot-rests p (record { clock = clock; nodes = nodes; slots = s .args .t1 }) _ (s .args .slot) (omega arith) (c .before .if2 .taken))
+    let w = turn-stays IDLE (s .args .t1) (c .refused2 .ensures) in
+    (w .0, λ p clock nodes. w .1 ∙ sym (slot-rests p (record { clock = clock; nodes = nodes; slots = s .args .t1 }) _ (s .args .slot) (omega arith) (c .before .if2 .taken)))
 
 bare-requires : tie.Need-bare-requires
 bare-requires c κs = search needs
@@ -46,10 +49,13 @@ returns-3 c =
     let s = c .before .before .before .before in
     let l : length (s .args .t1) ≡ slotCount = search needs in
     let i = s .args .slot in
-    λ p clock nodes.
-    c .freed .ensures
-    ∙ wrote-same (s .args .t1) i (c .before .bare .ensures) refl
-    ∙ sym (cancels p (record { clock = clock; nodes = nodes; slots = s .args .t1 }) i (omega arith) (c .before .before .if2 .left))
+    let w = turn-is (s .args .t1) (c .freed .ensures) (omega (arith, c .before .before .before .if1 .left)) in (
+      w .0,
+      λ p clock nodes.
+          w .1
+          ∙ wrote-same (s .args .t1) i (c .before .bare .ensures) refl
+          ∙ sym (cancels p (record { clock = clock; nodes = nodes; slots = s .args .t1 }) i (omega arith) (c .before .before .if2 .left)),
+    )
 
 pub cancelled-spec : {M : Type 1} → statement M
 cancelled-spec =

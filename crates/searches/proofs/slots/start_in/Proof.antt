@@ -1,14 +1,15 @@
 -- `searches::slots::start_in` meets its contract. Assumes nothing.
-use mathlib.Core.Path.{sym, _∙_}
+use mathlib.Core.Path.{sym, subst, _∙_}
+use mathlib.Core.Logic.{⊎-elim}
 use borrow.Author.Needs.{needs}
-use borrow.Author.Tests.{not-true, not-false}
 use Rattle.plan.specs.PlanTable.{planOf}
 use Rattle.store.specs.declared.Store.{Store}
 use Rattle.store.specs.Layout.{stateOf}
 use Rattle.store.specs.Workers.{ofParts}
 use Rattle.steps.specs.Searches.{startStep}
 use Rattle.steps.proofs.LineSteps.{start-still}
-use Rattle.searches.proofs.Moving.{moved-out, moved-bad}
+use Rattle.searches.specs.declared.slots.Turn.{Turn}
+use Rattle.searches.proofs.Moving.{Turns, turn-out, turn-bad, turn-done}
 use Rattle.searches.proofs.slots.start_in.Statement.{statement}
 use Rattle.searches.proofs.slots.start_in.Tie as tie
 
@@ -21,27 +22,35 @@ asked s =
 good-requires : tie.Need-good-requires
 good-requires c κs = search needs
 
-refused-requires : tie.Need-refused-requires
-refused-requires c κs = search needs
-
-returns : tie.Need-returns
-returns c =
-    let g = c .before .before in
-    let s = g .before in
-    moved-bad (asked s) (sym (g .good2 .ensures) ∙ not-true (g .good2 .result) (c .before .if1 .taken)) (startStep (s .args .key)) (c .refused .result) (c .refused .ensures)
-
 started-requires : tie.Need-started-requires
 started-requires c κs = search needs
 
-returns-2 : tie.Need-returns-2
+refused-requires : tie.Need-refused-requires
+refused-requires c κs = search needs
+
+-- Either way what is decided is the call's.
+turns : (c : tie.Joined1) → Turns (startStep (c .before .before .args .key)) (asked (c .before .before)) (c .if1 .turn)
 unfolding stateOf
-returns-2 c =
-    let g = c .before .before in
+turns c =
+    let g = c .before in
     let s = g .before in
     let z = asked s in
-    let good = sym (g .good2 .ensures) ∙ not-false (g .good2 .result) (c .before .if1 .left) in
-    moved-out z good (startStep (s .args .key)) (start-still (s .args .key) (planOf (z .plan)) (stateOf z)) (c .started .result)
-    (c .started .ensures (planOf (z .plan)) (stateOf z .clock) (stateOf z .nodes))
+    let f = startStep (s .args .key) in
+    ⊎-elim
+    (λ w.
+    subst (λ (t : Turn). Turns f z t) (sym (w .2))
+    (turn-out z (sym (g .good2 .ensures) ∙ w .0 .taken) f (start-still (s .args .key) (planOf (z .plan)) (stateOf z)) (w .1 .result) (w .1 .ensures .0) (w .1 .ensures .1 (planOf (z .plan)) (stateOf z .clock) (stateOf z .nodes))))
+    (λ w. subst (λ (t : Turn). Turns f z t) (sym (w .2)) (turn-bad z (sym (g .good2 .ensures) ∙ w .0 .left) f (w .1 .result) (w .1 .ensures)))
+    (c .if1 .came)
+
+settled-requires : tie.Need-settled-requires
+settled-requires c κs = turns c .0
+
+returns : tie.Need-returns
+returns c =
+    let j = c .before in
+    let s = j .before .before in
+    turn-done (asked s) (startStep (s .args .key)) (j .if1 .turn) (turns j) (c .settled .result) (c .settled .ensures)
 
 pub start-in-spec : {M : Type 1} → statement M
-start-in-spec = tie.close (tie.spec good-requires refused-requires returns started-requires returns-2)
+start-in-spec = tie.close (tie.spec good-requires started-requires refused-requires settled-requires returns)

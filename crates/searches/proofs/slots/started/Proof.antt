@@ -6,10 +6,11 @@ use native.Mathlib.Nat.{zero-add}
 use native.Mathlib.Omega.{arith}
 use lib.ListN.{length}
 use borrow.Author.Needs.{needs}
+use Rattle.store.specs.Answers.{SLOTS}
 use Rattle.store.specs.State.{slotCount}
 use Rattle.steps.specs.Searches.{lowestIdle}
 use Rattle.searches.proofs.Idling.{idleFrom, idle-none, idle-here, idle-later}
-use Rattle.searches.proofs.Slotting.{wrote-same, start-none, start-at}
+use Rattle.searches.proofs.Slotting.{turn-stays, wrote-same, start-none, start-at}
 use Rattle.searches.proofs.slots.started.Statement.{statement}
 use Rattle.searches.proofs.slots.started.Tie as tie
 
@@ -33,9 +34,12 @@ returns c =
     let l = c .before .before in
     let s = l .before in
     let e = l .loop .inv .1 ∙ idle-none (s .args .t1) (l .loop .n) (omega (arith, long s)) in
-    λ p clock nodes.
-    c .refused .ensures
-    ∙ sym (start-none p (record { clock = clock; nodes = nodes; slots = s .args .t1 }) (s .args .key) (omega (arith, long s)))
+    let w = turn-stays SLOTS (s .args .t1) (c .refused .ensures) in (
+      w .0,
+      λ p clock nodes.
+          w .1
+          ∙ sym (start-none p (record { clock = clock; nodes = nodes; slots = s .args .t1 }) (s .args .key) (omega (arith, long s))),
+    )
 
 mul-if2 : tie.Need-mul-if2 Inv-loop μ-loop
 mul-if2 c = search needs
@@ -61,19 +65,17 @@ of-requires c κs = search needs
 search-at-requires : tie.Need-search-at-requires Inv-loop μ-loop
 search-at-requires c κs = search needs
 
-written-requires : tie.Need-written-requires Inv-loop μ-loop
-written-requires c κs = search needs
-
 returns-2 : tie.Need-returns-2 Inv-loop μ-loop
 returns-2 c =
-    let l = c .before .before .before .before .before in
+    let l = c .before .before .before .before in
     let s = l .before in
     let n = l .loop .n in
-    let e = l .loop .inv .1 ∙ idle-here (s .args .t1) n (omega (arith, long s)) (c .before .before .before .if2 .taken) in
-    λ p clock nodes.
-    c .written .ensures
-    ∙ wrote-same (s .args .t1) n (c .before .before .of .ensures) (c .before .search-at .ensures)
-    ∙ sym (start-at p (record { clock = clock; nodes = nodes; slots = s .args .t1 }) (s .args .key) n e (omega (arith, long s)))
+    let e = l .loop .inv .1 ∙ idle-here (s .args .t1) n (omega (arith, long s)) (c .before .before .if2 .taken) in (
+      omega arith,
+      λ p clock nodes.
+          wrote-same (s .args .t1) n (c .before .of .ensures) (c .search-at .ensures)
+          ∙ sym (start-at p (record { clock = clock; nodes = nodes; slots = s .args .t1 }) (s .args .key) n e (omega (arith, long s))),
+    )
 
 pub started-spec : {M : Type 1} → statement M
 started-spec =
@@ -91,5 +93,4 @@ started-spec =
     loop-again
     of-requires
     search-at-requires
-    written-requires
     returns-2)

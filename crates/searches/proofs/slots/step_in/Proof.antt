@@ -1,14 +1,15 @@
 -- `searches::slots::step_in` meets its contract. Assumes nothing.
-use mathlib.Core.Path.{sym, _∙_}
+use mathlib.Core.Path.{sym, subst, _∙_}
+use mathlib.Core.Logic.{⊎-elim}
 use borrow.Author.Needs.{needs}
-use borrow.Author.Tests.{not-true, not-false}
 use Rattle.plan.specs.PlanTable.{planOf}
 use Rattle.store.specs.declared.Store.{Store}
 use Rattle.store.specs.Layout.{stateOf}
 use Rattle.store.specs.Workers.{ofParts}
 use Rattle.steps.specs.Searches.{stepStep}
 use Rattle.steps.proofs.LineSteps.{step-still}
-use Rattle.searches.proofs.Moving.{good-steppable, moved-out, moved-bad}
+use Rattle.searches.specs.declared.slots.Turn.{Turn}
+use Rattle.searches.proofs.Moving.{Turns, good-steppable, turn-out, turn-bad, turn-done}
 use Rattle.searches.proofs.slots.step_in.Statement.{statement}
 use Rattle.searches.proofs.slots.step_in.Tie as tie
 
@@ -21,26 +22,34 @@ asked s =
 good-requires : tie.Need-good-requires
 good-requires c κs = search needs
 
+stepped-requires : tie.Need-stepped-requires
+stepped-requires c κs = good-steppable (asked (c .before .before)) (sym (c .before .good2 .ensures) ∙ c .if1 .taken)
+
 refused-requires : tie.Need-refused-requires
 refused-requires c κs = search needs
 
-returns : tie.Need-returns
-returns c =
-    let g = c .before .before in
-    let s = g .before in
-    moved-bad (asked s) (sym (g .good2 .ensures) ∙ not-true (g .good2 .result) (c .before .if1 .taken)) (stepStep (s .args .slot)) (c .refused .result) (c .refused .ensures)
-
-stepped-requires : tie.Need-stepped-requires
-stepped-requires c κs = good-steppable (asked (c .before .before)) (sym (c .before .good2 .ensures) ∙ not-false (c .before .good2 .result) (c .if1 .left))
-
-returns-2 : tie.Need-returns-2
-returns-2 c =
-    let g = c .before .before in
+-- Either way what is decided is the call's.
+turns : (c : tie.Joined1) → Turns (stepStep (c .before .before .args .slot)) (asked (c .before .before)) (c .if1 .turn)
+turns c =
+    let g = c .before in
     let s = g .before in
     let z = asked s in
-    let good = sym (g .good2 .ensures) ∙ not-false (g .good2 .result) (c .before .if1 .left) in
-    moved-out z good (stepStep (s .args .slot)) (step-still (s .args .slot) (planOf (z .plan)) (stateOf z)) (c .stepped .result)
-    (c .stepped .ensures (z .clock))
+    let f = stepStep (s .args .slot) in
+    ⊎-elim
+    (λ w.
+    subst (λ (t : Turn). Turns f z t) (sym (w .2))
+    (turn-out z (sym (g .good2 .ensures) ∙ w .0 .taken) f (step-still (s .args .slot) (planOf (z .plan)) (stateOf z)) (w .1 .result) (w .1 .ensures .0) (w .1 .ensures .1 (z .clock))))
+    (λ w. subst (λ (t : Turn). Turns f z t) (sym (w .2)) (turn-bad z (sym (g .good2 .ensures) ∙ w .0 .left) f (w .1 .result) (w .1 .ensures)))
+    (c .if1 .came)
+
+settled-requires : tie.Need-settled-requires
+settled-requires c κs = turns c .0
+
+returns : tie.Need-returns
+returns c =
+    let j = c .before in
+    let s = j .before .before in
+    turn-done (asked s) (stepStep (s .args .slot)) (j .if1 .turn) (turns j) (c .settled .result) (c .settled .ensures)
 
 pub step-in-spec : {M : Type 1} → statement M
-step-in-spec = tie.close (tie.spec good-requires refused-requires returns stepped-requires returns-2)
+step-in-spec = tie.close (tie.spec good-requires stepped-requires refused-requires settled-requires returns)

@@ -5,11 +5,12 @@ use native.Mathlib.Omega.{arith}
 use lib.ListN.{length}
 use Rattle.plan.specs.PlanTable.{planOf}
 use Rattle.store.specs.declared.Store.{Store}
+use Rattle.store.specs.Answers.{SLOT, IDLE}
 use Rattle.store.specs.State.{slotCount}
 use Rattle.store.specs.Layout.{stateOf}
 use Rattle.store.specs.Workers.{ofParts}
 use Rattle.steps.specs.Searches.{stepStep}
-use Rattle.searches.proofs.Slotting.{no-slot, slot-rests}
+use Rattle.searches.proofs.Slotting.{turn-stays, no-slot, slot-rests}
 use borrow.Author.Needs.{needs}
 use Rattle.searches.proofs.slots.stepped.Statement.{statement}
 use Rattle.searches.proofs.slots.stepped.Tie as tie
@@ -28,7 +29,8 @@ unfolding stepStep stateOf
 returns c =
     let s = c .before .before in
     let l : length (s .args .t7) ≡ slotCount = search needs in
-    λ clock. c .refused .ensures ∙ sym (no-slot (planOf (s .args .plan)) (stateOf (columns s clock)) _ (s .args .slot) (omega arith))
+    let w = turn-stays SLOT (s .args .t7) (c .refused .ensures) in
+    (w .0, λ clock. w .1 ∙ sym (no-slot (planOf (s .args .plan)) (stateOf (columns s clock)) _ (s .args .slot) (omega arith)))
 
 mul-if2 : tie.Need-mul-if2
 mul-if2 c = search needs
@@ -44,7 +46,8 @@ unfolding stepStep stateOf
 returns-2 c =
     let s = c .before .before .before in
     let l : length (s .args .t7) ≡ slotCount = search needs in
-    λ clock. c .refused2 .ensures ∙ sym (slot-rests (planOf (s .args .plan)) (stateOf (columns s clock)) _ (s .args .slot) (omega arith) (c .before .if2 .taken))
+    let w = turn-stays IDLE (s .args .t7) (c .refused2 .ensures) in
+    (w .0, λ clock. w .1 ∙ sym (slot-rests (planOf (s .args .plan)) (stateOf (columns s clock)) _ (s .args .slot) (omega arith) (c .before .if2 .taken)))
 
 visited-requires : tie.Need-visited-requires
 visited-requires c κs =

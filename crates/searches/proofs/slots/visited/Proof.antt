@@ -8,7 +8,7 @@ use Rattle.plan.proofs.TableLaws.{table-rules}
 use Rattle.store.specs.declared.Store.{Store}
 use Rattle.store.specs.State.{slotCount, idle}
 use Rattle.store.specs.Workers.{ofParts}
-use Rattle.searches.proofs.Slotting.{wrote-same, step-held, step-never, step-goes}
+use Rattle.searches.proofs.Slotting.{turn-is, wrote-same, step-held, step-never, step-goes}
 use borrow.Author.Needs.{needs}
 use Rattle.searches.proofs.slots.visited.Statement.{statement}
 use Rattle.searches.proofs.slots.visited.Tie as tie
@@ -67,10 +67,13 @@ returns c =
     let s = l .before .before .before in
     let i = s .args .i in
     let v = getD (s .args .t7) i idle .visits + 1 in
-    λ clock.
-    c .freed .ensures
-    ∙ wrote-same (s .args .t7) i (c .before .never .ensures) refl
-    ∙ sym (step-never (lent s clock) i (omega (arith, s .pre .slot, long s)) (s .pre .runs) (s .pre .stands .node) v (omega arith) (sym (l .look-at .ensures) ∙ n .before .enum-told .given .1) (sym (n .next .ensures) ∙ c .before .before .enum-told2 .given .1))
+    let w = turn-is (s .args .t7) (c .freed .ensures) (s .pre .slot) in (
+      w .0,
+      λ clock.
+          w .1
+          ∙ wrote-same (s .args .t7) i (c .before .never .ensures) refl
+          ∙ sym (step-never (lent s clock) i (omega (arith, s .pre .slot, long s)) (s .pre .runs) (s .pre .stands .node) v (omega arith) (sym (l .look-at .ensures) ∙ n .before .enum-told .given .1) (sym (n .next .ensures) ∙ c .before .before .enum-told2 .given .1)),
+    )
 
 cast-of : tie.Need-cast-of
 cast-of c = search needs
@@ -84,21 +87,19 @@ of-requires c κs = search needs
 search-at-requires : tie.Need-search-at-requires
 search-at-requires c κs = search needs
 
-written-requires : tie.Need-written-requires
-written-requires c κs = search needs
-
 returns-2 : tie.Need-returns-2
 returns-2 c =
-    let n = c .before .before .before .before .before .before in
+    let n = c .before .before .before .before .before in
     let l = n .before .before .before in
     let s = l .before .before .before in
     let i = s .args .i in
     let v = getD (s .args .t7) i idle .visits + 1 in
-    let to = c .before .before .before .before .to .given in
-    λ clock.
-    c .written .ensures
-    ∙ wrote-same (s .args .t7) i (c .before .before .of .ensures) (c .before .search-at .ensures)
-    ∙ sym (step-goes (lent s clock) i (omega (arith, s .pre .slot, long s)) (s .pre .runs) (s .pre .stands .node) v (omega arith) (to .0 .0) (sym (l .look-at .ensures) ∙ n .before .enum-told .given .1) (sym (n .next .ensures) ∙ to .1))
+    let to = c .before .before .before .to .given in (
+      s .pre .slot,
+      λ clock.
+          wrote-same (s .args .t7) i (c .before .of .ensures) (c .search-at .ensures)
+          ∙ sym (step-goes (lent s clock) i (omega (arith, s .pre .slot, long s)) (s .pre .runs) (s .pre .stands .node) v (omega arith) (to .0 .0) (sym (l .look-at .ensures) ∙ n .before .enum-told .given .1) (sym (n .next .ensures) ∙ to .1)),
+    )
 
 held-requires : tie.Need-held-requires
 held-requires c κs = search needs
@@ -113,10 +114,13 @@ returns-3 c =
     let i = s .args .i in
     let v = getD (s .args .t7) i idle .visits + 1 in
     let held = c .before .before .before .copy .given in
-    λ clock.
-    c .freed2 .ensures
-    ∙ wrote-same (s .args .t7) i (c .before .held .ensures) refl
-    ∙ sym (step-held (lent s clock) i (omega (arith, s .pre .slot, long s)) (s .pre .runs) (s .pre .stands .node) v (omega arith) (held .0 .0) (sym (l .look-at .ensures) ∙ held .1))
+    let w = turn-is (s .args .t7) (c .freed2 .ensures) (s .pre .slot) in (
+      w .0,
+      λ clock.
+          w .1
+          ∙ wrote-same (s .args .t7) i (c .before .held .ensures) refl
+          ∙ sym (step-held (lent s clock) i (omega (arith, s .pre .slot, long s)) (s .pre .runs) (s .pre .stands .node) v (omega arith) (held .0 .0) (sym (l .look-at .ensures) ∙ held .1)),
+    )
 
 pub visited-spec : {M : Type 1} → statement M
 visited-spec =
@@ -138,7 +142,6 @@ visited-spec =
     cast-of-2
     of-requires
     search-at-requires
-    written-requires
     returns-2
     held-requires
     freed-requires-2
