@@ -1,6 +1,6 @@
 // The C interface (include/olipranj.h): the public calls over a store behind a pointer. A call that leaves the store as it is lends its columns
-// where they lie; so do the steps past CARRY, which alter the slots alone, and the entries, which then write the columns there. The other
-// steps read the store whole and write it whole.
+// where they lie; so do the steps past CARRY, which alter the slots alone, and the entries, which then write the columns there. A load reads
+// into the columns where they lie. The other steps read the store whole and write it whole.
 ghost use Rattle.steps.specs.Promises.{Looks};
 ghost use Rattle.image.specs.Promises.{Saves};
 ghost use Rattle.page.specs.Promises.{Pages, ServesLength};
@@ -135,9 +135,18 @@ pub extern "C" fn olipranj_save(store: &Store, buffer: &mut [u8]) -> Answer
 pub extern "C" fn olipranj_load(store: &mut Store, bytes: &[u8]) -> Answer
     ensures { λ r. ⌜ LoadsBehind (now (bytes .entry)) r (now (store .exit)) ⌝ }
 {
-    let outcome = image::load(bytes);
-    *store = outcome.store;
-    outcome.answer
+    let loaded = image::load_in(
+        bytes,
+        &mut store.counts,
+        &mut store.keys,
+        &mut store.kinds,
+        &mut store.values,
+        &mut store.stamps,
+    );
+    store.plan = loaded.plan;
+    store.clock = loaded.clock;
+    store.slots = loaded.slots;
+    loaded.answer
 }
 
 // The page of a sample into the buffer.
