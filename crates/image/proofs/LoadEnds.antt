@@ -110,7 +110,7 @@ empty-columns =
       stamps = blank-column [] (λ n. refl) (λ (x : Copy). x .stamp) t;
     }
 
--- ---- load_in
+-- ---- load_nodes
 
 module _ (s : List ℕ) (plan clock at : ℕ) {r : Num} {counts : List ℕ} {c : Columns} (l : LaysNodes (nodesAt s (planOf plan) at) r counts c) where
   -- A node cannot be read.
@@ -143,6 +143,8 @@ module _ (s : List ℕ) (plan clock at : ℕ) {r : Num} {counts : List ℕ} {c :
           values-512 = ap (λ (d : Columns). length (d .values)) columns-are ∙ length-column (λ (x : Copy). x .value) (e .0);
           stamps-512 = ap (λ (d : Columns). length (d .stamps)) columns-are ∙ length-column (λ (x : Copy). x .stamp) (e .0);
         }
+
+-- ---- load_in
 
 module _ (s : List ℕ) {r : Head} (h : ReadsHead s r) where
   -- The head cannot be read.

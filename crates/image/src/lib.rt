@@ -1,12 +1,14 @@
 // The evening's bytes: save and load. Document 01, "Bytes".
 ghost use mathlib.Core.Path.{_≡_};
+ghost use mathlib.Core.Bool.{true};
 ghost use mathlib.Core.List.{[]};
 ghost use lib.ListN.{length, replicate};
 ghost use Rattle.plan.specs.Sizes.{mostNodes};
 ghost use Rattle.store.specs.State.{slotCount, idle};
+ghost use Rattle.store.specs.StoreRules.{planNumberTest};
 ghost use Rattle.store.specs.Workers.{Sized};
 ghost use Rattle.wire.specs.Reading.{got};
-ghost use Rattle.image.specs.Loading.{refusedLoad, copiesHeld, finished};
+ghost use Rattle.image.specs.Loading.{nodesFrom, refusedLoad, copiesHeld, finished};
 ghost use Rattle.image.specs.Promises.{Saves, Loads};
 ghost use Rattle.image.specs.Workers.{columns, columnsOf, countsOf, idleStore, loadedIn, LoadsIn, WithinPlaces};
 use store::Answer;
@@ -189,6 +191,39 @@ fn clear<'a>(
     *stamps = [0; Store::PLACES];
 }
 
+// Reads the nodes after an image's head into the columns, whatever stood there, and ends the load.
+fn load_nodes<'a>(
+    bytes: &[u8],
+    plan: u32,
+    clock: u32,
+    at: usize,
+    counts: &'a mut [u32; Store::NODES],
+    keys: &'a mut [u32; Store::PLACES],
+    kinds: &'a mut [u32; Store::PLACES],
+    values: &'a mut [u32; Store::PLACES],
+    stamps: &'a mut [u32; Store::PLACES],
+) -> Loaded
+    requires { ⌜ planNumberTest plan ≡ true ⌝ }
+    ensures { λ r. ⌜ loadedIn r (now (counts .exit)) (columns (now (keys .exit)) (now (kinds .exit)) (now (values .exit)) (now (stamps .exit))) ≡ finished (now (bytes .entry)) (nodesFrom (now (bytes .entry)) plan clock at) ⌝ }
+{
+    clear(counts, keys, kinds, values, stamps);
+    let end = reading::read_nodes(bytes, plan, counts, keys, kinds, values, stamps, at);
+    if !end.ok {
+        return refuse(end.fault, end.at, counts, keys, kinds, values, stamps);
+    }
+    finish(
+        bytes,
+        end.at,
+        plan,
+        clock,
+        counts,
+        keys,
+        kinds,
+        values,
+        stamps,
+    )
+}
+
 // Loads an image into the columns of a store where they lie, whatever stood there: DONE with the copies held; or the first fault, and a fresh
 // store of plan 1.
 pub fn load_in<'a>(
@@ -205,25 +240,11 @@ pub fn load_in<'a>(
     if !head.ok {
         return refuse(head.fault, head.at, counts, keys, kinds, values, stamps);
     }
-    clear(counts, keys, kinds, values, stamps);
-    let end = reading::read_nodes(
+    load_nodes(
         bytes,
-        head.plan,
-        counts,
-        keys,
-        kinds,
-        values,
-        stamps,
-        head.at,
-    );
-    if !end.ok {
-        return refuse(end.fault, end.at, counts, keys, kinds, values, stamps);
-    }
-    finish(
-        bytes,
-        end.at,
         head.plan,
         head.clock,
+        head.at,
         counts,
         keys,
         kinds,
