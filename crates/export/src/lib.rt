@@ -6,7 +6,7 @@ ghost use Rattle.image.specs.Promises.{Saves};
 ghost use Rattle.page.specs.Promises.{Pages, ServesLength};
 ghost use Prim.Native.Nat.{_<_};
 ghost use Rattle.schedule.specs.Schedule.{CARRY};
-ghost use Rattle.export.specs.Promises.{FreshensBehind, StepsBehind, SearchesBehind, EntersBehind, LoadsBehind};
+ghost use Rattle.export.specs.Promises.{FreshensBehind, StepsBehind, SearchesBehind, EntersBehind, CarriesBehind, LoadsBehind};
 use schedule::Step;
 use store::Answer;
 use store::Copy;
@@ -66,6 +66,24 @@ fn entry_lent(store: &mut Store, kind: u32, key: u32, value: u32) -> Answer
     entries::put_count(&mut store.counts, decision.count);
     store.clock = decision.clock;
     decision.answer
+}
+
+// A carry: the columns are lent where they lie, to be written there.
+fn carry_lent(store: &mut Store, node: u32, edge: u32) -> Answer
+    ensures { λ r. ⌜ CarriesBehind (now (store .entry)) node edge r (now (store .exit)) ⌝ }
+{
+    carries::carry_in(
+        store.plan,
+        store.clock,
+        &mut store.counts,
+        &mut store.keys,
+        &mut store.kinds,
+        &mut store.values,
+        &mut store.stamps,
+        store.slots,
+        node,
+        edge,
+    )
 }
 
 // A step on the store read whole and written whole.
