@@ -29,7 +29,7 @@ use Rattle.store.specs.declared.Store.{Store}
 use Rattle.store.proofs.Slot as Q
 use Rattle.store.proofs.Store as S
 use Rattle.store.proofs.Store.Laws as S′
-use Rattle.export.proofs.Columns.{Column8, Column512, laid, Names, countsRef, keysRef, kindsRef, valuesRef, stampsRef}
+use Rattle.export.proofs.Columns.{Column8, Column512, laid, Names, countsRef, keysRef, kindsRef, valuesRef, stampsRef, Owning, Refs}
 
 -- Five columns: counts, keys, kinds, values, stamps.
 abbrev pub Five : Type 0
@@ -83,6 +83,10 @@ others z b o =
     (fsep (partAt u32 fullShare (z .clock) b (o + 4))
     (fsep (partAt (Array (Q.the-field .row) 8) fullShare (map (Q.the-type .to) (z .slots)) b (o + 8232)) ftrue))
 
+-- What a `&mut` to a part owns.
+abbrev pub OwnMut : Lft → Owning
+OwnMut κ F x = MutRef (named 0) κ F .own x (vptr (x .ptr .0) (x .ptr .1) ∷ [])
+
 module _ {M : Type 1} (𝓤 : URA M) (H : Heap 𝓤) (A : Atoms 𝓤) (W : Given 𝓤 H A) (z : Store) (b o : ℕ) where
   abbrev Back : Item 𝓤
   Back = raw (PartsBack 𝓤 H A fullShare (S.the-type .name) fields b o)
@@ -93,14 +97,14 @@ module _ {M : Type 1} (𝓤 : URA M) (H : Heap 𝓤) (A : Atoms 𝓤) (W : Given
 
   -- A `&mut` to a column, and what the lender keeps of it.
   abbrev Mut : Lft → (F : RattleType) → RefT (F .Denot) → Item 𝓤
-  Mut κ F x = ‵ (MutRef (named 0) κ F .own x (vptr (x .ptr .0) (x .ptr .1) ∷ []))
+  Mut κ F x = ‵ (OwnMut κ F x)
 
   abbrev Due : Lft → (F : RattleType) → RefT (F .Denot) → Item 𝓤
   Due κ F x = ‵ (flent κ (Body (mem F) (x .ptr .0) (x .ptr .1) (x .name)))
 
   -- What the callee is given, beside the new lifetime's token: the five references,
   abbrev pub Muts : Lft → Names → Item 𝓤
-  Muts κ g = Mut κ Column8 (countsRef b o z g) ⊛ Mut κ Column512 (keysRef b o z g) ⊛ Mut κ Column512 (kindsRef b o z g) ⊛ Mut κ Column512 (valuesRef b o z g) ⊛ Mut κ Column512 (stampsRef b o z g)
+  Muts κ g = Refs 𝓤 H A (OwnMut κ) b o z g
 
   -- and what is kept for the way back.
   abbrev pub Kept : Lft → Names → Item 𝓤
