@@ -5,6 +5,7 @@ use mathlib.Core.List.{List}
 use Prim.Native.Nat.{ℕ, _<_, _≤_}
 use lib.ListN.{length, set, take}
 use Rattle.plan.specs.Sizes.{mostNodes}
+use Rattle.store.specs.declared.Answer.{Answer}
 use Rattle.store.specs.declared.Slot.{Slot}
 use Rattle.store.specs.declared.Store.{Store}
 use Rattle.store.specs.Answers.{bare}
@@ -57,6 +58,10 @@ pub record Settles (z : Store) (n i : ℕ) (stay target : List ℕ) (r : Settled
   pub gets : (length target ≡ width) × (r .got ≤ width)
   pub movable : Movable (take (r .kept) stay) (take (r .got) target) (r .from) (r .had) (r .start)
   pub outcome : record { answer = r .answer; store = settledStore stay target r z } ≡ onStore (carryStep n i) z
+
+-- A carry where the columns lie: the answer and the store then are the carry's outcome.
+abbrev pub CarriesIn : Store → ℕ → ℕ → Answer → Store → Type 0
+CarriesIn before n i r after = record { answer = r; store = after } ≡ onStore (carryStep n i) before
 
 -- The plan number, counts and keys of a good store, whatever else it holds.
 pub record OfGood (plan : ℕ) (counts keys : List ℕ) : Type 0 where

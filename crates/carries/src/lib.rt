@@ -1,7 +1,11 @@
 // Carry: a node's copies move to a child. Document 01, "What each step does".
 ghost use Rattle.steps.specs.Promises.{Carries};
+ghost use Rattle.store.specs.Workers.{Sized, ofParts};
+ghost use Rattle.carries.specs.Settlings.{CarriesIn};
 use settling::settle;
+use store::Answer;
 use store::Outcome;
+use store::Slot;
 use store::Store;
 use writing::carry_column;
 
@@ -46,4 +50,49 @@ pub fn carry(mut store: Store, node: u32, edge: u32) -> Outcome
         answer: answer,
         store: store,
     }
+}
+
+// The same on columns lent where they lie: each is written there.
+pub fn carry_in<'a>(
+    plan: u32,
+    clock: u32,
+    counts: &'a mut [u32; Store::NODES],
+    keys: &'a mut [u32; Store::PLACES],
+    kinds: &'a mut [u32; Store::PLACES],
+    values: &'a mut [u32; Store::PLACES],
+    stamps: &'a mut [u32; Store::PLACES],
+    slots: [Slot; Store::SLOTS],
+    node: u32,
+    edge: u32,
+) -> Answer
+    requires { ⌜ Sized (now counts) (now keys) (now kinds) (now values) (now stamps) ⌝ }
+    ensures { λ r. ⌜ CarriesIn (ofParts plan clock (now (counts .entry)) (now (keys .entry)) (now (kinds .entry)) (now (values .entry)) (now (stamps .entry)) slots) node edge r (ofParts plan clock (now (counts .exit)) (now (keys .exit)) (now (kinds .exit)) (now (values .exit)) (now (stamps .exit)) slots) ⌝ }
+{
+    let mut stay = [0; Store::WIDTH];
+    let mut target = [0; Store::WIDTH];
+    let s = settle(
+        plan,
+        clock,
+        counts,
+        keys,
+        kinds,
+        values,
+        stamps,
+        slots,
+        &mut stay,
+        &mut target,
+        node,
+        edge,
+    );
+    let stays = &stay[..s.kept];
+    let gets = &target[..s.got];
+    carry_column(keys, stays, gets, s.from, s.had, s.start);
+    carry_column(kinds, stays, gets, s.from, s.had, s.start);
+    carry_column(values, stays, gets, s.from, s.had, s.start);
+    carry_column(stamps, stays, gets, s.from, s.had, s.start);
+    let n = s.node;
+    let t = s.target;
+    counts[n] = s.remains;
+    counts[t] = s.holds;
+    s.answer
 }

@@ -119,15 +119,22 @@ module _ (b o : ℕ) (h : Store) (g : Names) where
   abbrev pub stampsRef : RefT (List ℕ)
   stampsRef = record { ptr = (b, o + 6184); name = g .1 .1 .1 .1; now = laid (h .stamps) }
 
--- What a `&` to a part owns, and the five to the columns.
-abbrev pub OwnRef : Lft → (F : RattleType) → RefT (F .Denot) → Fml
+-- What a reference to a part owns, by the part's type; of a `&`, it is this.
+abbrev pub Owning : Type 2
+Owning = (F : RattleType) → RefT (F .Denot) → Fml
+
+abbrev pub OwnRef : Lft → Owning
 OwnRef κ F x = ShrRef (named 0) κ F .own x (vptr (x .ptr .0) (x .ptr .1) ∷ [])
 
 module _ {M : Type 1} (𝓤 : URA M) (H : Heap 𝓤) (A : Atoms 𝓤) where
+  -- The five references to the columns.
+  abbrev pub Refs : (own : Owning) (b o : ℕ) (h : Store) → Names → Item 𝓤
+  Refs own b o h g =
+      ‵ (own Column8 (countsRef b o h g)) ⊛ ‵ (own Column512 (keysRef b o h g)) ⊛ ‵ (own Column512 (kindsRef b o h g))
+      ⊛ ‵ (own Column512 (valuesRef b o h g)) ⊛ ‵ (own Column512 (stampsRef b o h g))
+
   abbrev pub Lent : (κ : Lft) (b o : ℕ) (h : Store) → Names → Item 𝓤
-  Lent κ b o h g =
-      ‵ (OwnRef κ Column8 (countsRef b o h g)) ⊛ ‵ (OwnRef κ Column512 (keysRef b o h g)) ⊛ ‵ (OwnRef κ Column512 (kindsRef b o h g))
-      ⊛ ‵ (OwnRef κ Column512 (valuesRef b o h g)) ⊛ ‵ (OwnRef κ Column512 (stampsRef b o h g))
+  Lent κ = Refs (OwnRef κ)
 
 module _ {M : Type 1} (𝓤 : URA M) (H : Heap 𝓤) (A : Atoms 𝓤) (W : Given 𝓤 H A) (κ : Lft) (q : Share) (b o : ℕ) (h : Store) where
   abbrev Bor : Fml
@@ -213,24 +220,28 @@ storeVals b o h x = (
   ),
 )
 
--- What a call owns that is given a store so: its plan and clock, the five columns, its slots, and the rest.
-abbrev pub OwnsStore : (κ : Lft) (b o : ℕ) (h : Store) → Names → Fml → Fml
-OwnsStore κ b o h g rest =
+-- What a call owns that is given a store so: its plan and clock, the five references, its slots, and the rest.
+abbrev pub OwnsStore : (own : Owning) (b o : ℕ) (h : Store) → Names → Fml → Fml
+OwnsStore own b o h g rest =
     fsep (u32 .own (h .plan) (vint w32 (h .plan) ∷ [])) (fsep (u32 .own (h .clock) (vint w32 (h .clock) ∷ []))
-    (fsep (OwnRef κ Column8 (countsRef b o h g)) (fsep (OwnRef κ Column512 (keysRef b o h g)) (fsep (OwnRef κ Column512 (kindsRef b o h g))
-    (fsep (OwnRef κ Column512 (valuesRef b o h g)) (fsep (OwnRef κ Column512 (stampsRef b o h g)) (fsep (Slots .own (h .slots) (slots-val h ∷ [])) rest)))))))
+    (fsep (own Column8 (countsRef b o h g)) (fsep (own Column512 (keysRef b o h g)) (fsep (own Column512 (kindsRef b o h g))
+    (fsep (own Column512 (valuesRef b o h g)) (fsep (own Column512 (stampsRef b o h g)) (fsep (Slots .own (h .slots) (slots-val h ∷ [])) rest)))))))
 
-module _ {M : Type 1} (𝓤 : URA M) (H : Heap 𝓤) (A : Atoms 𝓤) (W : Given 𝓤 H A) (κ : Lft) (b o : ℕ) (h : Store) (g : Names) where
-  pub owns-store : Is S.the-row h (store-val h ∷ []) → (rest : Fml)
-      → ent 𝓤 (sep 𝓤 (mean 𝓤 H A (Lent 𝓤 H A κ b o h g)) (sem 𝓤 H A rest)) (sem 𝓤 H A (OwnsStore κ b o h g rest))
-  owns-store is rest =
+module _ {M : Type 1} (𝓤 : URA M) (H : Heap 𝓤) (A : Atoms 𝓤) (W : Given 𝓤 H A) where
+  pub owns-refs : (own : Owning) (b o : ℕ) (h : Store) (g : Names) → Is S.the-row h (store-val h ∷ []) → (rest : Fml)
+      → ent 𝓤 (sep 𝓤 (mean 𝓤 H A (Refs 𝓤 H A own b o h g)) (sem 𝓤 H A rest)) (sem 𝓤 H A (OwnsStore own b o h g rest))
+  owns-refs own b o h g is rest =
       let are = LL.owed S.the-type S′.the-laws h _ is in
-      qed W (Lent 𝓤 H A κ b o h g ∷ ‵ rest ∷ []) ∵
+      qed W (Refs 𝓤 H A own b o h g ∷ ‵ rest ∷ []) ∵
       split ! $ move ! (1 ∷ []) $ split ! $ move ! (1 ∷ []) $ split ! $ move ! (1 ∷ []) $ split ! $ move ! (1 ∷ []) $
-      -- [what the & to the stamps owns; to the values; the kinds; the keys; the counts; the rest]
+      -- [what the reference to the stamps owns; to the values; the kinds; the keys; the counts; the rest]
       move ! (5 ∷ []) $
       owned ! Slots (Is Slots) (array-makes 𝓤 H A W Q.the-row (LL.makes Q.the-type Q′.the-plain 𝓤 H A) 8) (h .slots) _ (slots-are h is) $ fjoin ! $
       move ! (1 ∷ 0 ∷ []) $ fjoin ! $ move ! (1 ∷ 0 ∷ []) $ fjoin ! $ move ! (1 ∷ 0 ∷ []) $ fjoin ! $
       move ! (1 ∷ 0 ∷ []) $ fjoin ! $ move ! (1 ∷ 0 ∷ []) $ fjoin ! $
       owned ! u32 (Is u32) (uint-makes 𝓤 H A W w32) (h .clock) _ (are .1 .0) $ fjoin ! $
       owned ! u32 (Is u32) (uint-makes 𝓤 H A W w32) (h .plan) _ (are .0) $ fjoin ! $ done !
+
+  pub owns-store : (κ : Lft) (b o : ℕ) (h : Store) (g : Names) → Is S.the-row h (store-val h ∷ []) → (rest : Fml)
+      → ent 𝓤 (sep 𝓤 (mean 𝓤 H A (Lent 𝓤 H A κ b o h g)) (sem 𝓤 H A rest)) (sem 𝓤 H A (OwnsStore (OwnRef κ) b o h g rest))
+  owns-store κ = owns-refs (OwnRef κ)

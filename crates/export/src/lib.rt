@@ -1,12 +1,10 @@
 // The C interface (include/olipranj.h): the public calls over a store behind a pointer. A call that leaves the store as it is lends its columns
-// where they lie; so do the steps past CARRY, which alter the slots alone, and the entries, which then write the columns there. The other
-// steps read the store whole and write it whole.
+// where they lie; so does each step: an entry or a carry writes them there, any other writes the slots alone. A load reads into them there.
 ghost use Rattle.steps.specs.Promises.{Looks};
 ghost use Rattle.image.specs.Promises.{Saves};
 ghost use Rattle.page.specs.Promises.{Pages, ServesLength};
-ghost use Prim.Native.Nat.{_<_};
-ghost use Rattle.schedule.specs.Schedule.{CARRY};
-ghost use Rattle.export.specs.Promises.{FreshensBehind, StepsBehind, SearchesBehind, EntersBehind, LoadsBehind};
+ghost use Rattle.runner.specs.Workers.{LeavesColumns};
+ghost use Rattle.export.specs.Promises.{FreshensBehind, StepsBehind, SearchesBehind, EntersBehind, CarriesBehind, LoadsBehind};
 use schedule::Step;
 use store::Answer;
 use store::Copy;
@@ -22,9 +20,9 @@ pub extern "C" fn olipranj_fresh(store: &mut Store, plan: u32) -> Answer
     outcome.answer
 }
 
-// A step past CARRY leaves the columns as they are: they are lent where they lie, and the slots alone are written.
+// A step but an entry or a carry leaves the columns as they are: they are lent where they lie, and the slots alone are written.
 fn step_lent(store: &mut Store, number: u32, x: u32) -> Answer
-    requires { ⌜ CARRY < number ⌝ }
+    requires { ⌜ LeavesColumns number ⌝ }
     ensures { λ r. ⌜ SearchesBehind (now (store .entry)) number x r (now (store .exit)) ⌝ }
 {
     let moved = runner::lent::moved(
@@ -68,13 +66,22 @@ fn entry_lent(store: &mut Store, kind: u32, key: u32, value: u32) -> Answer
     decision.answer
 }
 
-// A step on the store read whole and written whole.
-fn step_whole(store: &mut Store, step: u32, x: u32, y: u32) -> Answer
-    ensures { λ r. ⌜ StepsBehind (now (store .entry)) step x y r (now (store .exit)) ⌝ }
+// A carry: the columns are lent where they lie, to be written there.
+fn carry_lent(store: &mut Store, node: u32, edge: u32) -> Answer
+    ensures { λ r. ⌜ CarriesBehind (now (store .entry)) node edge r (now (store .exit)) ⌝ }
 {
-    let outcome = runner::do_step(*store, step, x, y, 0);
-    *store = outcome.store;
-    outcome.answer
+    carries::carry_in(
+        store.plan,
+        store.clock,
+        &mut store.counts,
+        &mut store.keys,
+        &mut store.kinds,
+        &mut store.values,
+        &mut store.stamps,
+        store.slots,
+        node,
+        edge,
+    )
 }
 
 // One step by its number; an unknown one is OP with a 0, after BADSTORE.
@@ -82,16 +89,16 @@ fn step_whole(store: &mut Store, step: u32, x: u32, y: u32) -> Answer
 pub extern "C" fn olipranj_step(store: &mut Store, number: u32, x: u32, y: u32) -> Answer
     ensures { λ r. ⌜ StepsBehind (now (store .entry)) number x y r (now (store .exit)) ⌝ }
 {
-    if Step::CARRY < number {
-        return step_lent(store, number, x);
-    }
     if number == Step::ENTER {
         return entry_lent(store, Copy::RESULT, x, y);
     }
     if number == Step::WITHDRAW {
         return entry_lent(store, Copy::WITHDRAWN, x, 0);
     }
-    step_whole(store, number, x, y)
+    if number == Step::CARRY {
+        return carry_lent(store, x, y);
+    }
+    step_lent(store, number, x)
 }
 
 // A whole search at once.
@@ -135,9 +142,18 @@ pub extern "C" fn olipranj_save(store: &Store, buffer: &mut [u8]) -> Answer
 pub extern "C" fn olipranj_load(store: &mut Store, bytes: &[u8]) -> Answer
     ensures { λ r. ⌜ LoadsBehind (now (bytes .entry)) r (now (store .exit)) ⌝ }
 {
-    let outcome = image::load(bytes);
-    *store = outcome.store;
-    outcome.answer
+    let loaded = image::load_in(
+        bytes,
+        &mut store.counts,
+        &mut store.keys,
+        &mut store.kinds,
+        &mut store.values,
+        &mut store.stamps,
+    );
+    store.plan = loaded.plan;
+    store.clock = loaded.clock;
+    store.slots = loaded.slots;
+    loaded.answer
 }
 
 // The page of a sample into the buffer.

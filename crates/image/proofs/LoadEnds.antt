@@ -1,6 +1,6 @@
 -- Why loading gives what it promises: one law for each way out. Assumes nothing.
 use mathlib.Core.Path.{_≡_, refl, sym, ap, _∙_}
-use mathlib.Core.Bool.{true, false}
+use mathlib.Core.Bool.{Bool, true, false}
 use mathlib.Core.List.{List, []}
 use Prim.Native.Nat.{ℕ, suc, _+_, _<_, _≤_}
 use native.Mathlib.Omega.{arith}
@@ -8,26 +8,28 @@ use native.Mathlib.Numerals.{add-one}
 use lib.ListN.{length, getD, drop, replicate, drop-of-length-le}
 use lib.Seq.{drop-cons}
 use borrow.Author.Tests.{lt-ltb, le-ltb}
+use Rattle.lists.proofs.Running.{length-run}
 use Rattle.plan.specs.Sizes.{mostNodes}
 use Rattle.plan.specs.PlanTable.{planTable, plans, planOf}
 use Rattle.store.specs.declared.Answer.{Answer}
 use Rattle.store.specs.declared.Copy.{Copy}
 use Rattle.store.specs.declared.Outcome.{Outcome}
+use Rattle.store.specs.declared.Slot.{Slot}
 use Rattle.store.specs.declared.Store.{Store}
 use Rattle.store.specs.Answers.{DONE, RULE, TRAIL, answer}
 use Rattle.store.specs.State.{slotCount, idle}
 use Rattle.store.specs.Layout.{places}
 use Rattle.store.specs.StoreRules.{planNumberTest, goodStore}
 use Rattle.store.specs.Promises.{freshOutcome}
-use Rattle.store.proofs.Laying.{store-is, blank-column, blank-counts}
+use Rattle.store.specs.Workers.{Sized}
+use Rattle.store.proofs.Laying.{store-is, length-column, blank-column, blank-counts}
 use Rattle.wire.specs.declared.Num.{Num}
 use Rattle.wire.specs.Reading.{Got, got, fault}
 use Rattle.wire.proofs.Chains.{bind-got, bind-fault, num-got, num-fault}
 use Rattle.image.specs.declared.reading.Head.{Head}
 use Rattle.image.specs.Loading.{nodesAt, loaded, nodesFrom, imageAt, refusedLoad, copiesHeld, finished, loadOutcome}
-use Rattle.image.specs.Workers.{Columns, columns, columnsOf, countsOf, LaysNodes, ReadsHead}
+use Rattle.image.specs.Workers.{Columns, columns, columnsOf, countsOf, LaysNodes, ReadsHead, storeIn, idleStore, loadedIn}
 use Rattle.image.proofs.NodeWays.{ending-got, ending-fault}
-use Rattle.image.proofs.SaveWays.{columnsIn}
 
 -- ---- the end of loading
 
@@ -59,11 +61,18 @@ module _ (s : List ℕ) (g : Got Store) where
 
 -- ---- finish
 
--- What an accepted image gives, from the copies held and the answer.
-pub finish-done : (s : List ℕ) (z : Store) {end held : ℕ} {a : Answer} → length s ≤ end → goodStore z ≡ true → held ≡ copiesHeld (z .counts)
-    → a ≡ answer DONE held 0 0 0 → record { answer = a; store = z } ≡ finished s (got z end)
-finish-done s z {end} h good e f =
-    ap (λ (x : Answer). record { answer = x; store = z }) (f ∙ ap (λ (n : ℕ). answer DONE n 0 0 0) e) ∙ sym (finish-accepts s (got z end) refl h good)
+module _ (plan clock : ℕ) (counts : List ℕ) (c : Columns) {slots : List Slot} (i : slots ≡ replicate slotCount idle) where
+  -- The check is of the store with all slots idle.
+  pub good-idle : {b : Bool} → b ≡ goodStore (storeIn plan clock counts c slots) → b ≡ goodStore (idleStore plan clock counts c)
+  good-idle e = e ∙ ap (λ (x : List Slot). goodStore (storeIn plan clock counts c x)) i
+
+  -- What an accepted image gives, from the copies held and the answer.
+  pub finish-done : (s : List ℕ) {end held : ℕ} {a : Answer} → length s ≤ end → goodStore (idleStore plan clock counts c) ≡ true → held ≡ copiesHeld counts
+      → a ≡ answer DONE held 0 0 0
+      → loadedIn (record { answer = a; plan = plan; clock = clock; slots = slots }) counts c ≡ finished s (got (idleStore plan clock counts c) end)
+  finish-done s {end} h good e f =
+      (λ t. record { answer = (f ∙ ap (λ (n : ℕ). answer DONE n 0 0 0) e) t; store = storeIn plan clock counts c (i t) })
+      ∙ sym (finish-accepts s (got (idleStore plan clock counts c) end) refl h good)
 
 -- ---- refuse
 
@@ -86,7 +95,7 @@ module _ (counts : List ℕ) (n sum : ℕ) (e : sum + copiesHeld (drop n counts)
   unfolding copiesHeld
   held-end h = let d : copiesHeld (drop n counts) ≡ 0 = ap copiesHeld (drop-of-length-le counts h) in omega arith
 
--- ---- load_nodes
+-- ---- clear
 
 -- Columns and counts that are all zero are those of no nodes.
 pub empty-counts : replicate mostNodes 0 ≡ countsOf []
@@ -101,25 +110,41 @@ empty-columns =
       stamps = blank-column [] (λ n. refl) (λ (x : Copy). x .stamp) t;
     }
 
+-- ---- load_nodes
+
 module _ (s : List ℕ) (plan clock at : ℕ) {r : Num} {counts : List ℕ} {c : Columns} (l : LaysNodes (nodesAt s (planOf plan) at) r counts c) where
   -- A node cannot be read.
   pub nodes-refused : r .ok ≡ false → refusedLoad (r .fault) (r .at) ≡ finished s (nodesFrom s plan clock at)
   unfolding nodesFrom
   nodes-refused h = sym (finish-stops s (nodesFrom s plan clock at) (bind-fault _ _ (ending-fault _ _ (num-fault _ (l .ends) h))))
 
-  -- All nodes are read, and make a store with all slots idle.
-  pub nodes-loaded : r .ok ≡ true → (z : Store) → z .plan ≡ plan → z .clock ≡ clock → z .counts ≡ counts → columnsIn z ≡ c
-      → z .slots ≡ replicate slotCount idle → finished s (got z (r .at)) ≡ finished s (nodesFrom s plan clock at)
-  unfolding nodesFrom
-  nodes-loaded h z p k n q i =
-      let e = ending-got _ _ (num-got _ (l .ends) h) in
-      let columns-are = q ∙ l .columns-are (e .0) (r .at) (e .1) in
-      let is =
-      store-is plan (loaded clock (e .0)) z p k (n ∙ l .counts-are (e .0) (r .at) (e .1)) (ap (λ (d : Columns). d .keys) columns-are)
-      (ap (λ (d : Columns). d .kinds) columns-are) (ap (λ (d : Columns). d .values) columns-are) (ap (λ (d : Columns). d .stamps) columns-are) i in
-      ap (finished s) (ap (λ (y : Store). got y (r .at)) is ∙ sym (bind-got _ _ (e .1)))
+  module _ (h : r .ok ≡ true) where
+    -- All nodes are read, and make a store with all slots idle.
+    pub nodes-loaded : finished s (got (idleStore plan clock counts c) (r .at)) ≡ finished s (nodesFrom s plan clock at)
+    unfolding nodesFrom
+    nodes-loaded =
+        let e = ending-got _ _ (num-got _ (l .ends) h) in
+        let columns-are = l .columns-are (e .0) (r .at) (e .1) in
+        let is =
+        store-is plan (loaded clock (e .0)) (idleStore plan clock counts c) refl refl (l .counts-are (e .0) (r .at) (e .1))
+        (ap (λ (d : Columns). d .keys) columns-are) (ap (λ (d : Columns). d .kinds) columns-are) (ap (λ (d : Columns). d .values) columns-are)
+        (ap (λ (d : Columns). d .stamps) columns-are) refl in
+        ap (finished s) (ap (λ (y : Store). got y (r .at)) is ∙ sym (bind-got _ _ (e .1)))
 
--- ---- load
+    -- They fill columns as long as a store's.
+    pub nodes-sized : Sized counts (c .keys) (c .kinds) (c .values) (c .stamps)
+    nodes-sized =
+        let e = ending-got _ _ (num-got _ (l .ends) h) in
+        let columns-are = l .columns-are (e .0) (r .at) (e .1) in
+        record {
+          counts-8 = ap length (l .counts-are (e .0) (r .at) (e .1)) ∙ length-run _ 0 mostNodes;
+          keys-512 = ap (λ (d : Columns). length (d .keys)) columns-are ∙ length-column (λ (x : Copy). x .key) (e .0);
+          kinds-512 = ap (λ (d : Columns). length (d .kinds)) columns-are ∙ length-column (λ (x : Copy). x .kind) (e .0);
+          values-512 = ap (λ (d : Columns). length (d .values)) columns-are ∙ length-column (λ (x : Copy). x .value) (e .0);
+          stamps-512 = ap (λ (d : Columns). length (d .stamps)) columns-are ∙ length-column (λ (x : Copy). x .stamp) (e .0);
+        }
+
+-- ---- load_in
 
 module _ (s : List ℕ) {r : Head} (h : ReadsHead s r) where
   -- The head cannot be read.

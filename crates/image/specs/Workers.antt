@@ -3,22 +3,28 @@ use mathlib.Core.Path.{_≡_}
 use mathlib.Core.Bool.{true, false}
 use mathlib.Core.List.{List, [], map}
 use Prim.Native.Nat.{ℕ, _≤_}
-use lib.ListN.{length, getD}
+use lib.ListN.{length, getD, replicate}
 use lib.Seq.{sets}
 use Rattle.lists.specs.Runs.{run}
 use Rattle.plan.specs.Sizes.{mostNodes}
 use Rattle.plan.specs.Plan.{size}
 use Rattle.plan.specs.PlanTable.{planOf}
 use Rattle.store.specs.declared.Copy.{Copy}
+use Rattle.store.specs.declared.Outcome.{Outcome}
+use Rattle.store.specs.declared.Slot.{Slot}
+use Rattle.store.specs.declared.Store.{Store}
 use Rattle.store.specs.Copies.{noCopy}
+use Rattle.store.specs.State.{slotCount, idle}
 use Rattle.store.specs.Layout.{width, nodeIn, column}
 use Rattle.store.specs.StoreRules.{planNumberTest}
+use Rattle.store.specs.Workers.{ofParts}
 use Rattle.wire.specs.declared.Num.{Num}
 use Rattle.wire.specs.Reading.{Got, got, fault, bind, numOf}
+use Rattle.image.specs.declared.Loaded.{Loaded}
 use Rattle.image.specs.declared.reading.CopyRead.{CopyRead}
 use Rattle.image.specs.declared.reading.Head.{Head}
 use Rattle.image.specs.Image.{imageOf}
-use Rattle.image.specs.Loading.{nodesFrom, imageAt}
+use Rattle.image.specs.Loading.{nodesFrom, imageAt, loadOutcome}
 
 -- A copy that was read and the offset after it, or the fault and its offset.
 unfoldable pub copyReadOf : Got Copy → CopyRead
@@ -77,6 +83,21 @@ pub record LaysNodes (g : Got (List (List Copy))) (r : Num) (counts : List ℕ) 
 pub record ReadsHead (s : List ℕ) (r : Head) : Type 0 where
   pub goes : r .ok ≡ true → (planNumberTest (r .plan) ≡ true) × (imageAt s ≡ nodesFrom s (r .plan) (r .clock) (r .at))
   pub stops : r .ok ≡ false → imageAt s ≡ fault (r .fault) (r .at)
+
+-- The store of this plan, clock, counts, columns and slots; and with all slots idle.
+abbrev pub storeIn : ℕ → ℕ → List ℕ → Columns → List Slot → Store
+storeIn plan clock counts c slots = ofParts plan clock counts (c .keys) (c .kinds) (c .values) (c .stamps) slots
+
+abbrev pub idleStore : ℕ → ℕ → List ℕ → Columns → Store
+idleStore plan clock counts c = storeIn plan clock counts c (replicate slotCount idle)
+
+-- What a load into lent columns gives, with the counts and columns at its end, as one outcome.
+abbrev pub loadedIn : Loaded → List ℕ → Columns → Outcome
+loadedIn r counts c = record { answer = r .answer; store = storeIn (r .plan) (r .clock) counts c (r .slots) }
+
+-- It is what loading gives, whatever stood in the columns.
+abbrev pub LoadsIn : List ℕ → Loaded → List ℕ → Columns → Type 0
+LoadsIn bytes r counts c = loadedIn r counts c ≡ loadOutcome bytes
 
 -- ---- saving
 

@@ -1,6 +1,7 @@
 // The evening's bytes: save and load. Document 01, "Bytes".
 ghost use mathlib.Core.Path.{_≡_};
 ghost use mathlib.Core.Bool.{true};
+ghost use mathlib.Core.List.{[]};
 ghost use lib.ListN.{length, replicate};
 ghost use Rattle.plan.specs.Sizes.{mostNodes};
 ghost use Rattle.store.specs.State.{slotCount, idle};
@@ -9,7 +10,7 @@ ghost use Rattle.store.specs.Workers.{Sized, ofParts};
 ghost use Rattle.wire.specs.Reading.{got};
 ghost use Rattle.image.specs.Loading.{nodesFrom, refusedLoad, copiesHeld, finished};
 ghost use Rattle.image.specs.Promises.{Saves, Loads};
-ghost use Rattle.image.specs.Workers.{WithinPlaces};
+ghost use Rattle.image.specs.Workers.{columns, columnsOf, countsOf, idleStore, loadedIn, LoadsIn, WithinPlaces};
 use store::Answer;
 use store::Outcome;
 use store::Slot;
@@ -66,15 +67,44 @@ pub fn save(store: Store, buffer: &mut [u8]) -> Answer
     )
 }
 
-// A refused load: its number and offset, and a fresh store of plan 1.
-fn refuse(number: u32, at: usize) -> Outcome
-    ensures { λ r. ⌜ r ≡ refusedLoad number at ⌝ }
+// What a load into lent columns gives beside them.
+pub struct Loaded {
+    pub answer: Answer,
+    pub plan: u32,
+    pub clock: u32,
+    pub slots: [Slot; Store::SLOTS],
+}
+
+// A refused load: its number and offset, and a fresh store of plan 1 in place of what stood in the columns.
+fn refuse<'a>(
+    number: u32,
+    at: usize,
+    counts: &'a mut [u32; Store::NODES],
+    keys: &'a mut [u32; Store::PLACES],
+    kinds: &'a mut [u32; Store::PLACES],
+    values: &'a mut [u32; Store::PLACES],
+    stamps: &'a mut [u32; Store::PLACES],
+) -> Loaded
+    ensures { λ r. ⌜ loadedIn r (now (counts .exit)) (columns (now (keys .exit)) (now (kinds .exit)) (now (values .exit)) (now (stamps .exit))) ≡ refusedLoad number at ⌝ }
 {
     let fresh = Store::fresh(1);
     let store = fresh.store;
-    Outcome {
+    let fresh_counts = store.counts;
+    *counts = fresh_counts;
+    let fresh_keys = store.keys;
+    *keys = fresh_keys;
+    let fresh_kinds = store.kinds;
+    *kinds = fresh_kinds;
+    let fresh_values = store.values;
+    *values = fresh_values;
+    let fresh_stamps = store.stamps;
+    *stamps = fresh_stamps;
+    let slots = store.slots;
+    Loaded {
         answer: Answer::of(number, at as u64, 0, 0, 0),
-        store,
+        plan: store.plan,
+        clock: store.clock,
+        slots,
     }
 }
 
@@ -106,57 +136,84 @@ fn copies_held(counts: &[u32; Store::NODES]) -> u64
 }
 
 // At the end TRAIL, then RULE with the image's length as offset; or DONE with the copies held.
-fn finish(bytes: &[u8], end: usize, store: Store) -> Outcome
-    ensures { λ r. ⌜ r ≡ finished (now (bytes .entry)) (got store end) ⌝ }
+fn finish<'a>(
+    bytes: &[u8],
+    end: usize,
+    plan: u32,
+    clock: u32,
+    counts: &'a mut [u32; Store::NODES],
+    keys: &'a mut [u32; Store::PLACES],
+    kinds: &'a mut [u32; Store::PLACES],
+    values: &'a mut [u32; Store::PLACES],
+    stamps: &'a mut [u32; Store::PLACES],
+) -> Loaded
+    requires { ⌜ Sized (now counts) (now keys) (now kinds) (now values) (now stamps) ⌝ }
+    ensures { λ r. ⌜ loadedIn r (now (counts .exit)) (columns (now (keys .exit)) (now (kinds .exit)) (now (values .exit)) (now (stamps .exit))) ≡ finished (now (bytes .entry)) (got (idleStore plan clock (now (counts .entry)) (columns (now (keys .entry)) (now (kinds .entry)) (now (values .entry)) (now (stamps .entry)))) end) ⌝ }
 {
     if end < bytes.len() {
-        return refuse(Answer::TRAIL, end);
+        return refuse(Answer::TRAIL, end, counts, keys, kinds, values, stamps);
     }
-    let slots = store.slots;
-    if !rules::good(
-        store.plan,
-        store.clock,
-        &store.counts,
-        &store.keys,
-        &store.kinds,
-        &store.values,
-        &store.stamps,
-        slots,
-    ) {
-        return refuse(Answer::RULE, bytes.len());
+    let slots = idle_slots();
+    if !rules::good(plan, clock, counts, keys, kinds, values, stamps, slots) {
+        return refuse(
+            Answer::RULE,
+            bytes.len(),
+            counts,
+            keys,
+            kinds,
+            values,
+            stamps,
+        );
     }
-    let held = copies_held(&store.counts);
-    Outcome {
+    let held = copies_held(counts);
+    Loaded {
         answer: Answer::of(Answer::DONE, held, 0, 0, 0),
-        store,
+        plan,
+        clock,
+        slots,
     }
 }
 
-// Reads the nodes after an image's head, and ends the load.
-fn load_nodes(bytes: &[u8], plan: u32, clock: u32, at: usize) -> Outcome
-    requires { ⌜ planNumberTest plan ≡ true ⌝ }
-    ensures { λ r. ⌜ r ≡ finished (now (bytes .entry)) (nodesFrom (now (bytes .entry)) plan clock at) ⌝ }
+// Zeros over all places and counts.
+fn clear<'a>(
+    counts: &'a mut [u32; Store::NODES],
+    keys: &'a mut [u32; Store::PLACES],
+    kinds: &'a mut [u32; Store::PLACES],
+    values: &'a mut [u32; Store::PLACES],
+    stamps: &'a mut [u32; Store::PLACES],
+)
+    ensures { λ _. ⌜ (now (counts .exit) ≡ countsOf []) × (columns (now (keys .exit)) (now (kinds .exit)) (now (values .exit)) (now (stamps .exit)) ≡ columnsOf []) ⌝ }
 {
-    let mut counts = [0; Store::NODES];
-    let mut keys = [0; Store::PLACES];
-    let mut kinds = [0; Store::PLACES];
-    let mut values = [0; Store::PLACES];
-    let mut stamps = [0; Store::PLACES];
-    let end = reading::read_nodes(
-        bytes,
-        plan,
-        &mut counts,
-        &mut keys,
-        &mut kinds,
-        &mut values,
-        &mut stamps,
-        at,
-    );
+    *counts = [0; Store::NODES];
+    *keys = [0; Store::PLACES];
+    *kinds = [0; Store::PLACES];
+    *values = [0; Store::PLACES];
+    *stamps = [0; Store::PLACES];
+}
+
+// Reads the nodes after an image's head into the columns, whatever stood there, and ends the load.
+fn load_nodes<'a>(
+    bytes: &[u8],
+    plan: u32,
+    clock: u32,
+    at: usize,
+    counts: &'a mut [u32; Store::NODES],
+    keys: &'a mut [u32; Store::PLACES],
+    kinds: &'a mut [u32; Store::PLACES],
+    values: &'a mut [u32; Store::PLACES],
+    stamps: &'a mut [u32; Store::PLACES],
+) -> Loaded
+    requires { ⌜ planNumberTest plan ≡ true ⌝ }
+    ensures { λ r. ⌜ loadedIn r (now (counts .exit)) (columns (now (keys .exit)) (now (kinds .exit)) (now (values .exit)) (now (stamps .exit))) ≡ finished (now (bytes .entry)) (nodesFrom (now (bytes .entry)) plan clock at) ⌝ }
+{
+    clear(counts, keys, kinds, values, stamps);
+    let end = reading::read_nodes(bytes, plan, counts, keys, kinds, values, stamps, at);
     if !end.ok {
-        return refuse(end.fault, end.at);
+        return refuse(end.fault, end.at, counts, keys, kinds, values, stamps);
     }
-    let slots = idle_slots();
-    let store = Store {
+    finish(
+        bytes,
+        end.at,
         plan,
         clock,
         counts,
@@ -164,18 +221,66 @@ fn load_nodes(bytes: &[u8], plan: u32, clock: u32, at: usize) -> Outcome
         kinds,
         values,
         stamps,
-        slots,
-    };
-    finish(bytes, end.at, store)
+    )
 }
 
-// Loads an image: DONE with the copies held, and the store with all slots idle; or the first fault, and a fresh store of plan 1.
-pub fn load(bytes: &[u8]) -> Outcome
-    ensures { λ r. ⌜ Loads (now (bytes .entry)) r ⌝ }
+// Loads an image into the columns of a store where they lie, whatever stood there: DONE with the copies held; or the first fault, and a fresh
+// store of plan 1.
+pub fn load_in<'a>(
+    bytes: &[u8],
+    counts: &'a mut [u32; Store::NODES],
+    keys: &'a mut [u32; Store::PLACES],
+    kinds: &'a mut [u32; Store::PLACES],
+    values: &'a mut [u32; Store::PLACES],
+    stamps: &'a mut [u32; Store::PLACES],
+) -> Loaded
+    ensures { λ r. ⌜ LoadsIn (now (bytes .entry)) r (now (counts .exit)) (columns (now (keys .exit)) (now (kinds .exit)) (now (values .exit)) (now (stamps .exit))) ⌝ }
 {
     let head = reading::read_head(bytes);
     if !head.ok {
-        return refuse(head.fault, head.at);
+        return refuse(head.fault, head.at, counts, keys, kinds, values, stamps);
     }
-    load_nodes(bytes, head.plan, head.clock, head.at)
+    load_nodes(
+        bytes,
+        head.plan,
+        head.clock,
+        head.at,
+        counts,
+        keys,
+        kinds,
+        values,
+        stamps,
+    )
+}
+
+// The same into a store of its own, which is handed back with all slots idle.
+pub fn load(bytes: &[u8]) -> Outcome
+    ensures { λ r. ⌜ Loads (now (bytes .entry)) r ⌝ }
+{
+    let mut counts = [0; Store::NODES];
+    let mut keys = [0; Store::PLACES];
+    let mut kinds = [0; Store::PLACES];
+    let mut values = [0; Store::PLACES];
+    let mut stamps = [0; Store::PLACES];
+    let loaded = load_in(
+        bytes,
+        &mut counts,
+        &mut keys,
+        &mut kinds,
+        &mut values,
+        &mut stamps,
+    );
+    let slots = loaded.slots;
+    let store = Store {
+        plan: loaded.plan,
+        clock: loaded.clock,
+        counts,
+        keys,
+        kinds,
+        values,
+        stamps,
+        slots,
+    };
+    let answer = loaded.answer;
+    Outcome { answer, store }
 }

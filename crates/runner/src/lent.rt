@@ -1,10 +1,8 @@
 // The steps that leave the columns as they are, searches and unknown ones, on columns lent where they lie.
 ghost use Rattle.store.specs.Workers.{Sized, ofParts};
-ghost use Prim.Native.Nat.{_<_};
-ghost use Rattle.schedule.specs.Schedule.{CARRY};
 ghost use Rattle.schedule.specs.Running.{unknownStep};
 ghost use Rattle.searches.specs.Workers.{Moves};
-ghost use Rattle.runner.specs.Workers.{MovesBy};
+ghost use Rattle.runner.specs.Workers.{LeavesColumns, MovesBy};
 use schedule::Step;
 use searches::slots;
 use searches::slots::Moved;
@@ -38,7 +36,7 @@ fn unknown_in<'a>(
     }
 }
 
-// One step with a number past CARRY: each has its call.
+// One such step: each has its call.
 pub fn moved<'a>(
     plan: u32,
     clock: u32,
@@ -51,7 +49,7 @@ pub fn moved<'a>(
     number: u32,
     x: u32,
 ) -> Moved
-    requires { ⌜ Sized (now counts) (now keys) (now kinds) (now values) (now stamps) × (CARRY < number) ⌝ }
+    requires { ⌜ Sized (now counts) (now keys) (now kinds) (now values) (now stamps) × LeavesColumns number ⌝ }
     ensures { λ r. ⌜ MovesBy number x (ofParts plan clock (now (counts .entry)) (now (keys .entry)) (now (kinds .entry)) (now (values .entry)) (now (stamps .entry)) slots) r ⌝ }
 {
     if number == Step::START {

@@ -36,7 +36,7 @@ fn unknown(store: Store, place: usize) -> Outcome
 }
 
 // One step by its numbers: each has its call, which ignores what it does not use.
-pub fn do_step(store: Store, number: u32, x: u32, y: u32, place: usize) -> Outcome
+fn do_step(store: Store, number: u32, x: u32, y: u32, place: usize) -> Outcome
     ensures { λ r. ⌜ r ≡ onStore (stepOf (stepRecord number x y) place) store ⌝ }
 {
     if number == Step::ENTER {

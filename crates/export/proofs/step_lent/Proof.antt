@@ -53,7 +53,7 @@ use Rattle.searches.specs.declared.slots.Moved.{Moved}
 use Rattle.searches.specs.Workers.{withSlots}
 use Rattle.searches.proofs.slots.Moved as Mv
 use Rattle.searches.proofs.slots.Moved.Laws as Mv′
-use Rattle.runner.specs.Workers.{MovesBy}
+use Rattle.runner.specs.Workers.{LeavesColumns, MovesBy}
 use Rattle.runner.proofs.lent.moved as call
 use Rattle.runner.proofs.lent.moved.Symbol as call-def
 use Rattle.runner.proofs.lent.moved.Symbol.{name as #runner·moved}
@@ -112,10 +112,10 @@ module _ {M : Type 1} (𝓤 : URA M) (H : Heap 𝓤) (A : Atoms 𝓤) (W : Given
     abbrev to-call : Call 𝓤 H A at-mem run .Ghost
     to-call = (((κ′, tt), (fullShare, tt), tt, passed, storeVals b o h (vint w32 n ∷ [], (vint w32 i ∷ [], tt))), tt)
 
-    goes-call : Is S.the-row h (store-val h ∷ []) → 3 < n → n < 2 ^ 32 → i < 2 ^ 32
+    goes-call : Is S.the-row h (store-val h ∷ []) → LeavesColumns n → n < 2 ^ 32 → i < 2 ^ 32
         → ent 𝓤 (⋆ 𝓤 H A (Lent 𝓤 H A κ′ b o h g ∷ ‵ (flft κ′ fullShare) ∷ [])) (Call 𝓤 H A at-mem run .pre to-call)
-    goes-call is past gn gi =
-        qed W (Lent 𝓤 H A κ′ b o h g ∷ ‵ (flft κ′ fullShare) ∷ []) ∵ says ! (sized h is, past) $ nothing ! $ move ! (2 ∷ 0 ∷ []) $ join ! $ frame ! $
+    goes-call is leaves gn gi =
+        qed W (Lent 𝓤 H A κ′ b o h g ∷ ‵ (flft κ′ fullShare) ∷ []) ∵ says ! (sized h is, leaves) $ nothing ! $ move ! (2 ∷ 0 ∷ []) $ join ! $ frame ! $
         nothing ! $ owned ! u32 (Is u32) (uint-makes 𝓤 H A W w32) i _ (refl, gi) $ fjoin ! $ owned ! u32 (Is u32) (uint-makes 𝓤 H A W w32) n _ (refl, gn) $ fjoin ! $
         move ! (1 ∷ 0 ∷ []) $ by ! (owns-store 𝓤 H A W κ′ b o h g is (fsep (u32 .own n (vint w32 n ∷ [])) (fsep (u32 .own i (vint w32 i ∷ [])) ftrue)))
 
@@ -133,9 +133,9 @@ module _ {M : Type 1} (𝓤 : URA M) (H : Heap 𝓤) (A : Atoms 𝓤) (W : Given
       owned ! R.the-row (Is R.the-row) (LL.makes R.the-type R′.the-plain 𝓤 H A) (r .answer) _ ia $ move ! (1 ∷ 0 ∷ []) $ done !
 
   module _ (C : Calls 𝓤 H) (Λ : Loops 𝓤 H) (fm : FmC 𝓤 H (W .laws) C) (known : Triple 𝓤 (C #runner·moved) (Call 𝓤 H A at-mem run)) where
-    walk : 3 < n → n < 2 ^ 32 → i < 2 ^ 32 → ent 𝓤 (onEntry 𝓤 H A f.signature (κ, tt) (q, tt) x at) (WpFn 𝓤 H C Λ code.function (vptr b o ∷ vint w32 n ∷ vint w32 i ∷ []) Post)
+    walk : LeavesColumns n → n < 2 ^ 32 → i < 2 ^ 32 → ent 𝓤 (onEntry 𝓤 H A f.signature (κ, tt) (q, tt) x at) (WpFn 𝓤 H C Λ code.function (vptr b o ∷ vint w32 n ∷ vint w32 i ∷ []) Post)
     unfolding partOf
-    walk past gn gi =
+    walk leaves gn gi =
         qed W ((‵ (flft κ q) ⊛ ‵ ftrue) ∷ ‵ (owns (MutRef (named 0) κ S.the-row ∷ u32 ∷ u32 ∷ []) x at) ∷ []) ∵ split ! $ move ! (2 ∷ []) $ fsplit ! $ fsplit3 ! $ drop ! $ move ! (0 ∷ 1 ∷ 3 ∷ []) $
         -- [obs; the borrow; the token; what the numbers own; true]
         enter ! C Λ code.function (vptr b o ∷ vint w32 n ∷ vint w32 i ∷ []) _ $
@@ -160,7 +160,7 @@ module _ {M : Type 1} (𝓤 : URA M) (H : Heap 𝓤) (A : Atoms 𝓤) (W : Given
         use1 W (later (some (λ (γ′ : GName). ‵ (ShrRef (named 0) (α ∷ []) S.the-row .own (record { ptr = (b, o); name = γ′; now = h }) (vptr b o ∷ [])) ⊛ ‵ (flent (α ∷ []) (partAt S.the-row fullShare h b o)))))
         (lends-shr 𝓤 H A W S.the-row (named 0) (α ∷ []) fullShare h b o) $ await ! tt $ pick ! (λ γ′. split ! $ fsplit3 ! $ drop ! $ move ! (1 ∷ 3 ∷ []) $
         use2 W (later (some (λ (g : Names). Lent 𝓤 H A (α ∷ []) b o h g ⊛ (‵ (fshr-bor (α ∷ []) (λ s. partAt S.the-row s h b o)) ⊛ ‵ (flft (α ∷ []) fullShare))))) (lends 𝓤 H A W (α ∷ []) fullShare b o h) $ await ! tt $ pick ! (λ g.
-        split ! $ move ! (1 ∷ []) $ split ! $ drop ! $ move ! (1 ∷ 0 ∷ []) $ use2 W (raw (Call 𝓤 H A at-mem run .pre (to-call (α ∷ []) g))) (goes-call (α ∷ []) g was past gn gi) $
+        split ! $ move ! (1 ∷ []) $ split ! $ drop ! $ move ! (1 ∷ 0 ∷ []) $ use2 W (raw (Call 𝓤 H A at-mem run .pre (to-call (α ∷ []) g))) (goes-call (α ∷ []) g was leaves gn gi) $
         -- [what moved asks; res; the lender's part; the open borrow; obs; auth; _12; …; _0; …]
         calls-at ! fm (Call 𝓤 H A at-mem run) known (to-call (α ∷ []) g) (and-then ! (load ! (from ! (stop !)) (look ! 20 refl)) (and-then ! (load ! (from ! (stop !)) (look ! 18 refl)) (and-then ! (load ! (from ! (stop !)) (look ! 16 refl)) (and-then ! (load ! (from ! (stop !)) (look ! 14 refl)) (and-then ! (load ! (from ! (stop !)) (look ! 12 refl)) (and-then ! (load ! (from ! (stop !)) (look ! 10 refl)) (and-then ! (load ! (from ! (stop !)) (look ! 8 refl)) (and-then ! (load ! (from ! (stop !)) (look ! 6 refl)) (and-then ! (load ! (from ! (stop !)) (look ! 26 refl)) (and-then ! (load ! (from ! (stop !)) (look ! 24 refl)) (no-more !))))))))))) (λ u.
         use1 W (later (some (λ (r : Moved). ((‵ (flft (α ∷ []) fullShare) ⊛ ‵ ftrue) ⊛ ‵ (Mv.the-row .own r (u ∷ []))) ⊛ raw (ensured 𝓤 H A call.ended (call.clauses 𝓤 H A at-mem run) (α ∷ [], tt) (passed (α ∷ []) g) tt r)))) (id⊢ 𝓤 _) $ await ! tt $ pick ! (λ r.
@@ -186,8 +186,8 @@ module _ {M : Type 1} (𝓤 : URA M) (H : Heap 𝓤) (A : Atoms 𝓤) (W : Given
 module _ {M : Type 1} (𝓤 : URA M) (H : Heap 𝓤) (A : Atoms 𝓤) (W : Given 𝓤 H A) (at-mem : Memory → SProp 𝓤) (run : Routine → Fun 𝓤) where
   f-walks : (C : Calls 𝓤 H) (Λ : Loops 𝓤 H) → FmC 𝓤 H (W .laws) C → Triple 𝓤 (C #runner·moved) (Call 𝓤 H A at-mem run) → Walks 𝓤 H A f.ended stayed (WpFn 𝓤 H C Λ code.function) (f.clauses 𝓤 H A at-mem run)
   f-walks C Λ fm known = walked 𝓤 H A f.ended stayed (f.clauses 𝓤 H A at-mem run) (WpFn 𝓤 H C Λ code.function) (λ κs. (ptr-vals, (uint-vals w32, (uint-vals w32, tt)))) (λ κs. (mut-tells (named 0) (κs .0) S.the-row, (uint-tells w32, (uint-tells w32, tt))))
-      (λ κs qs bounds a g are. needs 𝓤 (3 < a .1 .0) _
-      (λ past. walk 𝓤 H A W at-mem run (κs .0) (qs .0) (a .0 .ptr .0) (a .0 .ptr .1) (a .0 .name) (a .0 .now) (a .1 .0) (a .1 .1 .0) C Λ fm known past (are .1 .0 .1) (are .1 .1 .0 .1)))
+      (λ κs qs bounds a g are. needs 𝓤 (LeavesColumns (a .1 .0)) _
+      (λ leaves. walk 𝓤 H A W at-mem run (κs .0) (qs .0) (a .0 .ptr .0) (a .0 .ptr .1) (a .0 .name) (a .0 .now) (a .1 .0) (a .1 .1 .0) C Λ fm known leaves (are .1 .0 .1) (are .1 .1 .0 .1)))
 
   goes : AllGo 𝓤 H A W 1 (f.signature .params) (f.ended .kept) stayed
   goes = (goes-ref 𝓤 H A W 1 0 tt (plain (λ _. S.the-row)), (goes-none 𝓤 H A W 1 (λ _. u32) yes (λ κs x f. refl), (goes-none 𝓤 H A W 1 (λ _. u32) yes (λ κs x f. refl), tt)))

@@ -1,43 +1,67 @@
 -- `image::finish` meets its contract. Assumes nothing.
-use mathlib.Core.Path.{refl, sym, _∙_}
+use mathlib.Core.Path.{_≡_, refl, sym, _∙_}
+use mathlib.Core.Bool.{true}
 use borrow.Author.Tests.{not-true, not-false}
+use Rattle.store.specs.declared.Store.{Store}
+use Rattle.store.specs.StoreRules.{goodStore}
 use Rattle.store.proofs.Ruling.{good-rules}
 use Rattle.wire.specs.Reading.{got}
+use Rattle.image.specs.Workers.{Columns, columns, idleStore}
 use Rattle.image.proofs.SaveWays.{good-within}
-use Rattle.image.proofs.LoadEnds.{finish-trails, finish-breaks, finish-done}
+use Rattle.image.proofs.LoadEnds.{finish-trails, finish-breaks, good-idle, finish-done}
 use borrow.Author.Needs.{needs}
 use Rattle.image.proofs.finish.Statement.{statement}
 use Rattle.image.proofs.finish.Tie as tie
+
+-- The columns at the beginning, and the store of what was read; the beginning, seen from the check.
+abbrev lent : tie.Start → Columns
+lent s = let a = s .args in columns (a .keys .now) (a .kinds .now) (a .values .now) (a .stamps .now)
+
+abbrev asked : tie.Start → Store
+asked s = let a = s .args in idleStore (a .plan) (a .clock) (a .counts .now) (lent s)
+
+abbrev first : tie.After-good2 → tie.Start
+first g = g .before .before .before .before .before .before .before .before .before
+
+-- The check is of that store.
+checked : (g : tie.After-good2) → g .good2 .result ≡ goodStore (asked (first g))
+checked g =
+    let a = first g .args in
+    good-idle (a .plan) (a .clock) (a .counts .now) (lent (first g)) (g .before .before .before .before .before .before .idle-slots .ensures) (g .good2 .ensures)
+
+good : (i : tie.Else2) → goodStore (asked (first (i .before))) ≡ true
+good i = sym (checked (i .before)) ∙ not-false _ (i .if2 .left)
 
 refuse-requires : tie.Need-refuse-requires
 refuse-requires c κs = search needs
 
 returns : tie.Need-returns
 returns c =
-    let start = c .before .before .before in
-    let a = start .args in
-    c .refuse .ensures ∙ sym (finish-trails (a .bytes .now) (got (a .t3) (a .end)) refl (c .before .if1 .taken))
+    let test = c .before .before .before .before .before .before in
+    let start = test .before .before in
+    c .refuse .ensures ∙ sym (finish-trails (start .args .bytes .now) (got (asked start) (start .args .end)) refl (test .if1 .taken))
+
+idle-slots-requires : tie.Need-idle-slots-requires
+idle-slots-requires c κs = search needs
 
 good-requires : tie.Need-good-requires
-good-requires c κs = search needs
+good-requires c κs = c .before .before .before .before .before .before .before .before .pre
 
 refuse-requires-2 : tie.Need-refuse-requires-2
 refuse-requires-2 c κs = search needs
 
 returns-2 : tie.Need-returns-2
 returns-2 c =
-    let check = c .before .before in
-    let start = check .before .before .before .before .before .before .before .before .before .before in
-    let a = start .args in
+    let test = c .before .before .before .before .before .before in
+    let check = test .before in
+    let start = first check in
     c .refuse2 .ensures
-    ∙ sym (finish-breaks (a .bytes .now) (got (a .t3) (a .end)) refl (check .before .before .before .before .before .before .before .before .if1 .left) (sym (check .good2 .ensures) ∙ not-true _ (c .before .if2 .taken)))
+    ∙ sym (finish-breaks (start .args .bytes .now) (got (asked start) (start .args .end)) refl (check .before .before .before .before .before .before .before .if1 .left) (sym (checked check) ∙ not-true _ (test .if2 .taken)))
 
 copies-held-requires : tie.Need-copies-held-requires
 copies-held-requires c κs =
-    let check = c .before .before .before in
-    let start = check .before .before .before .before .before .before .before .before .before .before in
-    let good = sym (check .good2 .ensures) ∙ not-false _ (c .before .before .if2 .left) in
-    (good-rules (start .args .t3) good .shape .counts-8, good-within (start .args .t3) good)
+    let z = asked (first (c .before .before)) in
+    (good-rules z (good (c .before)) .shape .counts-8, good-within z (good (c .before)))
 
 of-requires : tie.Need-of-requires
 of-requires c κs = search needs
@@ -45,10 +69,12 @@ of-requires c κs = search needs
 returns-3 : tie.Need-returns-3
 returns-3 c =
     let held = c .before in
-    let check = held .before .before .before .before in
-    let start = check .before .before .before .before .before .before .before .before .before .before in
+    let test = held .before .before in
+    let check = test .before in
+    let start = first check in
     let a = start .args in
-    finish-done (a .bytes .now) (a .t3) (check .before .before .before .before .before .before .before .before .if1 .left) (sym (check .good2 .ensures) ∙ not-false _ (held .before .before .before .if2 .left)) (held .copies-held .ensures) (c .of .ensures)
+    finish-done (a .plan) (a .clock) (a .counts .now) (lent start) (check .before .before .before .before .before .before .idle-slots .ensures) (a .bytes .now) (check .before .before .before .before .before .before .before .if1 .left) (good test)
+    (held .copies-held .ensures) (c .of .ensures)
 
 pub finish-spec : {M : Type 1} → statement M
 finish-spec =
@@ -56,6 +82,7 @@ finish-spec =
     (tie.spec
     refuse-requires
     returns
+    idle-slots-requires
     good-requires
     refuse-requires-2
     returns-2

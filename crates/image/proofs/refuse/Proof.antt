@@ -12,8 +12,9 @@ of-requires c κs = search needs
 
 returns : tie.Need-returns
 returns c =
-    let start = c .before .before .before in
-    refused-is (start .args .number) (start .args .at) (c .before .before .fresh .ensures) (c .of .ensures)
+    let fresh = c .before .before .before .before .before .before .before .before in
+    let a = fresh .before .args in
+    refused-is (a .number) (a .at) (fresh .fresh .ensures) (c .of .ensures)
 
 pub refuse-spec : {M : Type 1} → statement M
 refuse-spec = tie.close (tie.spec fresh-requires of-requires returns)

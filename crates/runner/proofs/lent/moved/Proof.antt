@@ -1,8 +1,4 @@
 -- `runner::lent::moved` meets its contract. Assumes nothing.
-use mathlib.Core.Path.{_≡_}
-use Prim.Native.Nat.{ℕ, _<_}
-use native.Mathlib.Omega.{arith}
-use lib.Dec.{lit<}
 use borrow.Author.Needs.{needs}
 use Rattle.store.specs.declared.Store.{Store}
 use Rattle.store.specs.Workers.{ofParts}
@@ -18,10 +14,6 @@ abbrev asked : tie.Start → Store
 asked s =
     let a = s .args in
     ofParts (a .plan) (a .clock) (a .counts .now) (a .keys .now) (a .kinds .now) (a .values .now) (a .stamps .now) (a .slots)
-
--- A number past CARRY is none up to it.
-past : (n k : ℕ) → k < 4 → 3 < n → n ≡ k → ⊥
-past n k a b e = omega (arith, a, b, e)
 
 start-in-requires : tie.Need-start-in-requires
 start-in-requires c κs = search needs
@@ -58,9 +50,9 @@ returns-4 c y =
     let e = c .before in
     let s = e .before .before .before in
     let a = s .args in
-    let beyond : 3 < a .number = s .pre .1 in
+    let leaves = s .pre .1 in
     runs-call (asked s) (a .number) (a .x) y 0 (λ p t. unknownStep 0 t)
-    (λ p t. does-unknown (a .number) (a .x) y 0 p t (past (a .number) 1 (lit< tt) beyond) (past (a .number) 2 (lit< tt) beyond) (past (a .number) 3 (lit< tt) beyond) (e .before .before .if1 .left) (e .before .if2 .left) (e .if3 .left))
+    (λ p t. does-unknown (a .number) (a .x) y 0 p t (leaves .0) (leaves .1) (leaves .2) (e .before .before .if1 .left) (e .before .if2 .left) (e .if3 .left))
     (c .unknown-in .ensures)
 
 pub moved-spec : {M : Type 1} → statement M

@@ -1,0 +1,75 @@
+-- `carries::carry_in` meets its contract. Assumes nothing.
+use borrow.Author.Needs.{needs}
+use Rattle.carries.proofs.Carrying.{kept-long, got-long, settled-out}
+use Rattle.carries.proofs.carry_in.Statement.{statement}
+use Rattle.carries.proofs.carry_in.Tie as tie
+
+-- As the columns are lent.
+abbrev start : tie.After-settle → tie.Start
+start c = c .before .before .before .before .before .before .before .before
+
+settle-requires : tie.Need-settle-requires
+settle-requires c κs = search needs
+
+array-share-prefix-stay : tie.Need-array-share-prefix-stay
+array-share-prefix-stay c = search needs
+
+slice-aggregate-stays : tie.Need-slice-aggregate-stays
+slice-aggregate-stays c = kept-long (c .before .settle .ensures)
+
+array-share-prefix-target : tie.Need-array-share-prefix-target
+array-share-prefix-target c = search needs
+
+slice-aggregate-gets : tie.Need-slice-aggregate-gets
+slice-aggregate-gets c = got-long (c .before .before .settle .ensures)
+
+-- The columns can be written in place by the lists that are settled,
+carry-column-requires : tie.Need-carry-column-requires
+carry-column-requires c κs = let d = c .before .before .before in (d .settle .ensures .movable, start d .pre .keys-512)
+
+carry-column-requires-2 : tie.Need-carry-column-requires-2
+carry-column-requires-2 c κs = let d = c .before .before .before .before .before in (d .settle .ensures .movable, start d .pre .kinds-512)
+
+carry-column-requires-3 : tie.Need-carry-column-requires-3
+carry-column-requires-3 c κs = let d = c .before .before .before .before .before .before .before in (d .settle .ensures .movable, start d .pre .values-512)
+
+carry-column-requires-4 : tie.Need-carry-column-requires-4
+carry-column-requires-4 c κs = let d = c .before .before .before .before .before .before .before .before .before in (d .settle .ensures .movable, start d .pre .stamps-512)
+
+-- and the two counts are a store's.
+mul-counts : tie.Need-mul-counts
+mul-counts c = search needs
+
+element-write-counts : tie.Need-element-write-counts
+element-write-counts c = search needs
+
+mul-counts-2 : tie.Need-mul-counts-2
+mul-counts-2 c = search needs
+
+element-write-counts-2 : tie.Need-element-write-counts-2
+element-write-counts-2 c = search needs
+
+returns : tie.Need-returns
+returns c =
+    settled-out (c .before .before .before .before .before .before .before .before .before .before .before .settle .ensures) _ _ _ _
+    (c .before .before .before .before .before .before .before .carry-column .ensures) (c .before .before .before .before .before .carry-column2 .ensures)
+    (c .before .before .before .carry-column3 .ensures) (c .before .carry-column4 .ensures)
+
+pub carry-in-spec : {M : Type 1} → statement M
+carry-in-spec =
+    tie.close
+    (tie.spec
+    settle-requires
+    array-share-prefix-stay
+    slice-aggregate-stays
+    array-share-prefix-target
+    slice-aggregate-gets
+    carry-column-requires
+    carry-column-requires-2
+    carry-column-requires-3
+    carry-column-requires-4
+    mul-counts
+    element-write-counts
+    mul-counts-2
+    element-write-counts-2
+    returns)
