@@ -42,6 +42,14 @@ pub past-rows : {A : Type 0} (f : Plan → A) (plan r : ℕ) → r ≡ rowOf pla
 unfolding plans
 past-rows f plan r e h = ap f (sym (row-plan plan r e ∙ List·getD-eq-default planTable [] h))
 
+-- The same where the row is found by tests.
+pub in-row : {A : Type 0} (f : Plan → A) (d : A) (k plan r : ℕ) → r ≡ rowOf plan → r ≡ k → k < plans → getD (map f planTable) k d ≡ f (planOf plan)
+in-row f d k plan r e at h = at-row f d plan k (sym at ∙ e) h
+
+pub in-no-row : {A : Type 0} (f : Plan → A) (plan r : ℕ) → r ≡ rowOf plan → (r ≡ 0 → ⊥) → (r ≡ 1 → ⊥) → (r ≡ 2 → ⊥) → f [] ≡ f (planOf plan)
+unfolding plans planTable
+in-no-row f plan r e a b c = past-rows f plan r e (omega (arith, a, b, c))
+
 -- A plan by any number has at most so many nodes, and edges at each.
 pub few-nodes : (plan : ℕ) → size (planOf plan) ≤ mostNodes
 unfolding planOf
