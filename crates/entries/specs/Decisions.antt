@@ -4,7 +4,9 @@ use mathlib.Core.Bool.{true, false, cond}
 use mathlib.Core.List.{List}
 use Prim.Native.Nat.{ℕ, _+_, _<_, _≤_}
 use lib.ListN.{set}
+use Rattle.store.specs.declared.Answer.{Answer}
 use Rattle.store.specs.declared.Outcome.{Outcome}
+use Rattle.store.specs.declared.Slot.{Slot}
 use Rattle.store.specs.declared.Store.{Store}
 use Rattle.store.specs.Answers.{DONE, answer, bare}
 use Rattle.store.specs.Calls.{onStore}
@@ -47,3 +49,21 @@ outcomeBy d z kind key value =
 pub record Decides (z : Store) (key : ℕ) (d : Decision) : Type 0 where
   pub in-root : (d .at ≤ d .end) × (d .end < width)
   pub right : (kind value : ℕ) → outcomeBy d z kind key value ≡ onStore (entry kind key value) z
+
+-- A store by its parts.
+abbrev pub whole : ℕ → ℕ → List ℕ → List ℕ → List ℕ → List ℕ → List ℕ → List Slot → Store
+whole plan clock counts keys kinds values stamps slots =
+    record {
+      plan = plan;
+      clock = clock;
+      counts = counts;
+      keys = keys;
+      kinds = kinds;
+      values = values;
+      stamps = stamps;
+      slots = slots;
+    }
+
+-- An entry where the columns lie: the answer and the store then are the entry's outcome.
+abbrev pub EntersIn : Store → ℕ → ℕ → ℕ → Answer → Store → Type 0
+EntersIn before kind key value r after = record { answer = r; store = after } ≡ onStore (entry kind key value) before
