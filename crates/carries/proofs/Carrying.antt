@@ -364,7 +364,8 @@ module _ {z : Store} {n i : ℕ} {stay target : List ℕ} {r : Settled} (settled
   pub got-long : r .got ≡ length (take (r .got) target)
   got-long = sym (length-take-le (r .got) target (omega (arith, settled .gets .0, settled .gets .1)))
 
-  pub settled-out : (keys kinds values stamps : List ℕ) → keys ≡ settledColumn stay target r (z .keys)
+  pub settled-out : (counts keys kinds values stamps : List ℕ) → counts ≡ set (set (z .counts) (r .node) (r .remains)) (r .target) (r .holds)
+      → keys ≡ settledColumn stay target r (z .keys)
       → kinds ≡ settledColumn stay target r (z .kinds)
       → values ≡ settledColumn stay target r (z .values) → stamps ≡ settledColumn stay target r (z .stamps)
       → record {
@@ -372,7 +373,7 @@ module _ {z : Store} {n i : ℕ} {stay target : List ℕ} {r : Settled} (settled
         store = record {
           plan = z .plan;
           clock = z .clock;
-          counts = set (set (z .counts) (r .node) (r .remains)) (r .target) (r .holds);
+          counts = counts;
           keys = keys;
           kinds = kinds;
           values = values;
@@ -380,14 +381,14 @@ module _ {z : Store} {n i : ℕ} {stay target : List ℕ} {r : Settled} (settled
           slots = z .slots;
         };
       } ≡ onStore (carryStep n i) z
-  settled-out keys kinds values stamps a b c d =
+  settled-out counts keys kinds values stamps e a b c d =
       (λ j.
       record {
         answer = r .answer;
         store = record {
           plan = z .plan;
           clock = z .clock;
-          counts = set (set (z .counts) (r .node) (r .remains)) (r .target) (r .holds);
+          counts = e j;
           keys = a j;
           kinds = b j;
           values = c j;

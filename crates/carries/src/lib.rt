@@ -8,6 +8,7 @@ use store::Outcome;
 use store::Slot;
 use store::Store;
 use writing::carry_column;
+use writing::carry_counts;
 
 mod decision; // decision.rt: which copies move, by the keys alone
 mod settling; // settling.rt: what a carry is to write, and its answer
@@ -90,9 +91,6 @@ pub fn carry_in<'a>(
     carry_column(kinds, stays, gets, s.from, s.had, s.start);
     carry_column(values, stays, gets, s.from, s.had, s.start);
     carry_column(stamps, stays, gets, s.from, s.had, s.start);
-    let n = s.node;
-    let t = s.target;
-    counts[n] = s.remains;
-    counts[t] = s.holds;
+    carry_counts(counts, s);
     s.answer
 }

@@ -1,11 +1,14 @@
-// A column after a carry, written in place by the two lists of places: those that stay in the node, and those that the target gets.
+// A column after a carry, written in place by the two lists of places: those that stay in the node, and those that the target gets; and the
+// counts.
 ghost use mathlib.Core.Path.{_≡_};
-ghost use Prim.Native.Nat.{_+_, _-_, _≤_};
-ghost use lib.ListN.{length, replicate};
+ghost use Prim.Native.Nat.{_+_, _-_, _<_, _≤_};
+ghost use lib.ListN.{length, replicate, set};
 ghost use lib.Seq.{sets};
+ghost use Rattle.plan.specs.Sizes.{mostNodes};
 ghost use Rattle.store.specs.Layout.{places};
 ghost use Rattle.carries.specs.Decisions.{Within};
 ghost use Rattle.carries.specs.Writings.{gather, Under, Over, Movable, carriedColumn};
+use crate::settling::Settled;
 use store::Store;
 
 // The numbers at the places of a list go to the places from start on. No place lies beyond its goal: from the last to the first.
@@ -63,4 +66,15 @@ pub fn carry_column(
     gather_back(column, target, start);
     gather_front(column, stay, from);
     clear(column, from + stay.len(), from + had);
+}
+
+// The counts after a carry: the node's, and then the target's.
+pub fn carry_counts(counts: &mut [u32; Store::NODES], s: Settled)
+    requires { ⌜ (s .node < mostNodes) × (s .target < mostNodes) × (length (now counts) ≡ mostNodes) ⌝ }
+    ensures { λ _. ⌜ now (counts .exit) ≡ set (set (now (counts .entry)) (s .node) (s .remains)) (s .target) (s .holds) ⌝ }
+{
+    let n = s.node;
+    let t = s.target;
+    counts[n] = s.remains;
+    counts[t] = s.holds;
 }

@@ -4,6 +4,7 @@ use mathlib.Core.Bool.{true, false, cond}
 use mathlib.Core.List.{List}
 use Prim.Native.Nat.{ℕ, _+_, _<_, _≤_}
 use lib.ListN.{set}
+use Rattle.store.specs.declared.Answer.{Answer}
 use Rattle.store.specs.declared.Outcome.{Outcome}
 use Rattle.store.specs.declared.Store.{Store}
 use Rattle.store.specs.Answers.{DONE, answer, bare}
@@ -47,3 +48,7 @@ outcomeBy d z kind key value =
 pub record Decides (z : Store) (key : ℕ) (d : Decision) : Type 0 where
   pub in-root : (d .at ≤ d .end) × (d .end < width)
   pub right : (kind value : ℕ) → outcomeBy d z kind key value ≡ onStore (entry kind key value) z
+
+-- An entry where the columns lie: the answer and the store then are the entry's outcome.
+abbrev pub EntersIn : Store → ℕ → ℕ → ℕ → Answer → Store → Type 0
+EntersIn before kind key value r after = record { answer = r; store = after } ≡ onStore (entry kind key value) before

@@ -1,36 +1,32 @@
 // Enter and withdraw. Document 01, "What each step does": "an entry either way".
 ghost use mathlib.Core.Path.{_≡_};
 ghost use Prim.Native.Nat.{_<_, _≤_};
-ghost use lib.ListN.{length, set};
+ghost use lib.ListN.{length};
 ghost use Rattle.steps.specs.Entries.{entry as entryStep};
 ghost use Rattle.steps.specs.Promises.{Enters, Withdraws};
 ghost use Rattle.store.specs.Calls.{onStore};
 ghost use Rattle.store.specs.Layout.{width, places};
-ghost use Rattle.entries.specs.Decisions.{columnBy};
+ghost use Rattle.store.specs.Workers.{Sized, ofParts};
+ghost use Rattle.entries.specs.Decisions.{columnBy, EntersIn};
 use decision::Decision;
 use decision::decide;
+use store::Answer;
 use store::Copy;
 use store::Outcome;
+use store::Slot;
 use store::Store;
 use store::columns;
 
-pub mod decision; // decision.rt: whether an entry is accepted, and where its copy stands
+mod decision; // decision.rt: whether an entry is accepted, and where its copy stands
 
 // A column after the entry: the number stands at the copy's place, unless the entry is refused.
-pub fn put(column: &mut [u32; Store::PLACES], decision: Decision, number: u32)
+fn put(column: &mut [u32; Store::PLACES], decision: Decision, number: u32)
     requires { ⌜ (decision .at ≤ decision .end) × (decision .end < width) × (length (now column) ≡ places) ⌝ }
     ensures { λ _. ⌜ now (column .exit) ≡ columnBy decision (now (column .entry)) number ⌝ }
 {
     if decision.accepted {
         columns::open(column, decision.at, decision.end, number);
     }
-}
-
-// The root's count after the entry.
-pub fn put_count(counts: &mut [u32; Store::NODES], count: u32)
-    ensures { λ _. ⌜ now (counts .exit) ≡ set (now (counts .entry)) 0 count ⌝ }
-{
-    counts[0] = count;
 }
 
 // An entry: decided first; then the columns are written where they lie, one by one. A refusal writes back what was there.
@@ -60,6 +56,42 @@ fn entry(mut store: Store, kind: u32, key: u32, value: u32) -> Outcome
     Outcome {
         answer: answer,
         store: store,
+    }
+}
+
+// What an entry on lent columns gives: its answer, and the clock after it.
+pub struct Entered {
+    pub answer: Answer,
+    pub clock: u32,
+}
+
+// The same on columns lent where they lie: each is written there.
+pub fn entry_in<'a>(
+    plan: u32,
+    clock: u32,
+    counts: &'a mut [u32; Store::NODES],
+    keys: &'a mut [u32; Store::PLACES],
+    kinds: &'a mut [u32; Store::PLACES],
+    values: &'a mut [u32; Store::PLACES],
+    stamps: &'a mut [u32; Store::PLACES],
+    slots: [Slot; Store::SLOTS],
+    kind: u32,
+    key: u32,
+    value: u32,
+) -> Entered
+    requires { ⌜ Sized (now counts) (now keys) (now kinds) (now values) (now stamps) ⌝ }
+    ensures { λ r. ⌜ EntersIn (ofParts plan clock (now (counts .entry)) (now (keys .entry)) (now (kinds .entry)) (now (values .entry)) (now (stamps .entry)) slots) kind key value (r .answer) (ofParts plan (r .clock) (now (counts .exit)) (now (keys .exit)) (now (kinds .exit)) (now (values .exit)) (now (stamps .exit)) slots) ⌝ }
+{
+    let decision = decide(plan, clock, counts, keys, kinds, values, stamps, slots, key);
+    put(keys, decision, key);
+    put(kinds, decision, kind);
+    put(values, decision, value);
+    put(stamps, decision, clock);
+    counts[0] = decision.count;
+    let answer = decision.answer;
+    Entered {
+        answer,
+        clock: decision.clock,
     }
 }
 

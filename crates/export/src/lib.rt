@@ -41,29 +41,25 @@ fn step_lent(store: &mut Store, number: u32, x: u32) -> Answer
     moved.answer
 }
 
-// An entry: decided on columns lent where they lie; then each column is written there.
+// An entry: the columns are lent where they lie, to be written there; then the clock is.
 fn entry_lent(store: &mut Store, kind: u32, key: u32, value: u32) -> Answer
     ensures { λ r. ⌜ EntersBehind (now (store .entry)) kind key value r (now (store .exit)) ⌝ }
 {
-    let stamp = store.clock;
-    let decision = entries::decision::decide(
+    let entered = entries::entry_in(
         store.plan,
-        stamp,
-        &store.counts,
-        &store.keys,
-        &store.kinds,
-        &store.values,
-        &store.stamps,
+        store.clock,
+        &mut store.counts,
+        &mut store.keys,
+        &mut store.kinds,
+        &mut store.values,
+        &mut store.stamps,
         store.slots,
+        kind,
         key,
+        value,
     );
-    entries::put(&mut store.keys, decision, key);
-    entries::put(&mut store.kinds, decision, kind);
-    entries::put(&mut store.values, decision, value);
-    entries::put(&mut store.stamps, decision, stamp);
-    entries::put_count(&mut store.counts, decision.count);
-    store.clock = decision.clock;
-    decision.answer
+    store.clock = entered.clock;
+    entered.answer
 }
 
 // A carry: the columns are lent where they lie, to be written there.

@@ -1,5 +1,5 @@
 -- `carries::carry` meets its promise. Assumes nothing.
-use mathlib.Core.Path.{_≡_}
+use mathlib.Core.Path.{_≡_, refl}
 use native.Mathlib.Omega.{arith}
 use lib.ListN.{length}
 use borrow.Author.Needs.{needs}
@@ -67,7 +67,7 @@ element-write-store-2 c = c .before .before .before .before .before .before .bef
 
 returns : tie.Need-returns
 returns c =
-    settled-out (c .before .before .before .before .before .before .before .before .before .before .before .settle .ensures) _ _ _ _ (c .before .before .before .before .before .before .carry-column .ensures) (c .before .before .before .before .carry-column2 .ensures)
+    settled-out (c .before .before .before .before .before .before .before .before .before .before .before .settle .ensures) _ _ _ _ _ refl (c .before .before .before .before .before .before .carry-column .ensures) (c .before .before .before .before .carry-column2 .ensures)
     (c .before .before .carry-column3 .ensures) (c .carry-column4 .ensures)
 
 pub carry-spec : {M : Type 1} → statement M

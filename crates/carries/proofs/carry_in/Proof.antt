@@ -37,23 +37,16 @@ carry-column-requires-4 : tie.Need-carry-column-requires-4
 carry-column-requires-4 c κs = let d = c .before .before .before .before .before .before .before .before .before in (d .settle .ensures .movable, start d .pre .stamps-512)
 
 -- and the two counts are a store's.
-mul-counts : tie.Need-mul-counts
-mul-counts c = search needs
-
-element-write-counts : tie.Need-element-write-counts
-element-write-counts c = search needs
-
-mul-counts-2 : tie.Need-mul-counts-2
-mul-counts-2 c = search needs
-
-element-write-counts-2 : tie.Need-element-write-counts-2
-element-write-counts-2 c = search needs
+carry-counts-requires : tie.Need-carry-counts-requires
+carry-counts-requires c κs =
+    let d = c .before .before .before .before .before .before .before .before .before .before .before in
+    (d .settle .ensures .nodes .0, d .settle .ensures .nodes .1, start d .pre .counts-8)
 
 returns : tie.Need-returns
 returns c =
-    settled-out (c .before .before .before .before .before .before .before .before .before .before .before .settle .ensures) _ _ _ _
-    (c .before .before .before .before .before .before .before .carry-column .ensures) (c .before .before .before .before .before .carry-column2 .ensures)
-    (c .before .before .before .carry-column3 .ensures) (c .before .carry-column4 .ensures)
+    settled-out (c .before .before .before .before .before .before .before .before .before .before .before .before .before .settle .ensures) _ _ _ _ _
+    (c .before .carry-counts .ensures) (c .before .before .before .before .before .before .before .before .before .carry-column .ensures) (c .before .before .before .before .before .before .before .carry-column2 .ensures)
+    (c .before .before .before .before .before .carry-column3 .ensures) (c .before .before .before .carry-column4 .ensures)
 
 pub carry-in-spec : {M : Type 1} → statement M
 carry-in-spec =
@@ -68,8 +61,5 @@ carry-in-spec =
     carry-column-requires-2
     carry-column-requires-3
     carry-column-requires-4
-    mul-counts
-    element-write-counts
-    mul-counts-2
-    element-write-counts-2
+    carry-counts-requires
     returns)
