@@ -21,7 +21,7 @@ use store::Store;
 use store::columns;
 
 // The node stands on the key's path.
-pub fn on_path<'a>(
+fn on_path<'a>(
     plan: u32,
     edges: &'a [u32; plan::MOST_NODES],
     lows: &'a [[u32; plan::MOST_EDGES]; plan::MOST_NODES],

@@ -32,7 +32,7 @@ pub fn seek(keys: &[u32; Store::PLACES], from: usize, end: usize, key: u32) -> u
 }
 
 // A look in one node: the copy of the key among the places from..end, by halves, or nothing.
-pub fn look_in<'a>(
+fn look_in<'a>(
     keys: &'a [u32; Store::PLACES],
     kinds: &'a [u32; Store::PLACES],
     values: &'a [u32; Store::PLACES],
