@@ -30,7 +30,7 @@ use Rattle.trips.proofs.RoundTrips.{load-good}
 use Rattle.theory.specs.Events.{Event, effect, after, answerOf, run as runEvents}
 use Rattle.theory.specs.Events.Event.{enters, withdraws, carries, starts, steps, cancels, asks}
 use Rattle.theory.proofs.EventSteps.{event-keeps}
-use Rattle.story.specs.PublicCalls.{Call, accepted, replaced, storeAfter, storeAfterAll}
+use Rattle.story.specs.PublicCalls.{Call, accepted, replaced, storeAfter, answerTo, storeAfterAll}
 use Rattle.story.specs.PublicCalls.Call.{fresh, load, enter, withdraw, carry, start, step, cancel, look, save, page, serve, run}
 use Rattle.story.specs.Following.{eventOfRecord, eventOf, eventsOf, onEvent, storeIfAccepted, replacement, sameStore}
 
@@ -124,30 +124,104 @@ record OwnOutcome (c : Call) : Type 0 where
   outcome : Outcome
   replaces : replacement c ≡ storeIfAccepted outcome
   leaves : (z : Store) → storeAfter c z ≡ replaced outcome z
+  answers : (z : Store) → answerTo c z ≡ some (outcome .answer)
   good : goodStore (outcome .store) ≡ true
   else-nothing : eventOf c ≡ asks
 
 record OnEvent (c : Call) : Type 0 where
   replaces-none : replacement c ≡ none
   leaves : (z : Store) → storeAfter c z ≡ onEvent (eventOf c) z .store
+  answers : (z : Store) → (answerTo c z ≡ some (onEvent (eventOf c) z .answer)) ⊎ (eventOf c ≡ asks)
+
+run-answer : (z : Store) (list : List Step) (place : ℕ)
+    → (some (runOutcome z list place .answer) ≡ some (onEvent (eventOfRecord (getD list place noStep)) z .answer))
+    ⊎ (eventOfRecord (getD list place noStep) ≡ asks)
+run-answer z list place = go (run-way z list place)
+  where
+    go : (runOutcome z list place ≡ onEvent (eventOfRecord (getD list place noStep)) z)
+        ⊎ ((eventOfRecord (getD list place noStep) ≡ asks) × (runOutcome z list place .store ≡ z))
+        → (some (runOutcome z list place .answer) ≡ some (onEvent (eventOfRecord (getD list place noStep)) z .answer))
+        ⊎ (eventOfRecord (getD list place noStep) ≡ asks)
+    go (inl e) = inl (ap (λ (o : Outcome). some (o .answer)) e)
+    go (inr w) = inr (w .0)
 
 call-way : (c : Call) → OnEvent c ⊎ OwnOutcome c
-unfolding storeAfter replacement eventOf onEvent effect
+unfolding storeAfter answerTo replacement eventOf onEvent effect
 call-way (fresh plan) =
-    inr (record { outcome = freshOutcome plan; replaces = refl; leaves = λ z. refl; good = fresh-outcome-good plan; else-nothing = refl })
+    inr
+    (record {
+      outcome = freshOutcome plan;
+      replaces = refl;
+      leaves = λ z. refl;
+      answers = λ z. refl;
+      good = fresh-outcome-good plan;
+      else-nothing = refl;
+    })
 call-way (load bytes) =
-    inr (record { outcome = loadOutcome bytes; replaces = refl; leaves = λ z. refl; good = load-good bytes; else-nothing = refl })
-call-way (enter k v) = inl (record { replaces-none = refl; leaves = λ z. refl })
-call-way (withdraw k) = inl (record { replaces-none = refl; leaves = λ z. refl })
-call-way (carry n i) = inl (record { replaces-none = refl; leaves = λ z. refl })
-call-way (start k) = inl (record { replaces-none = refl; leaves = λ z. refl })
-call-way (step i) = inl (record { replaces-none = refl; leaves = λ z. refl })
-call-way (cancel i) = inl (record { replaces-none = refl; leaves = λ z. refl })
-call-way (look k) = inl (record { replaces-none = refl; leaves = λ z. sym (asks-nothing z) })
-call-way save = inl (record { replaces-none = refl; leaves = λ z. sym (asks-nothing z) })
-call-way (page sample) = inl (record { replaces-none = refl; leaves = λ z. sym (asks-nothing z) })
-call-way (serve sample) = inl (record { replaces-none = refl; leaves = λ z. sym (asks-nothing z) })
-call-way (run list place) = inl (record { replaces-none = refl; leaves = λ z. run-event z list place })
+    inr
+    (record {
+      outcome = loadOutcome bytes;
+      replaces = refl;
+      leaves = λ z. refl;
+      answers = λ z. refl;
+      good = load-good bytes;
+      else-nothing = refl;
+    })
+call-way (enter k v) = inl (record { replaces-none = refl; leaves = λ z. refl; answers = λ z. inl refl })
+call-way (withdraw k) = inl (record { replaces-none = refl; leaves = λ z. refl; answers = λ z. inl refl })
+call-way (carry n i) = inl (record { replaces-none = refl; leaves = λ z. refl; answers = λ z. inl refl })
+call-way (start k) = inl (record { replaces-none = refl; leaves = λ z. refl; answers = λ z. inl refl })
+call-way (step i) = inl (record { replaces-none = refl; leaves = λ z. refl; answers = λ z. inl refl })
+call-way (cancel i) = inl (record { replaces-none = refl; leaves = λ z. refl; answers = λ z. inl refl })
+call-way (look k) = inl (record { replaces-none = refl; leaves = λ z. sym (asks-nothing z); answers = λ z. inr refl })
+call-way save = inl (record { replaces-none = refl; leaves = λ z. sym (asks-nothing z); answers = λ z. inr refl })
+call-way (page sample) = inl (record { replaces-none = refl; leaves = λ z. sym (asks-nothing z); answers = λ z. inr refl })
+call-way (serve sample) = inl (record { replaces-none = refl; leaves = λ z. sym (asks-nothing z); answers = λ z. inr refl })
+call-way (run list place) = inl (record { replaces-none = refl; leaves = λ z. run-event z list place; answers = λ z. run-answer z list place })
+
+-- A call that is one of the six steps does not replace the store, leaves what the step leaves, and answers as it does.
+pub record Acts (c : Call) (e : Event) : Type 0 where
+  pub replaces-none : replacement c ≡ none
+  pub leaves : (z : Store) → storeAfter c z ≡ onEvent e z .store
+  pub answers : (z : Store) → answerTo c z ≡ some (onEvent e z .answer)
+
+pub acts-as : (c : Call) (e : Event) → eventOf c ≡ e → (e ≡ asks → ⊥) → Acts c e
+acts-as c e is acts = go (call-way c)
+  where
+    said : OnEvent c → (z : Store) → answerTo c z ≡ some (onEvent (eventOf c) z .answer)
+    said w z = at (w .answers z)
+      where
+        at : (answerTo c z ≡ some (onEvent (eventOf c) z .answer)) ⊎ (eventOf c ≡ asks)
+            → answerTo c z ≡ some (onEvent (eventOf c) z .answer)
+        at (inl q) = q
+        at (inr q) = absurd (acts (sym is ∙ q))
+
+    go : OnEvent c ⊎ OwnOutcome c → Acts c e
+    go (inl w) =
+        record {
+          replaces-none = w .replaces-none;
+          leaves = λ z. w .leaves z ∙ ap (λ (d : Event). onEvent d z .store) is;
+          answers = λ z. said w z ∙ ap (λ (d : Event). some (onEvent d z .answer)) is;
+        }
+    go (inr w) = absurd (acts (sym is ∙ w .else-nothing))
+
+-- The events of a search are none that only ask.
+isAsk : Event → Bool
+isAsk asks = true
+isAsk (enters k v) = false
+isAsk (withdraws k) = false
+isAsk (carries n i) = false
+isAsk (starts k) = false
+isAsk (steps i) = false
+isAsk (cancels i) = false
+
+pub start-acts : (k : ℕ) → starts k ≡ asks → ⊥
+unfolding isAsk
+start-acts k e = not-both (ap isAsk e) refl
+
+pub step-acts : (i : ℕ) → steps i ≡ asks → ⊥
+unfolding isAsk
+step-acts i e = not-both (ap isAsk e) refl
 
 -- A call that does not replace the store is its event on it, of any store.
 pub event-on : (c : Call) (z : Store) → replacement c ≡ none → storeAfter c z ≡ onEvent (eventOf c) z .store
