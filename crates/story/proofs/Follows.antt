@@ -2,7 +2,7 @@
 use mathlib.Core.Path.{_≡_, refl, sym, ap, _∙_, subst}
 use mathlib.Core.Bool.{Bool, true, false, cond, not, _&&_}
 use mathlib.Core.Logic.{_⊎_, inl, inr}
-use mathlib.Core.List.{List, [], _∷_}
+use mathlib.Core.List.{List, [], _∷_, _++_}
 use mathlib.Core.Option.{Option, none, some}
 use Prim.Native.Nat.{ℕ}
 use native.Mathlib.Omega.{arith}
@@ -26,13 +26,14 @@ use Rattle.schedule.specs.declared.Step.{Step}
 use Rattle.schedule.specs.Schedule.{ENTER, WITHDRAW, CARRY, START, STEP, CANCEL}
 use Rattle.schedule.specs.Running.{noStep, unknownStep, stepOf, runOutcome}
 use Rattle.image.specs.Loading.{loadOutcome}
-use Rattle.trips.proofs.RoundTrips.{load-good}
+use Rattle.trips.proofs.RoundTrips.{load-good, fresh-idle, load-all-idle}
 use Rattle.theory.specs.Events.{Event, effect, after, answerOf, run as runEvents}
 use Rattle.theory.specs.Events.Event.{enters, withdraws, carries, starts, steps, cancels, asks}
 use Rattle.theory.proofs.EventSteps.{event-keeps}
 use Rattle.story.specs.PublicCalls.{Call, accepted, replaced, storeAfter, answerTo, storeAfterAll}
 use Rattle.story.specs.PublicCalls.Call.{fresh, load, enter, withdraw, carry, start, step, cancel, look, save, page, serve, run}
 use Rattle.story.specs.Following.{eventOfRecord, eventOf, eventsOf, onEvent, storeIfAccepted, replacement, sameStore}
+use Rattle.story.specs.Recent.{AllIdle}
 
 -- The step and the event of a record, by the six tests of its number.
 stepBy : Bool → Bool → Bool → Bool → Bool → Bool → Step → ℕ → Plan → State → Effect
@@ -119,6 +120,14 @@ fresh-outcome-good plan = go (bool? (planNumberTest plan))
     go (inl t) = let w = both-le 1 plan plan plans t in rw t (fresh-good plan (w .0) (w .1))
     go (inr t) = rw t (fresh-good 1 (omega arith) (omega (arith, plans-three)))
 
+fresh-outcome-idle : (plan : ℕ) → AllIdle (freshOutcome plan .store)
+unfolding freshOutcome
+fresh-outcome-idle plan = go (bool? (planNumberTest plan))
+  where
+    go : (planNumberTest plan ≡ true) ⊎ (planNumberTest plan ≡ false) → AllIdle (freshOutcome plan .store)
+    go (inl t) = rw t (fresh-idle plan .all-idle)
+    go (inr t) = rw t (fresh-idle 1 .all-idle)
+
 -- A call is its event on the store, of any store; or it is a fresh or a load, and gives an outcome of its own.
 record OwnOutcome (c : Call) : Type 0 where
   outcome : Outcome
@@ -126,6 +135,7 @@ record OwnOutcome (c : Call) : Type 0 where
   leaves : (z : Store) → storeAfter c z ≡ replaced outcome z
   answers : (z : Store) → answerTo c z ≡ some (outcome .answer)
   good : goodStore (outcome .store) ≡ true
+  idles : AllIdle (outcome .store)
   else-nothing : eventOf c ≡ asks
 
 record OnEvent (c : Call) : Type 0 where
@@ -155,6 +165,7 @@ call-way (fresh plan) =
       leaves = λ z. refl;
       answers = λ z. refl;
       good = fresh-outcome-good plan;
+      idles = fresh-outcome-idle plan;
       else-nothing = refl;
     })
 call-way (load bytes) =
@@ -165,6 +176,7 @@ call-way (load bytes) =
       leaves = λ z. refl;
       answers = λ z. refl;
       good = load-good bytes;
+      idles = load-all-idle bytes;
       else-nothing = refl;
     })
 call-way (enter k v) = inl (record { replaces-none = refl; leaves = λ z. refl; answers = λ z. inl refl })
@@ -241,12 +253,13 @@ event-on c z e = go (call-way c)
         ∙ (refused (w .outcome) (sym (w .replaces) ∙ e)
         ∙ sym (ap (λ (d : Event). onEvent d z .store) (w .else-nothing) ∙ asks-nothing z))
 
--- One that does leaves its replacement, a good store.
+-- One that does leaves its replacement, a good store with all slots idle.
 pub record Replaced (c : Call) (y : Store) : Type 0 where
   pub leaves : (z : Store) → storeAfter c z ≡ y
   pub good : goodStore y ≡ true
+  pub all-idle : AllIdle y
 
-pub accepted-store : (o : Outcome) (y : Store) → storeIfAccepted o ≡ some y → (o .store ≡ y) × ((z : Store) → replaced o z ≡ y)
+accepted-store : (o : Outcome) (y : Store) → storeIfAccepted o ≡ some y → (o .store ≡ y) × ((z : Store) → replaced o z ≡ y)
 accepted-store o y e = go (accepted (o .answer)) e
   where
     go : (b : Bool) → cond b (some (o .store)) none ≡ some y → (o .store ≡ y) × ((z : Store) → cond b (o .store) z ≡ y)
@@ -260,7 +273,11 @@ replaced-by c y e = go (call-way c)
     go (inl w) = absurd (not-none-and-some (w .replaces-none) e)
     go (inr w) =
         let a = accepted-store (w .outcome) y (sym (w .replaces) ∙ e) in
-        record { leaves = λ z. w .leaves z ∙ a .1 z; good = subst (λ (z : Store). goodStore z ≡ true) (a .0) (w .good) }
+        record {
+          leaves = λ z. w .leaves z ∙ a .1 z;
+          good = subst (λ (z : Store). goodStore z ≡ true) (a .0) (w .good);
+          all-idle = subst AllIdle (a .0) (w .idles);
+        }
 
 -- An event keeps the rules, as a step.
 effect-keeps : (e : Event) → Keeps (λ p s. effect p e s)
@@ -310,6 +327,12 @@ call-on-bad c z bad = go (option? (replacement c))
     go : (replacement c ≡ none) ⊎ ((y : Store) × (replacement c ≡ some y)) → (storeAfter c z ≡ z) ⊎ (goodStore (storeAfter c z) ≡ true)
     go (inl e) = inl (event-on c z e ∙ event-on-bad (eventOf c) z bad)
     go (inr w) = let r = replaced-by c (w .0) (w .1) in inr (rw (r .leaves z) (r .good))
+
+-- One sequence after another.
+pub after-append : (cs ds : List Call) (z : Store) → storeAfterAll (cs ++ ds) z ≡ storeAfterAll ds (storeAfterAll cs z)
+unfolding storeAfterAll
+after-append [] ds z = refl
+after-append (c ∷ cs) ds z = after-append cs ds (storeAfter c z)
 
 -- Over a sequence in which the store is not replaced, its state follows the events, and its plan stays.
 pub record FollowsEvents (cs : List Call) (z : Store) : Type 0 where

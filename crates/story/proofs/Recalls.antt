@@ -1,14 +1,14 @@
 -- Search recency over all sequences of public calls; an accepted fresh or load ends every search of the store that it replaces.
 -- Assumes nothing.
 use mathlib.Core.Path.{_≡_, refl, sym, ap, _∙_, subst}
-use mathlib.Core.Bool.{true, false, not}
+use mathlib.Core.Bool.{true, not}
 use mathlib.Core.Logic.{_⊎_, inl, inr}
 use mathlib.Core.List.{List, [], _∷_, _++_, List·Memᴰ, List·Memᴰ·append-cases, Memᴰ·append-left, Memᴰ·append-right}
 use mathlib.Core.Option.{Option, some}
 use Prim.Native.Nat.{ℕ, suc, _≤_}
 use native.Mathlib.Omega.{arith}
-use lib.ListN.{length, drop, replicate}
-use Rattle.lists.proofs.Truths.{bool?, and-left, and-right, and-both}
+use lib.ListN.{length, drop}
+use Rattle.lists.proofs.Truths.{and-left, and-right, and-both}
 use Rattle.lists.proofs.Options.{one-some}
 use Rattle.plan.specs.Plan.{Plan, path}
 use Rattle.plan.specs.PlanTable.{planOf}
@@ -17,13 +17,10 @@ use Rattle.store.specs.declared.Copy.{Copy}
 use Rattle.store.specs.declared.Store.{Store}
 use Rattle.store.specs.Answers.{DONE, answer}
 use Rattle.store.specs.Copies.{isSome}
-use Rattle.store.specs.State.{State, slotCount, idle, line, current, fresh as freshState}
-use Rattle.store.specs.Layout.{stateOf, storeOf, freshStore}
-use Rattle.store.specs.StoreRules.{planNumberTest, goodStore}
-use Rattle.store.specs.Promises.{freshOutcome}
+use Rattle.store.specs.State.{State, line, current}
+use Rattle.store.specs.Layout.{stateOf}
+use Rattle.store.specs.StoreRules.{goodStore}
 use Rattle.store.proofs.Lifting.{plan-good, state-good}
-use Rattle.image.specs.Loading.{loadOutcome}
-use Rattle.trips.proofs.RoundTrips.{load-all-idle}
 use Rattle.theory.specs.Events.{Event, after, answerOf, run as runEvents, entered, held, goesOn, ownSteps, notCancelled, EndsIn}
 use Rattle.theory.specs.Events.Event.{starts, steps}
 use Rattle.theory.specs.Paper.{History, InHistory, Multicopy, SearchRecency}
@@ -38,13 +35,13 @@ use Rattle.story.proofs.Follows.{
   acts-as,
   start-acts,
   step-acts,
+  replaced-by,
   event-keeps-plan,
   event-state,
   event-answer,
   call-keeps-good,
   calls-keep-good,
   follows-events,
-  accepted-store,
 }
 use Rattle.story.proofs.Histories.{store-story, same-history}
 
@@ -276,14 +273,7 @@ module _ (z : Store) (good : goodStore z ≡ true) (before : List Call) (c : Cal
 
 -- "An accepted fresh or load ends all running searches of the store it replaces."
 pub fresh-ends-searches : (plan : ℕ) (y : Store) → replacement (fresh plan) ≡ some y → AllIdle y
-unfolding replacement freshOutcome freshStore freshState storeOf
-fresh-ends-searches plan y e =
-    sym (ap (λ (z : Store). z .slots) (accepted-store (freshOutcome plan) y e .0)) ∙ go (bool? (planNumberTest plan))
-  where
-    go : (planNumberTest plan ≡ true) ⊎ (planNumberTest plan ≡ false) → freshOutcome plan .store .slots ≡ replicate slotCount idle
-    go (inl t) = rw t
-    go (inr t) = rw t
+fresh-ends-searches plan y e = replaced-by (fresh plan) y e .all-idle
 
 pub load-ends-searches : (bytes : List ℕ) (y : Store) → replacement (load bytes) ≡ some y → AllIdle y
-unfolding replacement
-load-ends-searches bytes y e = sym (ap (λ (z : Store). z .slots) (accepted-store (loadOutcome bytes) y e .0)) ∙ load-all-idle bytes
+load-ends-searches bytes y e = replaced-by (load bytes) y e .all-idle
