@@ -259,7 +259,7 @@ pub record Replaced (c : Call) (y : Store) : Type 0 where
   pub good : goodStore y ≡ true
   pub all-idle : AllIdle y
 
-accepted-store : (o : Outcome) (y : Store) → storeIfAccepted o ≡ some y → (o .store ≡ y) × ((z : Store) → replaced o z ≡ y)
+pub accepted-store : (o : Outcome) (y : Store) → storeIfAccepted o ≡ some y → (o .store ≡ y) × ((z : Store) → replaced o z ≡ y)
 accepted-store o y e = go (accepted (o .answer)) e
   where
     go : (b : Bool) → cond b (some (o .store)) none ≡ some y → (o .store ≡ y) × ((z : Store) → cond b (o .store) z ≡ y)

@@ -1,5 +1,6 @@
 pub mod Follows
 pub mod Histories
+pub mod KeepsDeclared
 pub mod CurrentResults
 pub mod CarryBound
 pub mod Recalls

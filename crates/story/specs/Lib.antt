@@ -1,3 +1,4 @@
 pub mod PublicCalls
 pub mod Following
 pub mod Recent
+pub mod DeclaredNumbers
