@@ -3,6 +3,7 @@ pub mod Histories
 pub mod KeepsDeclared
 pub mod CurrentResults
 pub mod CarryBound
+pub mod ClockCounts
 pub mod Recalls
 pub mod Finishes
 pub mod KeptPages
