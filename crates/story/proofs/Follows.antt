@@ -81,7 +81,7 @@ same-step f g z h = go (bool? (goodStore z))
         ∙ sym (on-good g z good))
     go (inr bad) = on-bad f z bad ∙ sym (on-bad g z bad)
 
-asks-nothing : (z : Store) → onEvent asks z .store ≡ z
+pub asks-nothing : (z : Store) → onEvent asks z .store ≡ z
 unfolding onEvent effect
 asks-nothing z = store-stays (λ p s. effect p asks s) z refl
 
@@ -129,19 +129,19 @@ fresh-outcome-idle plan = go (bool? (planNumberTest plan))
     go (inr t) = rw t (fresh-idle 1 .all-idle)
 
 -- A call is its event on the store, of any store; or it is a fresh or a load, and gives an outcome of its own.
-record OwnOutcome (c : Call) : Type 0 where
-  outcome : Outcome
-  replaces : replacement c ≡ storeIfAccepted outcome
-  leaves : (z : Store) → storeAfter c z ≡ replaced outcome z
-  answers : (z : Store) → answerTo c z ≡ some (outcome .answer)
-  good : goodStore (outcome .store) ≡ true
-  idles : AllIdle (outcome .store)
-  else-nothing : eventOf c ≡ asks
+pub record OwnOutcome (c : Call) : Type 0 where
+  pub outcome : Outcome
+  pub replaces : replacement c ≡ storeIfAccepted outcome
+  pub leaves : (z : Store) → storeAfter c z ≡ replaced outcome z
+  pub answers : (z : Store) → answerTo c z ≡ some (outcome .answer)
+  pub good : goodStore (outcome .store) ≡ true
+  pub idles : AllIdle (outcome .store)
+  pub else-nothing : eventOf c ≡ asks
 
-record OnEvent (c : Call) : Type 0 where
-  replaces-none : replacement c ≡ none
-  leaves : (z : Store) → storeAfter c z ≡ onEvent (eventOf c) z .store
-  answers : (z : Store) → (answerTo c z ≡ some (onEvent (eventOf c) z .answer)) ⊎ (eventOf c ≡ asks)
+pub record OnEvent (c : Call) : Type 0 where
+  pub replaces-none : replacement c ≡ none
+  pub leaves : (z : Store) → storeAfter c z ≡ onEvent (eventOf c) z .store
+  pub answers : (z : Store) → (answerTo c z ≡ some (onEvent (eventOf c) z .answer)) ⊎ (eventOf c ≡ asks)
 
 run-answer : (z : Store) (list : List Step) (place : ℕ)
     → (some (runOutcome z list place .answer) ≡ some (onEvent (eventOfRecord (getD list place noStep)) z .answer))
@@ -155,7 +155,7 @@ run-answer z list place = go (run-way z list place)
     go (inl e) = inl (ap (λ (o : Outcome). some (o .answer)) e)
     go (inr w) = inr (w .0)
 
-call-way : (c : Call) → OnEvent c ⊎ OwnOutcome c
+pub call-way : (c : Call) → OnEvent c ⊎ OwnOutcome c
 unfolding storeAfter answerTo replacement eventOf onEvent effect
 call-way (fresh plan) =
     inr
@@ -217,7 +217,7 @@ acts-as c e is acts = go (call-way c)
         }
     go (inr w) = absurd (acts (sym is ∙ w .else-nothing))
 
--- The events of a search are none that only ask.
+-- The six steps are none that only ask.
 isAsk : Event → Bool
 isAsk asks = true
 isAsk (enters k v) = false
@@ -226,6 +226,10 @@ isAsk (carries n i) = false
 isAsk (starts k) = false
 isAsk (steps i) = false
 isAsk (cancels i) = false
+
+pub carry-acts : (n i : ℕ) → carries n i ≡ asks → ⊥
+unfolding isAsk
+carry-acts n i e = not-both (ap isAsk e) refl
 
 pub start-acts : (k : ℕ) → starts k ≡ asks → ⊥
 unfolding isAsk

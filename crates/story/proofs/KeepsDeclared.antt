@@ -23,6 +23,7 @@ use Rattle.store.specs.StateRules.{HeldAt}
 use Rattle.store.specs.Layout.{stateOf}
 use Rattle.store.specs.StoreRules.{planNumberTest, goodStore}
 use Rattle.store.specs.Promises.{freshOutcome}
+use Rattle.store.proofs.Laying.{state-past}
 use Rattle.store.proofs.Ruling.{good-rules}
 use Rattle.store.proofs.Lifting.{plan-good, state-good, good-back}
 use Rattle.steps.proofs.RulesOnLines.{held-line, line-held}
@@ -62,8 +63,7 @@ module _ (z : Store) (good : goodStore z ≡ true) where
       go : Dec (n < size (planOf (z .plan))) → n < size (planOf (z .plan))
       go (yes l) = l
       go (no l) =
-          let none-there : nodeAt s n ≡ [] = List·getD-eq-default (s .nodes) [] (omega (arith, state-good z good .a-list-for-each-node)) in
-          absurd (omega (arith, ap length none-there))
+          absurd (omega (arith, ap length (state-past z n (omega arith))))
 
   -- A good store is of the declared type exactly when the copies that it holds are small.
   pub declared-small : Declared z → SmallIn (held (stateOf z))
