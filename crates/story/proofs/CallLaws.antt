@@ -13,7 +13,6 @@ use Rattle.plan.specs.PlanTable.{planOf}
 use Rattle.store.specs.declared.Answer.{Answer}
 use Rattle.store.specs.declared.Store.{Store}
 use Rattle.store.specs.Answers.{DONE, answer}
-use Rattle.store.specs.Copies.{stampOf}
 use Rattle.store.specs.State.{State, nodeAt, line}
 use Rattle.store.specs.Layout.{countOf, nodeOf, stateOf}
 use Rattle.store.specs.StoreRules.{goodStore}
@@ -26,13 +25,12 @@ use Rattle.steps.proofs.SearchLaws.{SearchEnds, search-is-look}
 use Rattle.steps.proofs.SearchLaws.SearchEnds.{now, later}
 use Rattle.theory.specs.Events.{effect, after, answerOf}
 use Rattle.theory.specs.Events.Event.{carries, starts, steps}
-use Rattle.theory.specs.Paper.{ContentsInReach}
 use Rattle.theory.proofs.Invariants.{reach-increases-run}
 use Rattle.theory.proofs.Looks.{VisitsUntil, look-answer}
 use Rattle.story.specs.PublicCalls.{Call, storeAfter, answerTo, storeAfterAll}
 use Rattle.story.specs.PublicCalls.Call.{step, look}
 use Rattle.story.specs.Following.{eventOf, eventsOf, sameStore}
-use Rattle.story.specs.Recent.{currentIn}
+use Rattle.story.specs.Recent.{currentIn, reachStamp}
 use Rattle.story.specs.Counts.{CarryCounts}
 use Rattle.story.proofs.Follows.{
   Acts,
@@ -47,13 +45,9 @@ use Rattle.story.proofs.Follows.{
   follows-events,
 }
 
--- Contents in reach of a node of a store.
-abbrev pub inReachOf : Store → ℕ → ℕ → ℕ
-inReachOf z n k = stampOf (ContentsInReach (planOf (z .plan)) (stateOf z) n k)
-
 -- Invariant 2, over calls that do not replace the store: "The contents-in-reach of every node only increases."
 pub calls-increase : (cs : List Call) (z : Store) → goodStore z ≡ true → sameStore cs ≡ true → (n k : ℕ) → n < size (planOf (z .plan))
-    → inReachOf z n k ≤ inReachOf (storeAfterAll cs z) n k
+    → reachStamp z n k ≤ reachStamp (storeAfterAll cs z) n k
 calls-increase cs z good stays n k h =
     let f = follows-events cs z good stays in
     rw (f .state, f .plan) (reach-increases-run (planOf (z .plan)) (plan-good z good) (eventsOf cs) (stateOf z) (state-good z good) n k h)

@@ -42,6 +42,7 @@ use Rattle.theory.specs.Events.{Event, effect, after, run as runEvents, entryOf
 use Rattle.theory.specs.Events.Event.{enters, withdraws, carries, starts, steps, cancels, asks}
 use Rattle.story.specs.PublicCalls.{Call, storeAfterAll}
 use Rattle.story.specs.Following.{eventsOf, sameStore, history}
+use Rattle.story.specs.Counts.{mostEntries}
 use Rattle.story.proofs.Follows.{calls-keep-good, follows-events}
 use Rattle.story.proofs.Histories.{same-history}
 
@@ -115,7 +116,7 @@ clock-counts cs z good stays =
 -- and from a fresh store it is one more than the accepted entries, of which there are at most 4294967294.
 pub most-entries : (plan : ℕ) → 1 ≤ plan → plan ≤ plans → (cs : List Call) → sameStore cs ≡ true
     → (storeAfterAll cs (freshStore plan) .clock ≡ suc (length (history cs (freshStore plan) [])))
-    × (length (history cs (freshStore plan) []) ≤ 4294967294)
+    × (length (history cs (freshStore plan) []) ≤ mostEntries)
 unfolding stateOf freshStore storeOf freshState
 most-entries plan low high cs stays =
     let good = fresh-good plan low high in

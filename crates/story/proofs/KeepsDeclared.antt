@@ -16,7 +16,7 @@ use Rattle.plan.specs.Plan.{size}
 use Rattle.plan.specs.PlanTable.{planOf}
 use Rattle.store.specs.declared.Copy.{Copy}
 use Rattle.store.specs.declared.Store.{Store}
-use Rattle.store.specs.Answers.{DONE, answer}
+use Rattle.store.specs.Answers.{answer}
 use Rattle.store.specs.Copies.{WITHDRAWN, RESULT, copy, noCopy}
 use Rattle.store.specs.State.{State, nodeAt, copyAt, line}
 use Rattle.store.specs.StateRules.{HeldAt}
@@ -28,8 +28,9 @@ use Rattle.store.proofs.Ruling.{good-rules}
 use Rattle.store.proofs.Lifting.{plan-good, state-good, good-back}
 use Rattle.steps.proofs.RulesOnLines.{held-line, line-held}
 use Rattle.image.specs.Image.{image, Declared}
-use Rattle.image.specs.Loading.{copiesHeld, loadOutcome, idled}
+use Rattle.image.specs.Loading.{loadOutcome}
 use Rattle.image.specs.Promises.{saveBuffer}
+use Rattle.trips.specs.Trips.{loadedAsItself}
 use Rattle.trips.proofs.ImageParts.{Small, small-none}
 use Rattle.trips.proofs.ImageReads.{nodes-writable}
 use Rattle.trips.proofs.RoundTrips.{saved-loads, buffer-loads, images-apart, stored-declared, fresh-idle, load-idle}
@@ -243,12 +244,12 @@ calls-keep-declared (c ∷ cs) ds z declared =
 module _ (z : Store) (good : goodStore z ≡ true) (declared : Declared z) (cs : List Call) (ds : DeclaredCalls cs) where
   -- Saved, it loads as itself with all slots idle, from the buffer too.
   pub reached-loads : loadOutcome (image (storeAfterAll cs z))
-      ≡ record { answer = answer DONE (copiesHeld (storeAfterAll cs z .counts)) 0 0 0; store = idled (storeAfterAll cs z) }
+      ≡ loadedAsItself (storeAfterAll cs z)
   reached-loads = saved-loads (storeAfterAll cs z) (calls-keep-good cs z good) (calls-keep-declared cs ds z declared)
 
   pub reached-buffer-loads : (before : List ℕ) → length (image (storeAfterAll cs z)) ≤ length before
       → loadOutcome (take (length (image (storeAfterAll cs z))) (saveBuffer (storeAfterAll cs z) before))
-      ≡ record { answer = answer DONE (copiesHeld (storeAfterAll cs z .counts)) 0 0 0; store = idled (storeAfterAll cs z) }
+      ≡ loadedAsItself (storeAfterAll cs z)
   reached-buffer-loads = buffer-loads (storeAfterAll cs z) (calls-keep-good cs z good) (calls-keep-declared cs ds z declared)
 
   -- Its image is not the beginning of another's.

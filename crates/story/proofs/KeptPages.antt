@@ -34,6 +34,7 @@ use Rattle.theory.proofs.Invariants.{history-in, multicopy-held, multicopy, ent
 use Rattle.story.specs.PublicCalls.{Call, storeAfterAll}
 use Rattle.story.specs.Following.{eventsOf, sameStore, history}
 use Rattle.story.specs.Recent.{currentIn}
+use Rattle.story.specs.Kept.{KeptFrom, ServesPage, ServesNotice}
 use Rattle.story.specs.DeclaredNumbers.{DeclaredCalls}
 use Rattle.story.proofs.Follows.{calls-keep-good, follows-events}
 use Rattle.story.proofs.Histories.{same-history}
@@ -79,13 +80,13 @@ module _ (z : Store) (good : goodStore z ≡ true) (cs : List Call) (stays : sam
   entered-since = same-history cs z good stays []
 
   -- While nothing was entered, whatever was carried and searched, the kept page is served.
-  pub served-while-true : history cs z [] ≡ [] → (kept notice : RefT (List ℕ)) (rest : List ℕ) → kept .now ≡ pageNow z sample ++ rest
-      → served (storeAfterAll cs z) sample kept notice ≡ (kept .ptr, pageNow z sample)
+  pub served-while-true : history cs z [] ≡ [] → (kept notice : RefT (List ℕ)) → KeptFrom z sample kept
+      → ServesPage z (storeAfterAll cs z) sample kept notice
   unfolding fresh?
-  served-while-true none-entered kept notice rest begun =
+  served-while-true none-entered kept notice begun =
       let same : pageNow y sample ≡ pageNow z sample =
       page-then ∙ same-page p s t (currents-stay p rules (eventsOf cs) s (state-good z good) (sym entered-since ∙ none-entered)) sample in
-      let begins-now : begins (kept .now) (pageNow y sample) ≡ true = rw (begun, same) (rest-begins (pageNow z sample) rest) in
+      let begins-now : begins (kept .now) (pageNow y sample) ≡ true = rw (begun .1, same) (rest-begins (pageNow z sample) (begun .0)) in
       serves-kept y sample kept notice (and-both (and-both good-y (le-leb sample lastSample h)) begins-now)
       ∙ ap (λ (l : List ℕ). (kept .ptr, l)) same
 
@@ -115,18 +116,16 @@ module _ (z : Store) (good : goodStore z ≡ true) (cs : List Call) (stays : sam
     -- Not after a result was entered: it is the current one of a line of the sample.
     pub not-after-a-result : (a : ℕ) → a < analytes → (x : Copy) → List·Memᴰ x (history cs z [])
         → currentIn (storeAfterAll cs z) (keyFor sample a) ≡ some x → x .kind ≡ RESULT
-        → (kept notice : RefT (List ℕ)) (rest : List ℕ) → kept .now ≡ pageNow z sample ++ rest
-        → served (storeAfterAll cs z) sample kept notice ≡ (notice .ptr, notice .now)
-    not-after-a-result a g x m e r kept notice rest begun =
-        not-served kept notice rest begun
+        → (kept notice : RefT (List ℕ)) → KeptFrom z sample kept → ServesNotice (storeAfterAll cs z) sample kept notice
+    not-after-a-result a g x m e r kept notice begun =
+        not-served kept notice (begun .0) (begun .1)
         (stale-by-result p s t sample a h g before now x (sym (current-then (keyFor sample a)) ∙ e) r
-        (entered-late p rules (eventsOf cs) s (state-good z good) x (subst (λ (l : History). List·Memᴰ x l) entered-since m)) rest)
+        (entered-late p rules (eventsOf cs) s (state-good z good) x (subst (λ (l : History). List·Memᴰ x l) entered-since m)) (begun .0))
 
     -- Not after a line that was shown is withdrawn.
     pub not-after-a-withdrawal : (a : ℕ) → a < analytes → (x w : Copy) → currentIn z (keyFor sample a) ≡ some w → w .kind ≡ RESULT
         → currentIn (storeAfterAll cs z) (keyFor sample a) ≡ some x → x .kind ≡ WITHDRAWN
-        → (kept notice : RefT (List ℕ)) (rest : List ℕ) → kept .now ≡ pageNow z sample ++ rest
-        → served (storeAfterAll cs z) sample kept notice ≡ (notice .ptr, notice .now)
-    not-after-a-withdrawal a g x w d r e v kept notice rest begun =
-        not-served kept notice rest begun
-        (stale-by-withdrawal p s t sample a h g before now x w (sym (current-then (keyFor sample a)) ∙ e) v d r rest)
+        → (kept notice : RefT (List ℕ)) → KeptFrom z sample kept → ServesNotice (storeAfterAll cs z) sample kept notice
+    not-after-a-withdrawal a g x w d r e v kept notice begun =
+        not-served kept notice (begun .0) (begun .1)
+        (stale-by-withdrawal p s t sample a h g before now x w (sym (current-then (keyFor sample a)) ∙ e) v d r (begun .0))

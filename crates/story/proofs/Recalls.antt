@@ -143,6 +143,7 @@ module _ (z : Store) (good : goodStore z ≡ true) (c : Call) (k i : ℕ) (is-st
                   later = later;
                   parts = parts;
                   is-step = is-step;
+                  until = rw (state-y, plan-y, events) (d .until);
                   done = (
                     onEvent (steps i) x .answer,
                     acts-as call (steps i) is-step (step-acts i) .answers x,

@@ -1,4 +1,4 @@
--- What a carry's answer counts, by the store before it and the store after it.
+-- What a carry's answer counts, by the store before it and the store after it; and the entries that the clock allows.
 use mathlib.Core.Path.{_≡_}
 use mathlib.Core.Option.{some}
 use Prim.Native.Nat.{ℕ, _-_, _≤_}
@@ -32,3 +32,7 @@ pub record CarryCounts (c : Call) (n i : ℕ) (z : Store) : Type 0 where
       ≡ some
       (answer DONE (fall z c n) (fall z c n - rise z c (targetOf z n i))
       (countHeld keyOf (edgeOf (planOf (z .plan)) n i) (nodeOf (storeAfter c z) n)) 0)
+
+-- The clock goes from 1 to 4294967295, and each accepted entry takes one of its values below the last.
+abbrev pub mostEntries : ℕ
+mostEntries = 4294967294

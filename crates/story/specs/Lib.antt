@@ -3,4 +3,5 @@ pub mod Following
 pub mod Recent
 pub mod DeclaredNumbers
 pub mod Counts
+pub mod Kept
 pub mod Behind

@@ -18,13 +18,17 @@ use Rattle.store.specs.Layout.{stateOf}
 use Rattle.steps.specs.Searches.{ended}
 use Rattle.theory.specs.Events.{held, goesOn, ownSteps}
 use Rattle.theory.specs.Events.Event.{starts, steps}
-use Rattle.theory.specs.Paper.{InHistory}
+use Rattle.theory.specs.Paper.{InHistory, ContentsInReach}
 use Rattle.story.specs.PublicCalls.{Call, storeAfter, answerTo, Done, storeAfterAll}
 use Rattle.story.specs.Following.{eventOf, eventsOf, sameStore, history}
 
 -- A line's current result in a store.
 abbrev pub currentIn : Store → ℕ → Option Copy
 currentIn z k = current (planOf (z .plan)) (stateOf z) k
+
+-- The stamp of what is in reach of a node of a store.
+abbrev pub reachStamp : Store → ℕ → ℕ → ℕ
+reachStamp z n k = stampOf (ContentsInReach (planOf (z .plan)) (stateOf z) n k)
 
 -- No search runs in a store.
 abbrev pub AllIdle : Store → Type 0
@@ -74,11 +78,13 @@ pub record Finished (z : Store) (cs : List Call) (d : Call) (i : ℕ) : Type 0 w
   pub runs : SearchRuns z before begins between key i
   pub recency : StoreRecency z before begins between d key i
 
--- The search in slot i that was started in a store ends in a sequence of calls: by one of them that is a step of its own and says DONE.
+-- The search in slot i of a store ends in a sequence of calls: by one of them that is a step of its own and says DONE, having gone on until
+-- then.
 pub record EndsByCall (z : Store) (i : ℕ) (cs : List Call) : Type 0 where
   pub earlier : List Call
   pub call : Call
   pub later : List Call
   pub parts : cs ≡ earlier ++ call ∷ later
   pub is-step : eventOf call ≡ steps i
+  pub until : goesOn (planOf (z .plan)) i (eventsOf earlier) (stateOf z) ≡ true
   pub done : Done call (storeAfterAll earlier z)

@@ -31,8 +31,9 @@ use Rattle.wire.specs.Reading.{got, numberAt}
 use Rattle.wire.proofs.Chains.{Gives, gives-got, gives-check, gives-bind, gives-any}
 use Rattle.wire.proofs.Buffers.{done-front}
 use Rattle.image.specs.Image.{formatNumber, image, lastValue, Declared}
-use Rattle.image.specs.Loading.{nodesAt, loaded, nodesFrom, clockFrom, planFrom, imageAt, copiesHeld, loadOutcome, idled}
+use Rattle.image.specs.Loading.{nodesAt, loaded, nodesFrom, clockFrom, planFrom, imageAt, loadOutcome, idled}
 use Rattle.image.specs.Promises.{saveBuffer}
+use Rattle.trips.specs.Trips.{loadedAsItself, IdleAndDeclared}
 use Rattle.trips.proofs.ImageParts.{Small, small-none}
 use Rattle.trips.proofs.ImageReads.{store-read, image-gives}
 use Rattle.image.proofs.LoadEnds.{finish-accepts}
@@ -84,7 +85,7 @@ idled-good z good = rules-good (idled z) (idled-rules z (good-rules z good))
 
 module _ (z : Store) (good : goodStore z ≡ true) (declared : Declared z) where
   -- A saved store loads as itself with all slots idle.
-  pub saved-loads : loadOutcome (image z) ≡ record { answer = answer DONE (copiesHeld (z .counts)) 0 0 0; store = idled z }
+  pub saved-loads : loadOutcome (image z) ≡ loadedAsItself z
   unfolding idled loadOutcome
   saved-loads =
       finish-accepts (image z) (imageAt (image z)) (store-read z (good-rules z good) declared (stands-itself (image z))) (omega arith) (idled-good z good)
@@ -92,7 +93,7 @@ module _ (z : Store) (good : goodStore z ≡ true) (declared : Declared z) where
   -- So it does from the buffer it was saved into.
   pub buffer-loads : (before : List ℕ) → length (image z) ≤ length before
       → loadOutcome (take (length (image z)) (saveBuffer z before))
-      ≡ record { answer = answer DONE (copiesHeld (z .counts)) 0 0 0; store = idled z }
+      ≡ loadedAsItself z
   unfolding saveBuffer
   buffer-loads before fits = ap loadOutcome (rw good (done-front (image z) before fits)) ∙ saved-loads
 
@@ -155,12 +156,7 @@ stored-declared plan t small =
 fresh-small : (p : Plan) (n i : ℕ) → Small (copyAt (fresh p) n i)
 fresh-small p n i = rw (fresh-node p n) small-none
 
--- Every outcome of loading has a declared store with all slots idle.
-pub record IdleAndDeclared (z : Store) : Type 0 where
-  pub all-idle : z .slots ≡ replicate slotCount idle
-  pub declared : Declared z
-
--- So has every fresh store.
+-- Every fresh store is declared, with all slots idle;
 pub fresh-idle : (plan : ℕ) → IdleAndDeclared (freshStore plan)
 unfolding freshStore fresh storeOf
 fresh-idle plan = record { all-idle = refl; declared = stored-declared plan (fresh (planOf plan)) (fresh-small (planOf plan)) }
@@ -170,6 +166,7 @@ loaded-idle : (plan clock : ℕ) (ns : List (List Copy)) → ((n i : ℕ) → Sm
 unfolding storeOf
 loaded-idle plan clock ns small = record { all-idle = refl; declared = stored-declared plan (loaded clock ns) small }
 
+-- so is that of every outcome of loading.
 pub load-idle : (s : List ℕ) → Bytes s → IdleAndDeclared (loadOutcome s .store)
 load-idle s bytes = go (load-way s)
   where
