@@ -4,7 +4,7 @@ use mathlib.Core.Path.{_≡_, refl, sym, ap, _∙_, subst}
 use mathlib.Core.Bool.{true}
 use mathlib.Core.List.{List}
 use mathlib.Core.Option.{some}
-use Prim.Native.Nat.{ℕ, suc, _<_, _≤_}
+use Prim.Native.Nat.{ℕ, suc, _-_, _<_, _≤_}
 use lib.ListN.{length, replicate}
 use Rattle.lists.proofs.Options.{one-some}
 use Rattle.plan.specs.Plan.{Plan, size, edgeOf, path}
@@ -13,11 +13,13 @@ use Rattle.plan.specs.PlanTable.{planOf}
 use Rattle.store.specs.declared.Answer.{Answer}
 use Rattle.store.specs.declared.Store.{Store}
 use Rattle.store.specs.Answers.{DONE, answer}
+use Rattle.store.specs.Copies.{keyOf}
 use Rattle.store.specs.State.{State, nodeAt, line}
 use Rattle.store.specs.Layout.{countOf, nodeOf, stateOf}
 use Rattle.store.specs.StoreRules.{goodStore}
 use Rattle.store.proofs.Laying.{state-node, state-count}
 use Rattle.store.proofs.Lifting.{of-good, plan-good, state-good}
+use Rattle.steps.specs.Carries.{countHeld}
 use Rattle.steps.specs.Searches.{ended, lookAnswer}
 use Rattle.steps.proofs.LineSteps.{afterCarry}
 use Rattle.steps.proofs.CarryLaws.{carry-after, carry-answer, node-falls, target-rises}
@@ -111,12 +113,7 @@ carry-counts c n i is z good d =
     record {
       falls = rw (← (before n inside), ← (then n inside)) (node-falls p rules s (state-good z good) n i d);
       rises = rw (← (before t (down .1)), ← (then t (down .1))) (target-rises p rules s (state-good z good) n i d);
-      says =
-          a .answers z
-          ∙ ap some
-          (event-answer (carries n i) z good
-          ∙ (carry-answer p rules s (state-good z good) n i d
-          ∙ rw (← (before n inside), ← (before t (down .1)), ← (then n inside), ← (then t (down .1)), ← node-then)));
+      says = a .answers z ∙ ap some (event-answer (carries n i) z good ∙ said);
     }
   where
     a : Acts c (carries n i)
@@ -160,3 +157,10 @@ carry-counts c n i is z good d =
 
     node-then : nodeAt (afterCarry p n i s) n ≡ nodeOf y n
     node-then = ap (λ (x : State). nodeAt x n) (sym state-y) ∙ state-node y n (there n inside)
+
+    said : answerOf p (carries n i) s
+        ≡ answer DONE (countOf z n - countOf y n) ((countOf z n - countOf y n) - (countOf y t - countOf z t))
+        (countHeld keyOf (edgeOf p n i) (nodeOf y n)) 0
+    said =
+        carry-answer p rules s (state-good z good) n i d
+        ∙ rw (← (before n inside), ← (before t (down .1)), ← (then n inside), ← (then t (down .1)), ← node-then)
