@@ -6,6 +6,7 @@ pub mod CallLaws
 pub mod CarryBound
 pub mod ClockCounts
 pub mod Recalls
+pub mod Slots
 pub mod Finishes
 pub mod KeptPages
 pub mod BehindPointers
