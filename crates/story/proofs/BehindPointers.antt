@@ -3,7 +3,7 @@
 use mathlib.Core.Path.{_≡_, refl, sym, ap, _∙_}
 use mathlib.Core.Bool.{Bool, true, false, cond}
 use mathlib.Core.Logic.{_⊎_, inl, inr}
-use mathlib.Core.List.{List, [], _∷_}
+use mathlib.Core.List.{List, [], _∷_, map}
 use Prim.Native.Nat.{ℕ}
 use native.Mathlib.Omega.{arith}
 use Rattle.lists.proofs.Truths.{bool?, not-both, le-both}
@@ -19,9 +19,9 @@ use Rattle.image.specs.Loading.{loadOutcome}
 use Rattle.schedule.specs.Schedule.{stepRecord}
 use Rattle.schedule.specs.Running.{stepOf, runOutcome}
 use Rattle.trips.proofs.LoadWays.{LoadWay, stops, trails, breaks, accepts, load-way}
-use Rattle.story.specs.PublicCalls.{Call, accepted, replaced, storeAfter}
-use Rattle.story.specs.PublicCalls.Call.{fresh, load}
-use Rattle.story.specs.Behind.{behind}
+use Rattle.story.specs.PublicCalls.{Call, accepted, replaced, storeAfter, storeAfterAll}
+use Rattle.story.specs.PublicCalls.Call.{fresh, load, enter, withdraw, carry, start, step, cancel, look, save, page, serve, run}
+use Rattle.story.specs.Behind.{storeBehind, storeBehindAll, behind}
 
 -- What `fresh 1` leaves is a fresh store of plan 1.
 fresh-one : (z : Store) → storeAfter (fresh 1) z ≡ freshStore 1
@@ -38,8 +38,8 @@ refused-or-taken o c leaves refused z = go (accepted (o .answer)) refl
     go true e = leaves z ∙ rw e
     go false e = fresh-one z ∙ sym (refused e)
 
--- The store behind the pointer after a fresh,
-pub fresh-behind : (plan : ℕ) (z : Store) → storeAfter (behind (fresh plan)) z ≡ freshOutcome plan .store
+-- The store behind the pointer after a fresh, and after a load.
+fresh-behind : (plan : ℕ) (z : Store) → storeAfter (behind (fresh plan)) z ≡ freshOutcome plan .store
 unfolding behind storeAfter freshOutcome
 fresh-behind plan z = refused-or-taken (freshOutcome plan) (fresh plan) (λ y. refl) (refused (bool? (planNumberTest plan))) z
   where
@@ -48,8 +48,7 @@ fresh-behind plan z = refused-or-taken (freshOutcome plan) (fresh plan) (λ y. r
     refused (inl t) e = absurd (not-both (rw t) e)
     refused (inr t) e = rw t
 
--- after a load,
-pub load-behind : (bytes : List ℕ) (z : Store) → storeAfter (behind (load bytes)) z ≡ loadOutcome bytes .store
+load-behind : (bytes : List ℕ) (z : Store) → storeAfter (behind (load bytes)) z ≡ loadOutcome bytes .store
 unfolding behind storeAfter
 load-behind bytes z = refused-or-taken (loadOutcome bytes) (load bytes) (λ y. refl) (refused (load-way bytes)) z
   where
@@ -59,7 +58,31 @@ load-behind bytes z = refused-or-taken (loadOutcome bytes) (load bytes) (λ y. r
     refused (breaks r) t = ap (λ (o : Outcome). o .store) r
     refused (accepts e h g r) t = absurd (not-both (ap (λ (o : Outcome). accepted (o .answer)) r) t)
 
--- and after a step of a record of three numbers.
+-- After every call the store behind the pointer is what the call in its place leaves,
+pub call-behind : (c : Call) (z : Store) → storeBehind c z ≡ storeAfter (behind c) z
+unfolding storeBehind behind
+call-behind (fresh plan) z = sym (fresh-behind plan z)
+call-behind (load bytes) z = sym (load-behind bytes z)
+call-behind (enter k v) z = refl
+call-behind (withdraw k) z = refl
+call-behind (carry n i) z = refl
+call-behind (start k) z = refl
+call-behind (step i) z = refl
+call-behind (cancel i) z = refl
+call-behind (look k) z = refl
+call-behind save z = refl
+call-behind (page sample) z = refl
+call-behind (serve sample) z = refl
+call-behind (run list place) z = refl
+
+-- and so after every sequence.
+pub calls-behind : (cs : List Call) (z : Store) → storeBehindAll cs z ≡ storeAfterAll (map behind cs) z
+unfolding storeBehindAll storeAfterAll
+calls-behind [] z = refl
+calls-behind (c ∷ cs) z =
+    ap (storeBehindAll cs) (call-behind c z) ∙ calls-behind cs (storeAfter (behind c) z)
+
+-- The C interface's step of three numbers is the run of a record.
 pub step-behind : (number x y : ℕ) (z : Store)
     → onStore (stepOf (stepRecord number x y) 0) z ≡ runOutcome z (stepRecord number x y ∷ []) 0
 unfolding runOutcome
