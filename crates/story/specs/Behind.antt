@@ -23,6 +23,7 @@ storeBehind (page sample) z = storeAfter (page sample) z
 storeBehind (serve sample) z = storeAfter (serve sample) z
 storeBehind (run list place) z = storeAfter (run list place) z
 
+-- The store behind the pointer after a sequence.
 unfoldable pub storeBehindAll : List Call → Store → Store
 storeBehindAll [] z = z
 storeBehindAll (c ∷ cs) z = storeBehindAll cs (storeBehind c z)

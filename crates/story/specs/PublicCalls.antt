@@ -35,6 +35,7 @@ pub data Call : Type 0 where
   serve : ℕ → Call
   run : List Step → ℕ → Call
 
+-- An accepted answer is DONE.
 abbrev pub accepted : Answer → Bool
 accepted r = eqb (r .number) DONE
 
@@ -78,6 +79,7 @@ answerTo (run list place) z = some (runOutcome z list place .answer)
 abbrev pub Done : Call → Store → Type 0
 Done c z = (a : Answer) × (answerTo c z ≡ some a) × (a .number ≡ DONE)
 
+-- The store after a sequence.
 unfoldable pub storeAfterAll : List Call → Store → Store
 storeAfterAll [] z = z
 storeAfterAll (c ∷ cs) z = storeAfterAll cs (storeAfter c z)
