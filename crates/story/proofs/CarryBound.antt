@@ -43,6 +43,7 @@ use Rattle.story.specs.Following.{
   callsOf,
   roundCalls,
 }
+use Rattle.story.specs.Counts.{mostEntries}
 use Rattle.story.proofs.Follows.{event-on, event-on-bad, event-keeps-plan, event-keeps-good, event-state, replaced-by}
 use Rattle.story.proofs.Histories.{entered-same, carried-same, nothing-carried, fresh-history, same-history, same-carries, replaced-history, replaced-carries}
 
@@ -166,14 +167,14 @@ fresh-replaces plan low high = rw (le-both 1 plan plan plans low high)
 
 -- The bound is reached, for every plan of the table, every line, every value and every number of entries that the clock allows: whatever
 -- the store was before.
-pub calls-reach : (plan : ℕ) → 1 ≤ plan → plan ≤ plans → (k v r : ℕ) → r < lastClock → (z : Store)
+pub calls-reach : (plan : ℕ) → 1 ≤ plan → plan ≤ plans → (k v r : ℕ) → r ≤ mostEntries → (z : Store)
     → (copiesOf k (history (roundCalls plan k v r) z (held (stateOf z))) ≡ r)
     × (carriesSince k (roundCalls plan k v r) z 0 ≡ edgesOn (planOf plan) k * r)
 unfolding roundCalls
 calls-reach plan low high k v r h z =
     let e = fresh-replaces plan low high in
     let cs = callsOf (rounds (planOf plan) k v r) in
-    let w = from-fresh plan low high k v r h in (
+    let w = from-fresh plan low high k v r (omega arith) in (
       ap (copiesOf k)
           (replaced-history (freshCall plan) cs z (freshStore plan) (held (stateOf z)) e
           ∙ ap (λ (xs : List Copy). history cs (freshStore plan) xs) (fresh-history plan low high))

@@ -2,7 +2,7 @@
 use mathlib.Core.Path.{_≡_, refl, sym, ap, _∙_, subst}
 use mathlib.Core.Bool.{Bool, true, false, cond, not, _&&_}
 use mathlib.Core.Logic.{_⊎_, inl, inr}
-use mathlib.Core.List.{List, [], _∷_}
+use mathlib.Core.List.{List, [], _∷_, _++_}
 use mathlib.Core.Option.{Option, none, some}
 use Prim.Native.Nat.{ℕ}
 use native.Mathlib.Omega.{arith}
@@ -26,13 +26,14 @@ use Rattle.schedule.specs.declared.Step.{Step}
 use Rattle.schedule.specs.Schedule.{ENTER, WITHDRAW, CARRY, START, STEP, CANCEL}
 use Rattle.schedule.specs.Running.{noStep, unknownStep, stepOf, runOutcome}
 use Rattle.image.specs.Loading.{loadOutcome}
-use Rattle.trips.proofs.RoundTrips.{load-good}
+use Rattle.trips.proofs.RoundTrips.{load-good, fresh-idle, load-all-idle}
 use Rattle.theory.specs.Events.{Event, effect, after, answerOf, run as runEvents}
 use Rattle.theory.specs.Events.Event.{enters, withdraws, carries, starts, steps, cancels, asks}
 use Rattle.theory.proofs.EventSteps.{event-keeps}
-use Rattle.story.specs.PublicCalls.{Call, accepted, replaced, storeAfter, storeAfterAll}
+use Rattle.story.specs.PublicCalls.{Call, accepted, replaced, storeAfter, answerTo, storeAfterAll}
 use Rattle.story.specs.PublicCalls.Call.{fresh, load, enter, withdraw, carry, start, step, cancel, look, save, page, serve, run}
 use Rattle.story.specs.Following.{eventOfRecord, eventOf, eventsOf, onEvent, storeIfAccepted, replacement, sameStore}
+use Rattle.story.specs.Recent.{AllIdle}
 
 -- The step and the event of a record, by the six tests of its number.
 stepBy : Bool → Bool → Bool → Bool → Bool → Bool → Step → ℕ → Plan → State → Effect
@@ -80,7 +81,7 @@ same-step f g z h = go (bool? (goodStore z))
         ∙ sym (on-good g z good))
     go (inr bad) = on-bad f z bad ∙ sym (on-bad g z bad)
 
-asks-nothing : (z : Store) → onEvent asks z .store ≡ z
+pub asks-nothing : (z : Store) → onEvent asks z .store ≡ z
 unfolding onEvent effect
 asks-nothing z = store-stays (λ p s. effect p asks s) z refl
 
@@ -119,35 +120,124 @@ fresh-outcome-good plan = go (bool? (planNumberTest plan))
     go (inl t) = let w = both-le 1 plan plan plans t in rw t (fresh-good plan (w .0) (w .1))
     go (inr t) = rw t (fresh-good 1 (omega arith) (omega (arith, plans-three)))
 
+fresh-outcome-idle : (plan : ℕ) → AllIdle (freshOutcome plan .store)
+unfolding freshOutcome
+fresh-outcome-idle plan = go (bool? (planNumberTest plan))
+  where
+    go : (planNumberTest plan ≡ true) ⊎ (planNumberTest plan ≡ false) → AllIdle (freshOutcome plan .store)
+    go (inl t) = rw t (fresh-idle plan .all-idle)
+    go (inr t) = rw t (fresh-idle 1 .all-idle)
+
 -- A call is its event on the store, of any store; or it is a fresh or a load, and gives an outcome of its own.
-record OwnOutcome (c : Call) : Type 0 where
-  outcome : Outcome
-  replaces : replacement c ≡ storeIfAccepted outcome
-  leaves : (z : Store) → storeAfter c z ≡ replaced outcome z
-  good : goodStore (outcome .store) ≡ true
-  else-nothing : eventOf c ≡ asks
+pub record OwnOutcome (c : Call) : Type 0 where
+  pub outcome : Outcome
+  pub replaces : replacement c ≡ storeIfAccepted outcome
+  pub leaves : (z : Store) → storeAfter c z ≡ replaced outcome z
+  pub answers : (z : Store) → answerTo c z ≡ some (outcome .answer)
+  pub good : goodStore (outcome .store) ≡ true
+  pub idles : AllIdle (outcome .store)
+  pub else-nothing : eventOf c ≡ asks
 
-record OnEvent (c : Call) : Type 0 where
-  replaces-none : replacement c ≡ none
-  leaves : (z : Store) → storeAfter c z ≡ onEvent (eventOf c) z .store
+pub record OnEvent (c : Call) : Type 0 where
+  pub replaces-none : replacement c ≡ none
+  pub leaves : (z : Store) → storeAfter c z ≡ onEvent (eventOf c) z .store
+  pub answers : (z : Store) → (answerTo c z ≡ some (onEvent (eventOf c) z .answer)) ⊎ (eventOf c ≡ asks)
 
-call-way : (c : Call) → OnEvent c ⊎ OwnOutcome c
-unfolding storeAfter replacement eventOf onEvent effect
+run-answer : (z : Store) (list : List Step) (place : ℕ)
+    → (some (runOutcome z list place .answer) ≡ some (onEvent (eventOfRecord (getD list place noStep)) z .answer))
+    ⊎ (eventOfRecord (getD list place noStep) ≡ asks)
+run-answer z list place = go (run-way z list place)
+  where
+    go : (runOutcome z list place ≡ onEvent (eventOfRecord (getD list place noStep)) z)
+        ⊎ ((eventOfRecord (getD list place noStep) ≡ asks) × (runOutcome z list place .store ≡ z))
+        → (some (runOutcome z list place .answer) ≡ some (onEvent (eventOfRecord (getD list place noStep)) z .answer))
+        ⊎ (eventOfRecord (getD list place noStep) ≡ asks)
+    go (inl e) = inl (ap (λ (o : Outcome). some (o .answer)) e)
+    go (inr w) = inr (w .0)
+
+pub call-way : (c : Call) → OnEvent c ⊎ OwnOutcome c
+unfolding storeAfter answerTo replacement eventOf onEvent effect
 call-way (fresh plan) =
-    inr (record { outcome = freshOutcome plan; replaces = refl; leaves = λ z. refl; good = fresh-outcome-good plan; else-nothing = refl })
+    inr
+    (record {
+      outcome = freshOutcome plan;
+      replaces = refl;
+      leaves = λ z. refl;
+      answers = λ z. refl;
+      good = fresh-outcome-good plan;
+      idles = fresh-outcome-idle plan;
+      else-nothing = refl;
+    })
 call-way (load bytes) =
-    inr (record { outcome = loadOutcome bytes; replaces = refl; leaves = λ z. refl; good = load-good bytes; else-nothing = refl })
-call-way (enter k v) = inl (record { replaces-none = refl; leaves = λ z. refl })
-call-way (withdraw k) = inl (record { replaces-none = refl; leaves = λ z. refl })
-call-way (carry n i) = inl (record { replaces-none = refl; leaves = λ z. refl })
-call-way (start k) = inl (record { replaces-none = refl; leaves = λ z. refl })
-call-way (step i) = inl (record { replaces-none = refl; leaves = λ z. refl })
-call-way (cancel i) = inl (record { replaces-none = refl; leaves = λ z. refl })
-call-way (look k) = inl (record { replaces-none = refl; leaves = λ z. sym (asks-nothing z) })
-call-way save = inl (record { replaces-none = refl; leaves = λ z. sym (asks-nothing z) })
-call-way (page sample) = inl (record { replaces-none = refl; leaves = λ z. sym (asks-nothing z) })
-call-way (serve sample) = inl (record { replaces-none = refl; leaves = λ z. sym (asks-nothing z) })
-call-way (run list place) = inl (record { replaces-none = refl; leaves = λ z. run-event z list place })
+    inr
+    (record {
+      outcome = loadOutcome bytes;
+      replaces = refl;
+      leaves = λ z. refl;
+      answers = λ z. refl;
+      good = load-good bytes;
+      idles = load-all-idle bytes;
+      else-nothing = refl;
+    })
+call-way (enter k v) = inl (record { replaces-none = refl; leaves = λ z. refl; answers = λ z. inl refl })
+call-way (withdraw k) = inl (record { replaces-none = refl; leaves = λ z. refl; answers = λ z. inl refl })
+call-way (carry n i) = inl (record { replaces-none = refl; leaves = λ z. refl; answers = λ z. inl refl })
+call-way (start k) = inl (record { replaces-none = refl; leaves = λ z. refl; answers = λ z. inl refl })
+call-way (step i) = inl (record { replaces-none = refl; leaves = λ z. refl; answers = λ z. inl refl })
+call-way (cancel i) = inl (record { replaces-none = refl; leaves = λ z. refl; answers = λ z. inl refl })
+call-way (look k) = inl (record { replaces-none = refl; leaves = λ z. sym (asks-nothing z); answers = λ z. inr refl })
+call-way save = inl (record { replaces-none = refl; leaves = λ z. sym (asks-nothing z); answers = λ z. inr refl })
+call-way (page sample) = inl (record { replaces-none = refl; leaves = λ z. sym (asks-nothing z); answers = λ z. inr refl })
+call-way (serve sample) = inl (record { replaces-none = refl; leaves = λ z. sym (asks-nothing z); answers = λ z. inr refl })
+call-way (run list place) = inl (record { replaces-none = refl; leaves = λ z. run-event z list place; answers = λ z. run-answer z list place })
+
+-- A call that is one of the six steps does not replace the store, leaves what the step leaves, and answers as it does.
+pub record Acts (c : Call) (e : Event) : Type 0 where
+  pub replaces-none : replacement c ≡ none
+  pub leaves : (z : Store) → storeAfter c z ≡ onEvent e z .store
+  pub answers : (z : Store) → answerTo c z ≡ some (onEvent e z .answer)
+
+pub acts-as : (c : Call) (e : Event) → eventOf c ≡ e → (e ≡ asks → ⊥) → Acts c e
+acts-as c e is acts = go (call-way c)
+  where
+    said : OnEvent c → (z : Store) → answerTo c z ≡ some (onEvent (eventOf c) z .answer)
+    said w z = at (w .answers z)
+      where
+        at : (answerTo c z ≡ some (onEvent (eventOf c) z .answer)) ⊎ (eventOf c ≡ asks)
+            → answerTo c z ≡ some (onEvent (eventOf c) z .answer)
+        at (inl q) = q
+        at (inr q) = absurd (acts (sym is ∙ q))
+
+    go : OnEvent c ⊎ OwnOutcome c → Acts c e
+    go (inl w) =
+        record {
+          replaces-none = w .replaces-none;
+          leaves = λ z. w .leaves z ∙ ap (λ (d : Event). onEvent d z .store) is;
+          answers = λ z. said w z ∙ ap (λ (d : Event). some (onEvent d z .answer)) is;
+        }
+    go (inr w) = absurd (acts (sym is ∙ w .else-nothing))
+
+-- The six steps are none that only ask.
+isAsk : Event → Bool
+isAsk asks = true
+isAsk (enters k v) = false
+isAsk (withdraws k) = false
+isAsk (carries n i) = false
+isAsk (starts k) = false
+isAsk (steps i) = false
+isAsk (cancels i) = false
+
+pub carry-acts : (n i : ℕ) → carries n i ≡ asks → ⊥
+unfolding isAsk
+carry-acts n i e = not-both (ap isAsk e) refl
+
+pub start-acts : (k : ℕ) → starts k ≡ asks → ⊥
+unfolding isAsk
+start-acts k e = not-both (ap isAsk e) refl
+
+pub step-acts : (i : ℕ) → steps i ≡ asks → ⊥
+unfolding isAsk
+step-acts i e = not-both (ap isAsk e) refl
 
 -- A call that does not replace the store is its event on it, of any store.
 pub event-on : (c : Call) (z : Store) → replacement c ≡ none → storeAfter c z ≡ onEvent (eventOf c) z .store
@@ -167,10 +257,11 @@ event-on c z e = go (call-way c)
         ∙ (refused (w .outcome) (sym (w .replaces) ∙ e)
         ∙ sym (ap (λ (d : Event). onEvent d z .store) (w .else-nothing) ∙ asks-nothing z))
 
--- One that does leaves its replacement, a good store.
+-- One that does leaves its replacement, a good store with all slots idle.
 pub record Replaced (c : Call) (y : Store) : Type 0 where
   pub leaves : (z : Store) → storeAfter c z ≡ y
   pub good : goodStore y ≡ true
+  pub all-idle : AllIdle y
 
 pub accepted-store : (o : Outcome) (y : Store) → storeIfAccepted o ≡ some y → (o .store ≡ y) × ((z : Store) → replaced o z ≡ y)
 accepted-store o y e = go (accepted (o .answer)) e
@@ -186,7 +277,11 @@ replaced-by c y e = go (call-way c)
     go (inl w) = absurd (not-none-and-some (w .replaces-none) e)
     go (inr w) =
         let a = accepted-store (w .outcome) y (sym (w .replaces) ∙ e) in
-        record { leaves = λ z. w .leaves z ∙ a .1 z; good = subst (λ (z : Store). goodStore z ≡ true) (a .0) (w .good) }
+        record {
+          leaves = λ z. w .leaves z ∙ a .1 z;
+          good = subst (λ (z : Store). goodStore z ≡ true) (a .0) (w .good);
+          all-idle = subst AllIdle (a .0) (w .idles);
+        }
 
 -- An event keeps the rules, as a step.
 effect-keeps : (e : Event) → Keeps (λ p s. effect p e s)
@@ -236,6 +331,12 @@ call-on-bad c z bad = go (option? (replacement c))
     go : (replacement c ≡ none) ⊎ ((y : Store) × (replacement c ≡ some y)) → (storeAfter c z ≡ z) ⊎ (goodStore (storeAfter c z) ≡ true)
     go (inl e) = inl (event-on c z e ∙ event-on-bad (eventOf c) z bad)
     go (inr w) = let r = replaced-by c (w .0) (w .1) in inr (rw (r .leaves z) (r .good))
+
+-- One sequence after another.
+pub after-append : (cs ds : List Call) (z : Store) → storeAfterAll (cs ++ ds) z ≡ storeAfterAll ds (storeAfterAll cs z)
+unfolding storeAfterAll
+after-append [] ds z = refl
+after-append (c ∷ cs) ds z = after-append cs ds (storeAfter c z)
 
 -- Over a sequence in which the store is not replaced, its state follows the events, and its plan stays.
 pub record FollowsEvents (cs : List Call) (z : Store) : Type 0 where

@@ -1,7 +1,13 @@
 pub mod Follows
 pub mod Histories
+pub mod KeepsDeclared
 pub mod CurrentResults
+pub mod CallLaws
 pub mod CarryBound
+pub mod ClockCounts
 pub mod Recalls
+pub mod Slots
+pub mod Finishes
 pub mod KeptPages
+pub mod BehindPointers
 pub mod Uniqueness

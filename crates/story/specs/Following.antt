@@ -51,6 +51,7 @@ eventOf save = asks
 eventOf (page sample) = asks
 eventOf (serve sample) = asks
 
+-- The events of a sequence.
 unfoldable pub eventsOf : List Call → List Event
 eventsOf [] = []
 eventsOf (c ∷ cs) = eventOf c ∷ eventsOf cs
@@ -59,10 +60,11 @@ eventsOf (c ∷ cs) = eventOf c ∷ eventsOf cs
 unfoldable pub onEvent : Event → Store → Outcome
 onEvent e z = onStore (λ p s. effect p e s) z
 
--- The store that takes another's place: of an accepted fresh or load.
+-- The store of an accepted outcome.
 abbrev pub storeIfAccepted : Outcome → Option Store
 storeIfAccepted o = cond (accepted (o .answer)) (some (o .store)) none
 
+-- The store that takes another's place: of an accepted fresh or load, and of no other call.
 unfoldable pub replacement : Call → Option Store
 replacement (fresh plan) = storeIfAccepted (freshOutcome plan)
 replacement (load bytes) = storeIfAccepted (loadOutcome bytes)
@@ -107,20 +109,22 @@ carriedBy k (steps i) z = false
 carriedBy k (cancels i) z = false
 carriedBy k asks z = false
 
--- The history: the copies entered since the store was last replaced, after those that it was fresh or loaded with.
+-- What a call does to a history: it starts again with what the new store holds, or gets the copy that was entered.
 abbrev pub historyWith : Option Store → Option Copy → List Copy → List Copy
 historyWith (some y) x h = held (stateOf y)
 historyWith none x h = h ++ optionList x
 
+-- The history: the copies entered since the store was last replaced, after those that it was fresh or loaded with.
 unfoldable pub history : List Call → Store → List Copy → List Copy
 history [] z h = h
 history (c ∷ cs) z h = history cs (storeAfter c z) (historyWith (replacement c) (enteredBy (eventOf c) z) h)
 
--- The carries of a line since the store was last replaced: the count starts again at an accepted fresh or load.
+-- What a call does to a count of carries: it starts again at an accepted fresh or load.
 abbrev pub carriesWith : Option Store → Bool → ℕ → ℕ
 carriesWith (some y) b n = 0
 carriesWith none b n = bit b + n
 
+-- The carries of a line since the store was last replaced.
 unfoldable pub carriesSince : ℕ → List Call → Store → ℕ → ℕ
 carriesSince k [] z n = n
 carriesSince k (c ∷ cs) z n = carriesSince k cs (storeAfter c z) (carriesWith (replacement c) (carriedBy k (eventOf c) z) n)
@@ -135,6 +139,7 @@ callOf (steps i) = step i
 callOf (cancels i) = cancel i
 callOf asks = save
 
+-- The calls of some events.
 unfoldable pub callsOf : List Event → List Call
 callsOf [] = []
 callsOf (e ∷ es) = callOf e ∷ callsOf es

@@ -1,3 +1,7 @@
 pub mod PublicCalls
 pub mod Following
 pub mod Recent
+pub mod DeclaredNumbers
+pub mod Counts
+pub mod Kept
+pub mod Behind

@@ -5,7 +5,7 @@ use mathlib.Core.List.{List, [], _++_}
 use Prim.Native.Nat.{ℕ, _/_, _%_, _<_, _≤_}
 use native.Mathlib.Omega.{arith}
 use native.Mathlib.Decide.{decLt}
-use lib.Dec.{lit≤}
+use lib.Dec.{lit≤, ltb, eqb}
 use lib.ListN.{length, getD, take, replicate, length-append, length-replicate}
 use Rattle.lists.proofs.Standing.{stands-itself, stands-front, stands-whole, no-elements}
 use Rattle.lists.proofs.Running.{getD-run-0, getD-run-past}
@@ -19,19 +19,21 @@ use Rattle.store.specs.declared.Copy.{Copy}
 use Rattle.store.specs.declared.Outcome.{Outcome}
 use Rattle.store.specs.declared.Slot.{Slot}
 use Rattle.store.specs.declared.Store.{Store}
-use Rattle.store.specs.Answers.{DONE, answer}
+use Rattle.store.specs.Answers.{DONE, PLAN, FORMAT, RULE, answer}
 use Rattle.store.specs.Copies.{noCopy}
 use Rattle.store.specs.State.{State, slotCount, idle, copyAt, fresh}
 use Rattle.store.specs.StateRules.{StateRules}
 use Rattle.store.specs.Layout.{width, places, stateOf, placeOf, column, storeOf, freshStore}
-use Rattle.store.specs.StoreRules.{StoreRules, goodStore}
+use Rattle.store.specs.StoreRules.{StoreRules, planNumberTest, goodStore}
 use Rattle.store.proofs.Ruling.{good-rules, rules-good}
 use Rattle.store.proofs.Lifting.{fresh-node, fresh-good}
-use Rattle.wire.specs.Reading.{got}
+use Rattle.wire.specs.Reading.{got, numberAt}
+use Rattle.wire.proofs.Chains.{Gives, gives-got, gives-check, gives-bind, gives-any}
 use Rattle.wire.proofs.Buffers.{done-front}
-use Rattle.image.specs.Image.{image, lastValue, Declared}
-use Rattle.image.specs.Loading.{loaded, imageAt, copiesHeld, loadOutcome, idled}
+use Rattle.image.specs.Image.{formatNumber, image, lastValue, Declared}
+use Rattle.image.specs.Loading.{nodesAt, loaded, nodesFrom, clockFrom, planFrom, imageAt, loadOutcome, idled}
 use Rattle.image.specs.Promises.{saveBuffer}
+use Rattle.trips.specs.Trips.{loadedAsItself, IdleAndDeclared}
 use Rattle.trips.proofs.ImageParts.{Small, small-none}
 use Rattle.trips.proofs.ImageReads.{store-read, image-gives}
 use Rattle.image.proofs.LoadEnds.{finish-accepts}
@@ -83,7 +85,7 @@ idled-good z good = rules-good (idled z) (idled-rules z (good-rules z good))
 
 module _ (z : Store) (good : goodStore z ≡ true) (declared : Declared z) where
   -- A saved store loads as itself with all slots idle.
-  pub saved-loads : loadOutcome (image z) ≡ record { answer = answer DONE (copiesHeld (z .counts)) 0 0 0; store = idled z }
+  pub saved-loads : loadOutcome (image z) ≡ loadedAsItself z
   unfolding idled loadOutcome
   saved-loads =
       finish-accepts (image z) (imageAt (image z)) (store-read z (good-rules z good) declared (stands-itself (image z))) (omega arith) (idled-good z good)
@@ -91,7 +93,7 @@ module _ (z : Store) (good : goodStore z ≡ true) (declared : Declared z) where
   -- So it does from the buffer it was saved into.
   pub buffer-loads : (before : List ℕ) → length (image z) ≤ length before
       → loadOutcome (take (length (image z)) (saveBuffer z before))
-      ≡ record { answer = answer DONE (copiesHeld (z .counts)) 0 0 0; store = idled z }
+      ≡ loadedAsItself z
   unfolding saveBuffer
   buffer-loads before fits = ap loadOutcome (rw good (done-front (image z) before fits)) ∙ saved-loads
 
@@ -143,7 +145,7 @@ column-small part ns most small i = go (decLt i places)
     go (yes h) = rw (getD-run-0 (λ j. part (placeOf ns j)) places i 0 h) (small (i / width) (i % width))
     go (no h) = rw (getD-run-past (λ j. part (placeOf ns j)) 0 places i 0 (omega arith)) (omega arith)
 
-stored-declared : (plan : ℕ) (t : State) → ((n i : ℕ) → Small (copyAt t n i)) → Declared (storeOf plan t)
+pub stored-declared : (plan : ℕ) (t : State) → ((n i : ℕ) → Small (copyAt t n i)) → Declared (storeOf plan t)
 unfolding storeOf
 stored-declared plan t small =
     record {
@@ -154,30 +156,49 @@ stored-declared plan t small =
 fresh-small : (p : Plan) (n i : ℕ) → Small (copyAt (fresh p) n i)
 fresh-small p n i = rw (fresh-node p n) small-none
 
--- Every outcome of loading has a declared store with all slots idle.
-pub record IdleAndDeclared (z : Store) : Type 0 where
-  pub all-idle : z .slots ≡ replicate slotCount idle
-  pub declared : Declared z
-
-refused-idle : IdleAndDeclared (freshStore 1)
+-- Every fresh store is declared, with all slots idle;
+pub fresh-idle : (plan : ℕ) → IdleAndDeclared (freshStore plan)
 unfolding freshStore fresh storeOf
-refused-idle = record { all-idle = refl; declared = stored-declared 1 (fresh (planOf 1)) (fresh-small (planOf 1)) }
+fresh-idle plan = record { all-idle = refl; declared = stored-declared plan (fresh (planOf plan)) (fresh-small (planOf plan)) }
 
 loaded-idle : (plan clock : ℕ) (ns : List (List Copy)) → ((n i : ℕ) → Small (getD (getD ns n []) i noCopy))
     → IdleAndDeclared (storeOf plan (loaded clock ns))
 unfolding storeOf
 loaded-idle plan clock ns small = record { all-idle = refl; declared = stored-declared plan (loaded clock ns) small }
 
+-- so is that of every outcome of loading.
 pub load-idle : (s : List ℕ) → Bytes s → IdleAndDeclared (loadOutcome s .store)
 load-idle s bytes = go (load-way s)
   where
     go : LoadWay s → IdleAndDeclared (loadOutcome s .store)
-    go (stops e r) = rw r refused-idle
-    go (trails r) = rw r refused-idle
-    go (breaks r) = rw r refused-idle
+    go (stops e r) = rw r (fresh-idle 1)
+    go (trails r) = rw r (fresh-idle 1)
+    go (breaks r) = rw r (fresh-idle 1)
     go (accepts {z} {end} e h g r) =
         let i = image-gives s bytes .each z end e in
         rw (r, i .is) (loaded-idle (z .plan) (i .clock) (i .nodes) (i .small))
+
+-- All its slots are idle whatever the numbers of the list are.
+reads-idle : (s : List ℕ) → Gives (λ (z : Store) (end : ℕ). z .slots ≡ replicate slotCount idle) (imageAt s)
+unfolding imageAt planFrom clockFrom nodesFrom storeOf
+reads-idle s =
+    gives-bind _ _ (gives-any (numberAt s 0)) λ format a u.
+    gives-check (eqb format formatNumber) FORMAT 0 _ λ one.
+    gives-bind _ _ (gives-any (numberAt s a)) λ plan b v.
+    gives-check (planNumberTest plan) PLAN a _ λ known.
+    gives-bind _ _ (gives-any (numberAt s b)) λ clock c w.
+    gives-check (ltb 0 clock) RULE b _ λ above.
+    gives-bind _ _ (gives-any (nodesAt s (planOf plan) c)) λ ns d x.
+    gives-got refl
+
+pub load-all-idle : (s : List ℕ) → loadOutcome s .store .slots ≡ replicate slotCount idle
+load-all-idle s = go (load-way s)
+  where
+    go : LoadWay s → loadOutcome s .store .slots ≡ replicate slotCount idle
+    go (stops e r) = rw r (fresh-idle 1 .all-idle)
+    go (trails r) = rw r (fresh-idle 1 .all-idle)
+    go (breaks r) = rw r (fresh-idle 1 .all-idle)
+    go (accepts {z} {end} e h g r) = rw r (reads-idle s .each z end e)
 
 -- No accepted image is the beginning of another.
 pub accepted-apart : (s : List ℕ) → Bytes s → loadOutcome s .answer .number ≡ DONE → (rest : List ℕ) → Bytes (s ++ rest)

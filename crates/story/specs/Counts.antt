@@ -1,0 +1,39 @@
+-- What a carry's answer counts, by the store before it and the store after it; and the entries that the clock allows.
+use mathlib.Core.Path.{_≡_}
+use mathlib.Core.Option.{some}
+use Prim.Native.Nat.{ℕ, _-_, _≤_}
+use Rattle.plan.specs.Plan.{edgeOf}
+use Rattle.plan.specs.PlanTable.{planOf}
+use Rattle.store.specs.declared.Store.{Store}
+use Rattle.store.specs.Answers.{DONE, answer}
+use Rattle.store.specs.Copies.{keyOf}
+use Rattle.store.specs.Layout.{countOf, nodeOf}
+use Rattle.steps.specs.Carries.{countHeld}
+use Rattle.story.specs.PublicCalls.{Call, storeAfter, answerTo}
+
+-- The target of edge i of node n, by the store's plan.
+abbrev pub targetOf : Store → ℕ → ℕ → ℕ
+targetOf z n i = edgeOf (planOf (z .plan)) n i .target
+
+-- By how much a node's count falls in a call,
+abbrev pub fall : Store → Call → ℕ → ℕ
+fall z c n = countOf z n - countOf (storeAfter c z) n
+
+-- and by how much it rises.
+abbrev pub rise : Store → Call → ℕ → ℕ
+rise z c n = countOf (storeAfter c z) n - countOf z n
+
+-- "Carried is the fall in the node's count; discarded is carried less the rise in the target's"; left is what the node still holds of the
+-- edge's range. The node's count does not rise and the target's does not fall.
+pub record CarryCounts (c : Call) (n i : ℕ) (z : Store) : Type 0 where
+  pub falls : countOf (storeAfter c z) n ≤ countOf z n
+  pub rises : countOf z (targetOf z n i) ≤ countOf (storeAfter c z) (targetOf z n i)
+  pub says :
+      answerTo c z
+      ≡ some
+      (answer DONE (fall z c n) (fall z c n - rise z c (targetOf z n i))
+      (countHeld keyOf (edgeOf (planOf (z .plan)) n i) (nodeOf (storeAfter c z) n)) 0)
+
+-- The clock goes from 1 to 4294967295, and each accepted entry takes one of its values below the last.
+abbrev pub mostEntries : ℕ
+mostEntries = 4294967294
