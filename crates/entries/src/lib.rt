@@ -65,7 +65,7 @@ pub struct Entered {
     pub clock: u32,
 }
 
-// The same on columns lent where they lie: each is written there.
+// An entry on columns lent where they lie: each is written there, and who lends them writes the clock.
 pub fn entry_in<'a>(
     plan: u32,
     clock: u32,
