@@ -1,0 +1,4 @@
+pub mod OnStores
+pub mod Entries
+pub mod Carry
+pub mod Searches
