@@ -2,3 +2,6 @@ pub mod OnStores
 pub mod Entries
 pub mod Carry
 pub mod Searches
+pub mod Fresh
+pub mod Save
+pub mod Page
