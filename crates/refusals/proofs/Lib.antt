@@ -5,3 +5,4 @@ pub mod Searches
 pub mod Fresh
 pub mod Save
 pub mod Page
+pub mod Run
