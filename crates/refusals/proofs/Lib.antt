@@ -6,3 +6,4 @@ pub mod Fresh
 pub mod Save
 pub mod Page
 pub mod Run
+pub mod Reading
