@@ -7,3 +7,4 @@ pub mod Save
 pub mod Page
 pub mod Run
 pub mod Reading
+pub mod Decode
