@@ -8,3 +8,4 @@ pub mod Page
 pub mod Run
 pub mod Reading
 pub mod Decode
+pub mod Load

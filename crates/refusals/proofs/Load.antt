@@ -1,0 +1,302 @@
+-- Load: for each number from the left CUT, NUMBER, then its own check; at the end TRAIL, then RULE. Assumes nothing.
+use mathlib.Core.Path.{_≡_, refl, sym, ap, subst, _∙_}
+use mathlib.Core.Bool.{Bool, true, false, cond}
+use mathlib.Core.List.{List, [], _∷_}
+use mathlib.Core.Logic.{_≢_, _↔_, _⊎_, inl, inr, ⊎-elim}
+use Prim.Native.Nat.{ℕ, zero, suc, _<_, _≤_}
+use native.Mathlib.Omega.{arith}
+use lib.Dec.{leb, ltb, eqb}
+use lib.ListN.{length}
+use borrow.Author.Tests.{eqb-true}
+use Rattle.lists.proofs.Truths.{bool?, not-both}
+use Rattle.plan.specs.Plan.{Plan}
+use Rattle.plan.specs.PlanTable.{planOf}
+use Rattle.store.specs.declared.Copy.{Copy}
+use Rattle.store.specs.declared.Outcome.{Outcome}
+use Rattle.store.specs.declared.Store.{Store}
+use Rattle.store.specs.Answers.{DONE, PLAN, CUT, NUMBER, FORMAT, RULE, TRAIL, answer}
+use Rattle.store.specs.Copies.{RESULT, copy}
+use Rattle.store.specs.StoreRules.{planNumberTest, goodStore}
+use Rattle.wire.specs.Reading.{Got, got, fault, bind, numberAt}
+use Rattle.wire.proofs.Chains.{got-or-fault, bind-got, bind-fault, check-holds, check-fails}
+use Rattle.image.specs.Image.{formatNumber}
+use Rattle.image.specs.Loading.{valueAt, copyAt, copiesAt, nodeAt, nodesAt, loaded, nodesFrom, clockFrom, planFrom, imageAt, refusedLoad, loadOutcome}
+use Rattle.refusals.proofs.Reading.{After, first-fault, same-fault, number-fault-at}
+
+-- What a number of an image is checked for, once it is read.
+pub data Own : Type 0 where
+  theFormat : Own
+  thePlan : Own
+  theClock : Own
+  theCount : ℕ → Own
+  theKind : Own
+  nothing : Own
+
+-- "its own check (FORMAT, PLAN; RULE for clock 0, count above capacity, kind above 1)"
+abbrev pub passes : Own → ℕ → Bool
+passes theFormat v = eqb v formatNumber
+passes thePlan v = planNumberTest v
+passes theClock v = ltb 0 v
+passes (theCount capacity) v = ltb v (suc capacity)
+passes theKind v = ltb v 2
+passes nothing v = true
+
+abbrev pub refusal : Own → ℕ
+refusal theFormat = FORMAT
+refusal thePlan = PLAN
+refusal theClock = RULE
+refusal (theCount capacity) = RULE
+refusal theKind = RULE
+refusal nothing = RULE
+
+-- A number is read, and passes its check.
+pub record Passes (s : List ℕ) (own : Own) (at value next : ℕ) : Type 0 where
+  pub read : numberAt s at ≡ got value next
+  pub passed : passes own value ≡ true
+
+-- A number is read, and does not.
+pub record Breaks (s : List ℕ) (own : Own) (at number : ℕ) : Type 0 where
+  pub value : ℕ
+  pub next : ℕ
+  pub read : numberAt s at ≡ got value next
+  pub broken : passes own value ≡ false
+  pub is : refusal own ≡ number
+
+-- "For each number CUT, NUMBER, then its own check."
+abbrev pub Fails : List ℕ → Own → ℕ → ℕ → Type 0
+Fails s own at number = (numberAt s at ≡ fault number at) ⊎ Breaks s own at number
+
+-- One number with its check, and the rest after it.
+module _ {A : Type 0} (s : List ℕ) (own : Own) (start : ℕ) (rest : ℕ → ℕ → Got A) where
+  abbrev staged : Got A
+  staged = bind (numberAt s start) λ v a. cond (passes own v) (rest v a) (fault (refusal own) start)
+
+  -- It fails here, or later.
+  data Staged (number at : ℕ) : Type 0 where
+    here : start ≡ at → Fails s own at number → Staged number at
+    later : {v next : ℕ} → Passes s own start v next → rest v next ≡ fault number at → Staged number at
+
+  stage : {number at : ℕ} → staged ≡ fault number at → Staged number at
+  stage {number} {at} e = ⊎-elim unread then (first-fault (numberAt s start) _ .0 e)
+    where
+      unread : numberAt s start ≡ fault number at → Staged number at
+      unread q = let h = number-fault-at s start q in here h (inl (ap (numberAt s) (sym h) ∙ q))
+
+      go : (v a : ℕ) → numberAt s start ≡ got v a → (passes own v ≡ true) ⊎ (passes own v ≡ false)
+          → cond (passes own v) (rest v a) (fault (refusal own) start) ≡ fault number at → Staged number at
+      go v a r (inl t) q = later (record { read = r; passed = t }) (sym (check-holds (passes own v) (refusal own) start (rest v a) t) ∙ q)
+      go v a r (inr f) q =
+          let w = same-fault (sym (check-fails (passes own v) (refusal own) start (rest v a) f) ∙ q) in
+          here (w .1) (inr (record { value = v; next = a; read = ap (numberAt s) (sym (w .1)) ∙ r; broken = f; is = w .0 }))
+
+      then : After (numberAt s start) (λ v a. cond (passes own v) (rest v a) (fault (refusal own) start)) number at → Staged number at
+      then h = go (h .value) (h .next) (h .first) (bool? (passes own (h .value))) (h .then)
+
+  stage-here : {number : ℕ} → Fails s own start number → staged ≡ fault number start
+  stage-here {number} (inl e) = bind-fault _ _ e
+  stage-here {number} (inr b) =
+      bind-got _ _ (b .read) ∙ check-fails (passes own (b .value)) (refusal own) start _ (b .broken) ∙ ap (λ (n : ℕ). fault n start) (b .is)
+
+  stage-later : {v next : ℕ} → Passes s own start v next → staged ≡ rest v next
+  stage-later {v} p = bind-got _ _ (p .read) ∙ check-holds (passes own v) (refusal own) start _ (p .passed)
+
+-- Reading stops at a number that stands at a place of this kind.
+pub record StopsAt (s : List ℕ) (Place : Own → ℕ → Type 0) (number at : ℕ) : Type 0 where
+  pub own : Own
+  pub place : Place own at
+  pub fails : Fails s own at number
+
+-- ---- a copy
+
+-- The numbers of a copy that begins at an offset: each with its check, and those before it read.
+pub data InCopy (s : List ℕ) (start : ℕ) : Own → ℕ → Type 0 where
+  itsKey : InCopy s start nothing start
+  itsKind : {key at : ℕ} → numberAt s start ≡ got key at → InCopy s start theKind at
+  itsValue : {key a at : ℕ} → numberAt s start ≡ got key a → numberAt s a ≡ got RESULT at → InCopy s start nothing at
+  itsStamp : {key a kind b value at : ℕ} → numberAt s start ≡ got key a → Passes s theKind a kind b → valueAt s kind b ≡ got value at
+      → InCopy s start nothing at
+
+module _ (s : List ℕ) where
+  stampRest : ℕ → ℕ → ℕ → ℕ → Got Copy
+  stampRest key kind value c = bind (numberAt s c) λ stamp d. got (copy key kind value stamp) d
+
+  valueRest : ℕ → ℕ → ℕ → Got Copy
+  valueRest key kind b = bind (valueAt s kind b) λ value c. stampRest key kind value c
+
+  kindRest : ℕ → ℕ → Got Copy
+  kindRest key a = bind (numberAt s a) λ kind b. cond (passes theKind kind) (valueRest key kind b) (fault RULE a)
+
+  copy-stops : {start number at : ℕ} → copyAt s start ≡ fault number at → StopsAt s (InCopy s start) number at
+  unfolding copyAt valueAt stampRest valueRest kindRest
+  copy-stops {start} {number} {at} e = inKey (stage s nothing start kindRest e)
+    where
+      Stop : Type 0
+      Stop = StopsAt s (InCopy s start) number at
+
+      inStamp : {key a kind b value c : ℕ} → numberAt s start ≡ got key a → Passes s theKind a kind b → valueAt s kind b ≡ got value c
+          → Staged s nothing c (λ stamp d. got (copy key kind value stamp) d) number at → Stop
+      inStamp r p v (here h f) = record { own = nothing; place = subst (InCopy s start nothing) h (itsStamp r p v); fails = f }
+      inStamp r p v (later q g) = absurd (got-or-fault refl g)
+
+      inValue : {key a kind b : ℕ} → numberAt s start ≡ got key a → Passes s theKind a kind b → (eqb kind RESULT ≡ true) ⊎ (eqb kind RESULT ≡ false)
+          → (valueAt s kind b ≡ fault number at) ⊎ After (valueAt s kind b) (stampRest key kind) number at → Stop
+      inValue {kind = kind} {b} r p (inl t) (inl g) =
+          let q : numberAt s b ≡ fault number at = rw t at g in
+          let h = number-fault-at s b q in
+          record {
+            own = nothing;
+            place = subst (InCopy s start nothing) h (itsValue r (p .read ∙ ap (λ (k : ℕ). got k b) (eqb-true kind RESULT t)));
+            fails = inl (ap (numberAt s) (sym h) ∙ q);
+          }
+      inValue {b = b} r p (inr f) (inl g) = absurd (got-or-fault {A = ℕ} refl (rw f at g))
+      inValue {key} {kind = kind} r p w (inr h) = inStamp r p (h .first) (stage s nothing (h .next) (λ stamp d. got (copy key kind (h .value) stamp) d) (h .then))
+
+      inKind : {key a : ℕ} → numberAt s start ≡ got key a → Staged s theKind a (valueRest key) number at → Stop
+      inKind r (here h f) = record { own = theKind; place = subst (InCopy s start theKind) h (itsKind r); fails = f }
+      inKind {key} r (later {v = kind} {next = b} p g) = inValue r p (bool? (eqb kind RESULT)) (first-fault (valueAt s kind b) (stampRest key kind) .0 g)
+
+      inKey : Staged s nothing start kindRest number at → Stop
+      inKey (here h f) = record { own = nothing; place = subst (InCopy s start nothing) h itsKey; fails = f }
+      inKey (later {v = key} {next = a} p g) = inKind (p .read) (stage s theKind a (valueRest key) g)
+
+  copy-fails : {start number at : ℕ} {own : Own} → InCopy s start own at → Fails s own at number → copyAt s start ≡ fault number at
+  unfolding copyAt valueAt stampRest valueRest kindRest
+  copy-fails {start} itsKey f = stage-here s nothing start kindRest f
+  copy-fails {start} {at = at} (itsKind {key} r) f =
+      stage-later s nothing start kindRest (record { read = r; passed = refl }) ∙ stage-here s theKind at (valueRest key) f
+  copy-fails {start} {at = at} (itsValue {key} {a} r p) f =
+      stage-later s nothing start kindRest (record { read = r; passed = refl })
+      ∙ stage-later s theKind a (valueRest key) (record { read = p; passed = refl })
+      ∙ stage-here s nothing at (stampRest key RESULT) f
+  copy-fails {start} {at = at} (itsStamp {key} {a} {kind} {b} {value} r p v) f =
+      stage-later s nothing start kindRest (record { read = r; passed = refl }) ∙ stage-later s theKind a (valueRest key) p ∙ bind-got _ _ v
+      ∙ stage-here s nothing at (λ stamp d. got (copy key kind value stamp) d) f
+
+-- ---- the copies of a node, and nodes
+
+-- The numbers of so many copies that begin at an offset.
+abbrev pub InCopies : List ℕ → ℕ → ℕ → Own → ℕ → Type 0
+InCopies s zero start own at = ⊥
+InCopies s (suc n) start own at =
+    InCopy s start own at ⊎ ((x : Copy) × (next : ℕ) × (copyAt s start ≡ got x next) × InCopies s n next own at)
+
+-- The numbers of a node: its count, and those of its copies.
+pub data InNode (s : List ℕ) (capacity start : ℕ) : Own → ℕ → Type 0 where
+  itsCount : InNode s capacity start (theCount capacity) start
+  itsCopies : {count a at : ℕ} {own : Own} → Passes s (theCount capacity) start count a → InCopies s count a own at → InNode s capacity start own at
+
+abbrev pub InNodes : List ℕ → Plan → ℕ → Own → ℕ → Type 0
+InNodes s [] start own at = ⊥
+InNodes s (n ∷ p) start own at =
+    InNode s (n .capacity) start own at
+    ⊎ ((xs : List Copy) × (next : ℕ) × (nodeAt s (n .capacity) start ≡ got xs next) × InNodes s p next own at)
+
+module _ (s : List ℕ) where
+  copies-stop : (n start : ℕ) {number at : ℕ} → copiesAt s n start ≡ fault number at → StopsAt s (InCopies s n start) number at
+  unfolding copiesAt
+  copies-stop zero start e = absurd (got-or-fault refl e)
+  copies-stop (suc n) start {number} {at} e = go (λ a q. copies-stop n a q) (first-fault (copyAt s start) _ .0 e)
+    where
+      Again : Type 0
+      Again = (a : ℕ) → copiesAt s n a ≡ fault number at → StopsAt s (InCopies s n a) number at
+
+      go : Again → (copyAt s start ≡ fault number at) ⊎ After (copyAt s start) (λ x a. bind (copiesAt s n a) λ xs b. got (x ∷ xs) b) number at
+          → StopsAt s (InCopies s (suc n) start) number at
+      go again (inl q) = let h = copy-stops s q in record { own = h .own; place = inl (h .place); fails = h .fails }
+      go again (inr h) =
+          ⊎-elim
+          (λ q. let k = again (h .next) q in record { own = k .own; place = inr (h .value, h .next, h .first, k .place); fails = k .fails })
+          (λ k. absurd (got-or-fault refl (k .then)))
+          (first-fault (copiesAt s n (h .next)) _ .0 (h .then))
+
+  copies-fail : (n start : ℕ) {number at : ℕ} {own : Own} → InCopies s n start own at → Fails s own at number → copiesAt s n start ≡ fault number at
+  unfolding copiesAt
+  copies-fail zero start h f = absurd h
+  copies-fail (suc n) start (inl h) f = bind-fault _ _ (copy-fails s h f)
+  copies-fail (suc n) start (inr (x, a, g, h)) f = bind-got _ _ g ∙ bind-fault _ _ (copies-fail n a h f)
+
+  node-stops : {capacity start number at : ℕ} → nodeAt s capacity start ≡ fault number at → StopsAt s (InNode s capacity start) number at
+  unfolding nodeAt
+  node-stops {capacity} {start} {number} {at} e = go (stage s (theCount capacity) start (copiesAt s) e)
+    where
+      go : Staged s (theCount capacity) start (copiesAt s) number at → StopsAt s (InNode s capacity start) number at
+      go (here h f) = record { own = theCount capacity; place = subst (InNode s capacity start (theCount capacity)) h itsCount; fails = f }
+      go (later {v = count} {next = a} p g) =
+          let k = copies-stop count a g in record { own = k .own; place = itsCopies p (k .place); fails = k .fails }
+
+  node-fails : {capacity start number at : ℕ} {own : Own} → InNode s capacity start own at → Fails s own at number → nodeAt s capacity start ≡ fault number at
+  unfolding nodeAt
+  node-fails {capacity} {start} itsCount f = stage-here s (theCount capacity) start (copiesAt s) f
+  node-fails {capacity} {start} (itsCopies {count} {a} p h) f = stage-later s (theCount capacity) start (copiesAt s) p ∙ copies-fail count a h f
+
+  nodes-stop : (p : Plan) (start : ℕ) {number at : ℕ} → nodesAt s p start ≡ fault number at → StopsAt s (InNodes s p start) number at
+  unfolding nodesAt
+  nodes-stop [] start e = absurd (got-or-fault refl e)
+  nodes-stop (n ∷ p) start {number} {at} e = go (λ a q. nodes-stop p a q) (first-fault (nodeAt s (n .capacity) start) _ .0 e)
+    where
+      Again : Type 0
+      Again = (a : ℕ) → nodesAt s p a ≡ fault number at → StopsAt s (InNodes s p a) number at
+
+      go : Again
+          → (nodeAt s (n .capacity) start ≡ fault number at)
+          ⊎ After (nodeAt s (n .capacity) start) (λ xs a. bind (nodesAt s p a) λ xss b. got (xs ∷ xss) b) number at
+          → StopsAt s (InNodes s (n ∷ p) start) number at
+      go again (inl q) = let h = node-stops q in record { own = h .own; place = inl (h .place); fails = h .fails }
+      go again (inr h) =
+          ⊎-elim
+          (λ q. let k = again (h .next) q in record { own = k .own; place = inr (h .value, h .next, h .first, k .place); fails = k .fails })
+          (λ k. absurd (got-or-fault refl (k .then)))
+          (first-fault (nodesAt s p (h .next)) _ .0 (h .then))
+
+  nodes-fail : (p : Plan) (start : ℕ) {number at : ℕ} {own : Own} → InNodes s p start own at → Fails s own at number → nodesAt s p start ≡ fault number at
+  unfolding nodesAt
+  nodes-fail [] start h f = absurd h
+  nodes-fail (n ∷ p) start (inl h) f = bind-fault _ _ (node-fails h f)
+  nodes-fail (n ∷ p) start (inr (xs, a, g, h)) f = bind-got _ _ g ∙ bind-fault _ _ (nodes-fail p a h f)
+
+-- ---- an image
+
+-- The numbers of an image, each with its check, all those before it read and their checks passed.
+pub data InImage (s : List ℕ) : Own → ℕ → Type 0 where
+  itsFormat : InImage s theFormat 0
+  itsPlan : {format at : ℕ} → Passes s theFormat 0 format at → InImage s thePlan at
+  itsClock : {format a plan at : ℕ} → Passes s theFormat 0 format a → Passes s thePlan a plan at → InImage s theClock at
+  itsNodes : {format a plan b clock c at : ℕ} {own : Own} → Passes s theFormat 0 format a → Passes s thePlan a plan b → Passes s theClock b clock c
+      → InNodes s (planOf plan) c own at → InImage s own at
+
+module _ (s : List ℕ) where
+  -- Reading an image stops with a number and an offset exactly if at that offset stands a number of it that fails so.
+  pub image-stop : (number at : ℕ) → (imageAt s ≡ fault number at) ↔ StopsAt s (InImage s) number at
+  unfolding imageAt planFrom clockFrom nodesFrom
+  image-stop number at = (λ e. inFormat (stage s theFormat 0 (λ _. planFrom s) e), λ h. back (h .place) (h .fails))
+    where
+      Stop : Type 0
+      Stop = StopsAt s (InImage s) number at
+
+      inNodes : {format a plan b clock c : ℕ} → Passes s theFormat 0 format a → Passes s thePlan a plan b → Passes s theClock b clock c
+          → nodesFrom s plan clock c ≡ fault number at → Stop
+      inNodes {plan = plan} {c = c} f p k e =
+          ⊎-elim (λ q. let h = nodes-stop s (planOf plan) c q in record { own = h .own; place = itsNodes f p k (h .place); fails = h .fails })
+          (λ h. absurd (got-or-fault refl (h .then)))
+          (first-fault (nodesAt s (planOf plan) c) _ .0 e)
+
+      inClock : {format a plan b : ℕ} → Passes s theFormat 0 format a → Passes s thePlan a plan b → Staged s theClock b (nodesFrom s plan) number at → Stop
+      inClock f p (here h g) = record { own = theClock; place = subst (InImage s theClock) h (itsClock f p); fails = g }
+      inClock f p (later k e) = inNodes f p k e
+
+      inPlan : {format a : ℕ} → Passes s theFormat 0 format a → Staged s thePlan a (clockFrom s) number at → Stop
+      inPlan f (here h g) = record { own = thePlan; place = subst (InImage s thePlan) h (itsPlan f); fails = g }
+      inPlan f (later {v = plan} {next = b} p e) = inClock f p (stage s theClock b (nodesFrom s plan) e)
+
+      inFormat : Staged s theFormat 0 (λ _. planFrom s) number at → Stop
+      inFormat (here h g) = record { own = theFormat; place = subst (InImage s theFormat) h itsFormat; fails = g }
+      inFormat (later {next = a} f e) = inPlan f (stage s thePlan a (clockFrom s) e)
+
+      back : {own : Own} {at : ℕ} → InImage s own at → Fails s own at number → imageAt s ≡ fault number at
+      back itsFormat g = stage-here s theFormat 0 (λ _. planFrom s) g
+      back {at = at} (itsPlan f) g = stage-later s theFormat 0 (λ _. planFrom s) f ∙ stage-here s thePlan at (clockFrom s) g
+      back {at = at} (itsClock {a = a} {plan} f p) g =
+          stage-later s theFormat 0 (λ _. planFrom s) f ∙ stage-later s thePlan a (clockFrom s) p ∙ stage-here s theClock at (nodesFrom s plan) g
+      back (itsNodes {a = a} {plan} {b} {clock} {c} f p k h) g =
+          stage-later s theFormat 0 (λ _. planFrom s) f ∙ stage-later s thePlan a (clockFrom s) p ∙ stage-later s theClock b (nodesFrom s plan) k
+          ∙ bind-fault _ _ (nodes-fail s (planOf plan) c h g)
