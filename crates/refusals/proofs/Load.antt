@@ -4,24 +4,29 @@ use mathlib.Core.Bool.{Bool, true, false, cond}
 use mathlib.Core.List.{List, [], _∷_}
 use mathlib.Core.Logic.{_≢_, _↔_, _⊎_, inl, inr, ⊎-elim}
 use Prim.Native.Nat.{ℕ, zero, suc, _<_, _≤_}
+use native.Mathlib.Decide.{decLt}
 use native.Mathlib.Omega.{arith}
 use lib.Dec.{leb, ltb, eqb}
 use lib.ListN.{length}
-use borrow.Author.Tests.{eqb-true}
+use borrow.Author.Tests.{eqb-true, eqb-false, ne-eqb}
 use Rattle.lists.proofs.Truths.{bool?, not-both}
+use Rattle.number.specs.Number.{moreBytes, lastByte, EndsEarly, EndsInZero, EndsAbove}
 use Rattle.plan.specs.Plan.{Plan}
 use Rattle.plan.specs.PlanTable.{planOf}
 use Rattle.store.specs.declared.Copy.{Copy}
 use Rattle.store.specs.declared.Outcome.{Outcome}
 use Rattle.store.specs.declared.Store.{Store}
 use Rattle.store.specs.Answers.{DONE, PLAN, CUT, NUMBER, FORMAT, RULE, TRAIL, answer}
-use Rattle.store.specs.Copies.{RESULT, copy}
+use Rattle.store.specs.Copies.{RESULT, copy, member}
 use Rattle.store.specs.StoreRules.{planNumberTest, goodStore}
 use Rattle.wire.specs.Reading.{Got, got, fault, bind, numberAt}
 use Rattle.wire.proofs.Chains.{got-or-fault, bind-got, bind-fault, check-holds, check-fails}
 use Rattle.image.specs.Image.{formatNumber}
 use Rattle.image.specs.Loading.{valueAt, copyAt, copiesAt, nodeAt, nodesAt, loaded, nodesFrom, clockFrom, planFrom, imageAt, refusedLoad, loadOutcome}
-use Rattle.refusals.proofs.Reading.{After, first-fault, same-fault, number-fault-at}
+use Rattle.image.proofs.LoadEnds.{acceptedLoad, finish-stops, finish-trails, finish-breaks, finish-accepts}
+use Rattle.refusals.proofs.OnStores.{not-given}
+use Rattle.refusals.proofs.Fresh.{OneToThree, plan-test-fails}
+use Rattle.refusals.proofs.Reading.{After, first-fault, same-fault, number-faults, number-fault-at, number-inside, number-cut, number-malformed}
 
 -- What a number of an image is checked for, once it is read.
 pub data Own : Type 0 where
@@ -300,3 +305,249 @@ module _ (s : List ℕ) where
       back (itsNodes {a = a} {plan} {b} {clock} {c} f p k h) g =
           stage-later s theFormat 0 (λ _. planFrom s) f ∙ stage-later s thePlan a (clockFrom s) p ∙ stage-later s theClock b (nodesFrom s plan) k
           ∙ bind-fault _ _ (nodes-fail s (planOf plan) c h g)
+
+-- ---- the call
+
+-- The checks of the nodes' numbers are RULE's.
+copy-rule : {s : List ℕ} {start at : ℕ} {own : Own} → InCopy s start own at → refusal own ≡ RULE
+copy-rule itsKey = refl
+copy-rule (itsKind r) = refl
+copy-rule (itsValue r p) = refl
+copy-rule (itsStamp r p v) = refl
+
+copies-rule : (s : List ℕ) (n start at : ℕ) (own : Own) → InCopies s n start own at → refusal own ≡ RULE
+copies-rule s zero start at own h = absurd h
+copies-rule s (suc n) start at own (inl h) = copy-rule h
+copies-rule s (suc n) start at own (inr h) = copies-rule s n (h .1) at own (h .3)
+
+node-rule : {s : List ℕ} {capacity start at : ℕ} {own : Own} → InNode s capacity start own at → refusal own ≡ RULE
+node-rule itsCount = refl
+node-rule {s = s} {at = at} {own = own} (itsCopies {count} {a} p h) = copies-rule s count a at own h
+
+nodes-rule : (s : List ℕ) (p : Plan) (start at : ℕ) (own : Own) → InNodes s p start own at → refusal own ≡ RULE
+nodes-rule s [] start at own h = absurd h
+nodes-rule s (n ∷ p) start at own (inl h) = node-rule h
+nodes-rule s (n ∷ p) start at own (inr h) = nodes-rule s p (h .1) at own (h .3)
+
+-- The checks' own refusals are FORMAT, PLAN and RULE.
+own-among : (own : Own) → member (refusal own) (FORMAT ∷ PLAN ∷ RULE ∷ []) ≡ true
+unfolding member
+own-among theFormat = refl
+own-among thePlan = refl
+own-among theClock = refl
+own-among (theCount capacity) = refl
+own-among theKind = refl
+own-among nothing = refl
+
+own-not : (own : Own) {n : ℕ} → refusal own ≡ n → member n (FORMAT ∷ PLAN ∷ RULE ∷ []) ≡ false → ⊥
+own-not own e lacks = not-given (FORMAT ∷ PLAN ∷ RULE ∷ []) (refusal own) (own-among own) lacks e
+
+-- FORMAT: "format not 1".
+pub record BadFormat (s : List ℕ) (at : ℕ) : Type 0 where
+  pub first : at ≡ 0
+  pub format : ℕ
+  pub next : ℕ
+  pub read : numberAt s 0 ≡ got format next
+  pub not-one : format ≢ formatNumber
+
+-- PLAN: "plan not 1 to 3".
+pub record BadPlan (s : List ℕ) (at : ℕ) : Type 0 where
+  pub format : numberAt s 0 ≡ got formatNumber at
+  pub plan : ℕ
+  pub next : ℕ
+  pub read : numberAt s at ≡ got plan next
+  pub not-one-to-three : OneToThree plan → ⊥
+
+-- RULE at a number: "RULE for clock 0, count above capacity, kind above 1".
+pub record RuleAt (s : List ℕ) (at : ℕ) : Type 0 where
+  pub own : Own
+  pub place : InImage s own at
+  pub breaks : Breaks s own at RULE
+
+-- TRAIL: "bytes after the image".
+pub record Trails (s : List ℕ) (at : ℕ) : Type 0 where
+  pub store : Store
+  pub read : imageAt s ≡ got store at
+  pub left : at < length s
+
+-- RULE at the end: all is read, nothing is left, and the store of it breaks a store rule.
+pub record BreaksWhole (s : List ℕ) (at : ℕ) : Type 0 where
+  pub store : Store
+  pub end : ℕ
+  pub read : imageAt s ≡ got store end
+  pub whole : length s ≤ end
+  pub broken : goodStore store ≡ false
+  pub is-length : at ≡ length s
+
+module _ (s : List ℕ) where
+  -- The refusals of loading.
+  pub data LoadStop (number at : ℕ) : Type 0 where
+    atNumber : StopsAt s (InImage s) number at → LoadStop number at
+    trailing : Trails s at → number ≡ TRAIL → LoadStop number at
+    breaking : BreaksWhole s at → number ≡ RULE → LoadStop number at
+
+  -- The ways of loading.
+  data Way : Type 0 where
+    stops : {number at : ℕ} → LoadStop number at → loadOutcome s ≡ refusedLoad number at → Way
+    accepts : {z : Store} → loadOutcome s ≡ acceptedLoad z → Way
+
+  same-refusal : {n m at by : ℕ} → loadOutcome s ≡ refusedLoad n at → loadOutcome s ≡ refusedLoad m by → (n ≡ m) × (at ≡ by)
+  same-refusal e f =
+      let r = sym e ∙ f in (ap (λ (o : Outcome). o .answer .number) r, ap (λ (o : Outcome). o .answer .a) r)
+
+  -- A refusal is given as these say.
+  given : {number at : ℕ} → LoadStop number at → loadOutcome s ≡ refusedLoad number at
+  unfolding loadOutcome
+  given {number} {at} (atNumber h) = finish-stops s (imageAt s) (image-stop s number at .1 h)
+  given {number} {at} (trailing h e) = finish-trails s (imageAt s) (h .read) (h .left) ∙ ap (λ (n : ℕ). refusedLoad n at) (sym e)
+  given {number} {at} (breaking h e) =
+      finish-breaks s (imageAt s) (h .read) (h .whole) (h .broken) ∙ sym (λ t. refusedLoad (e t) (h .is-length t))
+
+  way : Way
+  unfolding loadOutcome
+  way = go (imageAt s) refl
+    where
+      ends : (z : Store) (end : ℕ) → imageAt s ≡ got z end → Dec (end < length s) → (goodStore z ≡ true) ⊎ (goodStore z ≡ false) → Way
+      ends z end e (yes h) g = let w : LoadStop TRAIL end = trailing (record { store = z; read = e; left = h }) refl in stops w (given w)
+      ends z end e (no h) (inl g) = accepts (finish-accepts s (imageAt s) e (omega arith) g)
+      ends z end e (no h) (inr g) =
+          let w : LoadStop RULE (length s) = breaking (record { store = z; end = end; read = e; whole = omega arith; broken = g; is-length = refl }) refl in
+          stops w (given w)
+
+      go : (m : Got Store) → imageAt s ≡ m → Way
+      go (fault number at) e = let w = atNumber (image-stop s number at .0 e) in stops w (given w)
+      go (got z end) e = ends z end e (decLt end (length s)) (bool? (goodStore z))
+
+  -- Each refusal, with its offset, is given exactly when it is the first from the left.
+  pub load-refusal : (number at : ℕ) → number ≢ DONE → (loadOutcome s ≡ refusedLoad number at) ↔ LoadStop number at
+  load-refusal number at not-done = (λ e. go way e, given)
+    where
+      go : Way → loadOutcome s ≡ refusedLoad number at → LoadStop number at
+      go (stops {number = n} {at = by} h e) f = let w = same-refusal e f in subst (λ (m : ℕ). LoadStop m at) (w .0) (subst (λ (b : ℕ). LoadStop n b) (w .1) h)
+      go (accepts e) f = absurd (not-done (ap (λ (o : Outcome). o .answer .number) (sym f ∙ e)))
+
+  -- "CUT: bytes end inside or before a number"
+  pub load-cut : (at : ℕ) → (loadOutcome s ≡ refusedLoad CUT at) ↔ ((own : Own) × InImage s own at × EndsEarly moreBytes s at)
+  unfolding member
+  load-cut at =
+      let f = load-refusal CUT at (λ q. omega arith) in
+      (λ e. there (f .0 e), λ h. f .1 (atNumber (record { own = h .0; place = h .1; fails = inl (number-cut s at .1 (h .2)) })))
+    where
+      fails : (own : Own) → InImage s own at → Fails s own at CUT → (own : Own) × InImage s own at × EndsEarly moreBytes s at
+      fails own p (inl e) = (own, p, number-cut s at .0 e)
+      fails own p (inr b) = absurd (own-not own (b .is) refl)
+
+      there : LoadStop CUT at → (own : Own) × InImage s own at × EndsEarly moreBytes s at
+      there (atNumber h) = fails (h .own) (h .place) (h .fails)
+      there (trailing h e) = absurd (omega arith)
+      there (breaking h e) = absurd (omega arith)
+
+  -- "NUMBER: not shortest, or above 32 bits"
+  pub load-number-refused : (at : ℕ)
+      → (loadOutcome s ≡ refusedLoad NUMBER at) ↔ ((own : Own) × InImage s own at × (EndsInZero moreBytes s at ⊎ EndsAbove lastByte moreBytes s at))
+  unfolding member
+  load-number-refused at =
+      let f = load-refusal NUMBER at (λ q. omega arith) in
+      (λ e. there (f .0 e), λ h. f .1 (atNumber (record { own = h .0; place = h .1; fails = inl (number-malformed s at .1 (h .2)) })))
+    where
+      Spoilt : Type 0
+      Spoilt = (own : Own) × InImage s own at × (EndsInZero moreBytes s at ⊎ EndsAbove lastByte moreBytes s at)
+
+      fails : (own : Own) → InImage s own at → Fails s own at NUMBER → Spoilt
+      fails own p (inl e) = (own, p, number-malformed s at .0 e)
+      fails own p (inr b) = absurd (own-not own (b .is) refl)
+
+      there : LoadStop NUMBER at → Spoilt
+      there (atNumber h) = fails (h .own) (h .place) (h .fails)
+      there (trailing h e) = absurd (omega arith)
+      there (breaking h e) = absurd (omega arith)
+
+  -- "FORMAT: format not 1"
+  pub load-format : (at : ℕ) → (loadOutcome s ≡ refusedLoad FORMAT at) ↔ BadFormat s at
+  unfolding member
+  load-format at = let f = load-refusal FORMAT at (λ q. omega arith) in (λ e. there (f .0 e), λ h. f .1 (back h))
+    where
+      breaks : {own : Own} {by : ℕ} → InImage s own by → Breaks s own by FORMAT → BadFormat s by
+      breaks itsFormat b = record { first = refl; format = b .value; next = b .next; read = b .read; not-one = eqb-false (b .value) formatNumber (b .broken) }
+      breaks (itsPlan p) b = absurd (omega (arith, b .is))
+      breaks (itsClock p q) b = absurd (omega (arith, b .is))
+      breaks {own} {by} (itsNodes {plan = plan} {c = c} p q k h) b = absurd (omega (arith, b .is, nodes-rule s (planOf plan) c by own h))
+
+      there : LoadStop FORMAT at → BadFormat s at
+      there (atNumber h) = ⊎-elim (λ e. absurd (not-both (number-faults s at .each FORMAT at e) refl)) (λ b. breaks (h .place) b) (h .fails)
+      there (trailing h e) = absurd (omega arith)
+      there (breaking h e) = absurd (omega arith)
+
+      back : BadFormat s at → LoadStop FORMAT at
+      back b =
+          let w : Breaks s theFormat 0 FORMAT = record { value = b .format; next = b .next; read = b .read; broken = ne-eqb (b .format) formatNumber (b .not-one); is = refl } in
+          subst (λ (k : ℕ). LoadStop FORMAT k) (sym (b .first)) (atNumber (record { own = theFormat; place = itsFormat; fails = inr w }))
+
+  -- "PLAN: plan not 1 to 3"
+  pub load-plan : (at : ℕ) → (loadOutcome s ≡ refusedLoad PLAN at) ↔ BadPlan s at
+  unfolding member
+  load-plan at = let f = load-refusal PLAN at (λ q. omega arith) in (λ e. there (f .0 e), λ h. f .1 (back h))
+    where
+      breaks : {own : Own} {by : ℕ} → InImage s own by → Breaks s own by PLAN → BadPlan s by
+      breaks itsFormat b = absurd (omega (arith, b .is))
+      breaks {by = by} (itsPlan {format} p) b =
+          record {
+            format = p .read ∙ ap (λ (v : ℕ). got v by) (eqb-true format formatNumber (p .passed));
+            plan = b .value;
+            next = b .next;
+            read = b .read;
+            not-one-to-three = plan-test-fails (b .value) .0 (b .broken);
+          }
+      breaks (itsClock p q) b = absurd (omega (arith, b .is))
+      breaks {own} {by} (itsNodes {plan = plan} {c = c} p q k h) b = absurd (omega (arith, b .is, nodes-rule s (planOf plan) c by own h))
+
+      there : LoadStop PLAN at → BadPlan s at
+      there (atNumber h) = ⊎-elim (λ e. absurd (not-both (number-faults s at .each PLAN at e) refl)) (λ b. breaks (h .place) b) (h .fails)
+      there (trailing h e) = absurd (omega arith)
+      there (breaking h e) = absurd (omega arith)
+
+      back : BadPlan s at → LoadStop PLAN at
+      back b =
+          let w : Breaks s thePlan at PLAN = record { value = b .plan; next = b .next; read = b .read; broken = plan-test-fails (b .plan) .1 (b .not-one-to-three); is = refl } in
+          atNumber (record { own = thePlan; place = itsPlan (record { read = b .format; passed = refl }); fails = inr w })
+
+  -- "TRAIL: bytes after the image"
+  pub load-trail : (at : ℕ) → (loadOutcome s ≡ refusedLoad TRAIL at) ↔ Trails s at
+  unfolding member
+  load-trail at = let f = load-refusal TRAIL at (λ q. omega arith) in (λ e. there (f .0 e), λ h. f .1 (trailing h refl))
+    where
+      there : LoadStop TRAIL at → Trails s at
+      there (atNumber h) =
+          ⊎-elim (λ e. absurd (not-both (number-faults s at .each TRAIL at e) refl)) (λ b. absurd (own-not (h .own) (b .is) refl)) (h .fails)
+      there (trailing h e) = h
+      there (breaking h e) = absurd (omega arith)
+
+  -- "RULE: image breaks a store rule", at a number or at the end.
+  pub load-rule : (at : ℕ) → (loadOutcome s ≡ refusedLoad RULE at) ↔ (RuleAt s at ⊎ BreaksWhole s at)
+  unfolding member
+  load-rule at = let f = load-refusal RULE at (λ q. omega arith) in (λ e. there (f .0 e), λ h. f .1 (back h))
+    where
+      there : LoadStop RULE at → RuleAt s at ⊎ BreaksWhole s at
+      there (atNumber h) =
+          ⊎-elim (λ e. absurd (not-both (number-faults s at .each RULE at e) refl))
+          (λ b. inl (record { own = h .own; place = h .place; breaks = b })) (h .fails)
+      there (trailing h e) = absurd (omega arith)
+      there (breaking h e) = inr h
+
+      back : RuleAt s at ⊎ BreaksWhole s at → LoadStop RULE at
+      back (inl h) = atNumber (record { own = h .own; place = h .place; fails = inr (h .breaks) })
+      back (inr h) = breaking h refl
+
+  -- Of these the one at the end has the image's length as offset, and the others a smaller one.
+  pub load-rule-whole : (loadOutcome s ≡ refusedLoad RULE (length s)) ↔ BreaksWhole s (length s)
+  load-rule-whole =
+      let f = load-rule (length s) in
+      (λ e. ⊎-elim (λ h. absurd (omega (arith, number-inside s (length s) (h .breaks .read)))) (λ h. h) (f .0 e), λ h. f .1 (inr h))
+
+  -- "A refused .. load returns a fresh store of plan 1", and names only the offset besides. (Its numbers: `load-number` of crate trips.)
+  pub load-refused : 2 ≤ loadOutcome s .answer .number → loadOutcome s ≡ refusedLoad (loadOutcome s .answer .number) (loadOutcome s .answer .a)
+  load-refused = go way
+    where
+      go : Way → 2 ≤ loadOutcome s .answer .number → loadOutcome s ≡ refusedLoad (loadOutcome s .answer .number) (loadOutcome s .answer .a)
+      go (stops h e) q = e ∙ sym (λ t. refusedLoad (e t .answer .number) (e t .answer .a))
+      go (accepts e) q = absurd (let d = ap (λ (o : Outcome). o .answer .number) e in omega arith)

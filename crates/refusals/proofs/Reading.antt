@@ -1,14 +1,17 @@
 -- Reading from the left: "the first fault wins". A chain stops where its first part stops, or where the rest does after it; and a number
 -- is CUT or NUMBER exactly where document 01 says. Assumes nothing.
 use mathlib.Core.Path.{_≡_, refl, sym, ap, _∙_}
-use mathlib.Core.Bool.{Bool, true, false, cond}
+use mathlib.Core.Bool.{true}
 use mathlib.Core.List.{List, [], _∷_}
 use mathlib.Core.Logic.{_↔_, _⊎_, inl, inr, ⊎-elim}
-use Prim.Native.Nat.{ℕ}
+use Prim.Native.Nat.{ℕ, _<_}
+use native.Mathlib.Decide.{decLt}
 use native.Mathlib.Omega.{arith}
+use lib.ListN.{length}
 use Rattle.number.specs.declared.Reading.{Reading}
 use Rattle.number.specs.declared.Reading.the-variants.{Value, Cut, Malformed}
 use Rattle.number.specs.Number.{moreBytes, lastByte, readAt, EndsEarly, EndsInZero, EndsAbove}
+use Rattle.number.proofs.Ways.{read-cut}
 use Rattle.number.proofs.Refusals.{cut-when, malformed-when}
 use Rattle.store.specs.Answers.{CUT, NUMBER}
 use Rattle.store.specs.Copies.{member}
@@ -65,6 +68,15 @@ number-fault-at s at {n} {by} = go (readAt s at)
     go (Value v next) e = absurd (got-or-fault refl e)
     go Cut e = same-fault e .1
     go Malformed e = same-fault e .1
+
+-- A number that is read begins before the bytes end.
+pub number-inside : (s : List ℕ) (at : ℕ) {v next : ℕ} → numberAt s at ≡ got v next → at < length s
+unfolding numberAt numbered readAt
+number-inside s at {v} {next} e = go (decLt at (length s))
+  where
+    go : Dec (at < length s) → at < length s
+    go (yes h) = h
+    go (no h) = absurd (got-or-fault e (ap (numbered at) (read-cut s lastByte true at moreBytes (omega arith))))
 
 -- "CUT is given only if the bytes end after none to four, all with the top bit set."
 pub number-cut : (s : List ℕ) (at : ℕ) → (numberAt s at ≡ fault CUT at) ↔ EndsEarly moreBytes s at
