@@ -11,6 +11,7 @@ use lib.Dec.{leb, eqb}
 use lib.ListN.{length}
 use borrow.Author.Tests.{lt-ltb, le-ltb, lt-leb, leb-false}
 use Rattle.lists.proofs.Truths.{bool?, not-both, or-cases, or-left, or-right}
+use Rattle.number.specs.Number.{moreBytes, lastByte, EndsEarly, EndsInZero, EndsAbove}
 use Rattle.store.specs.declared.Answer.{Answer}
 use Rattle.store.specs.Answers.{DONE, PLAN, SMALL, CUT, NUMBER, OP, MANY, answer}
 use Rattle.store.specs.Copies.{member}
@@ -21,7 +22,7 @@ use Rattle.schedule.specs.declared.Step.{Step}
 use Rattle.schedule.specs.Schedule.{mostSteps, stepRecord, Schedule, knownStep, hasTwo, secondAt, stepAt, stepsAt, scheduleAt, scheduleAnswer, decodeAnswer, decodeList}
 use Rattle.refusals.proofs.OnStores.{Among, not-given}
 use Rattle.refusals.proofs.Fresh.{OneToThree, plan-test, plan-test-fails}
-use Rattle.refusals.proofs.Reading.{After, first-fault, same-fault, numberFaults, number-faults, number-fault-at}
+use Rattle.refusals.proofs.Reading.{After, first-fault, same-fault, numberFaults, number-faults, number-fault-at, number-cut, number-malformed}
 
 -- The faults of decoding.
 abbrev pub scheduleFaults : List ℕ
@@ -36,6 +37,13 @@ GoodSteps s (suc n) from end = (x : Step) × (next : ℕ) × (from < length s) �
 pub data StepsStop (s : List ℕ) (most from number at : ℕ) : Type 0 where
   many : GoodSteps s most from at → at < length s → number ≡ MANY → StepsStop s most from number at
   one : {n start : ℕ} → n < most → GoodSteps s n from start → start < length s → stepAt s start ≡ fault number at → StepsStop s most from number at
+
+-- The numbers of a step that begins at an offset, those before it read.
+pub data InStep (s : List ℕ) (start : ℕ) : ℕ → Type 0 where
+  itsNumber : InStep s start start
+  itsFirst : {number at : ℕ} → numberAt s start ≡ got number at → knownStep number ≡ true → InStep s start at
+  itsSecond : {number a x at : ℕ} → numberAt s start ≡ got number a → knownStep number ≡ true → numberAt s a ≡ got x at → hasTwo number ≡ true
+      → InStep s start at
 
 module _ (s : List ℕ) where
   steps-fault : (most from number at : ℕ) → (stepsAt s most from ≡ fault number at) ↔ StepsStop s most from number at
@@ -130,6 +138,53 @@ module _ (s : List ℕ) where
       back u =
           bind-got _ _ (u .read) ∙ check-fails (knownStep (u .number)) OP start _ (u .unknown) ∙ ap (λ (n : ℕ). fault OP n) (u .here)
 
+  -- CUT and NUMBER: one of the step's numbers cannot be read.
+  step-unread : {start n at : ℕ} → member n numberFaults ≡ true → (stepAt s start ≡ fault n at) ↔ (InStep s start at × (numberAt s at ≡ fault n at))
+  unfolding stepAt secondAt member
+  step-unread {start} {n} {at} is = (λ e. inNumber (first-fault (numberAt s start) _ .0 e), λ h. back (h .0) (h .1))
+    where
+      Unread : Type 0
+      Unread = InStep s start at × (numberAt s at ≡ fault n at)
+
+      second : ℕ → ℕ → ℕ → Got Step
+      second number x b = bind (secondAt s number b) λ y c. got (stepRecord number x y) c
+
+      rest : ℕ → ℕ → Got Step
+      rest number a = bind (numberAt s a) (second number)
+
+      -- A number that cannot be read stops at its own offset.
+      here : {by : ℕ} → InStep s start by → numberAt s by ≡ fault n at → Unread
+      here {by} p e = let h = number-fault-at s by e in (subst (InStep s start) h p, ap (numberAt s) (sym h) ∙ e)
+
+      inSecond : {number a x b : ℕ} → numberAt s start ≡ got number a → knownStep number ≡ true → numberAt s a ≡ got x b
+          → (hasTwo number ≡ true) ⊎ (hasTwo number ≡ false)
+          → (secondAt s number b ≡ fault n at) ⊎ After (secondAt s number b) (λ y c. got (stepRecord number x y) c) n at → Unread
+      inSecond r t q (inl two) (inl e) = here (itsSecond r t q two) (rw two at e)
+      inSecond r t q (inr f) (inl e) = absurd (got-or-fault {A = ℕ} refl (rw f at e))
+      inSecond r t q w (inr h) = absurd (got-or-fault refl (h .then))
+
+      inFirst : {number a : ℕ} → numberAt s start ≡ got number a → knownStep number ≡ true
+          → (numberAt s a ≡ fault n at) ⊎ After (numberAt s a) (second number) n at → Unread
+      inFirst r t (inl e) = here (itsFirst r t) e
+      inFirst {number} r t (inr h) = inSecond r t (h .first) (bool? (hasTwo number)) (first-fault (secondAt s number (h .next)) _ .0 (h .then))
+
+      known : (number a : ℕ) → numberAt s start ≡ got number a → (knownStep number ≡ true) ⊎ (knownStep number ≡ false)
+          → cond (knownStep number) (rest number a) (fault OP start) ≡ fault n at → Unread
+      known number a r (inl t) e = inFirst r t (first-fault (numberAt s a) (second number) .0 (rw t at e))
+      known number a r (inr f) e = absurd (not-given numberFaults n is refl (sym (same-fault {A = Step} (rw f at e) .0)))
+
+      inNumber : (numberAt s start ≡ fault n at) ⊎ After (numberAt s start) (λ number a. cond (knownStep number) (rest number a) (fault OP start)) n at
+          → Unread
+      inNumber (inl e) = here itsNumber e
+      inNumber (inr h) = known (h .value) (h .next) (h .first) (bool? (knownStep (h .value))) (h .then)
+
+      back : {by : ℕ} → InStep s start by → numberAt s by ≡ fault n at
+          → bind (numberAt s start) (λ number a. cond (knownStep number) (rest number a) (fault OP start)) ≡ fault n at
+      back itsNumber e = bind-fault _ _ e
+      back (itsFirst {number} r t) e = bind-got _ _ r ∙ check-holds (knownStep number) OP start _ t ∙ bind-fault _ _ e
+      back (itsSecond {number} r t q two) e =
+          bind-got _ _ r ∙ check-holds (knownStep number) OP start _ t ∙ bind-got _ _ q ∙ bind-fault _ _ (rw two e)
+
   -- The plan's number is read, and is 1 to 3.
   pub record PlanRead (from : ℕ) : Type 0 where
     pub plan : ℕ
@@ -223,16 +278,10 @@ pub record FirstUnknown (s : List ℕ) (at : ℕ) : Type 0 where
   pub left : at < length s
   pub unknown : UnknownAt s at at
 
--- CUT and NUMBER: of the first number that cannot be read, the plan's or one of a step's.
-pub record FirstUnread (s : List ℕ) (number at : ℕ) : Type 0 where
-  pub from : ℕ
-  pub plan : PlanRead s from
-  pub before : ℕ
-  pub few : before < mostSteps
-  pub start : ℕ
-  pub steps : GoodSteps s before from start
-  pub left : start < length s
-  pub stops : stepAt s start ≡ fault number at
+-- The numbers of a schedule, all those before it read and their checks passed: the plan's, and those of each step but those after 256.
+pub data InSchedule (s : List ℕ) : ℕ → Type 0 where
+  itsPlan : InSchedule s 0
+  inStep : {from n start at : ℕ} → PlanRead s from → n < mostSteps → GoodSteps s n from start → start < length s → InStep s start at → InSchedule s at
 
 module _ (s : List ℕ) (before : List Step) where
   -- The ways of decoding.
@@ -354,27 +403,50 @@ module _ (s : List ℕ) (before : List Step) where
       back : AfterMost s at → ScheduleStop s MANY at
       back m = in-steps (m .plan) (many (m .steps) (m .left) refl)
 
-  -- CUT and NUMBER, of the plan's number or of one of a step's.
-  pub decode-number : (n at : ℕ) → member n numberFaults ≡ true
-      → (decodeAnswer s before ≡ answer n at 0 0 0) ↔ ((mostSteps ≤ length before) × ((numberAt s 0 ≡ fault n at) ⊎ FirstUnread s n at))
+  -- CUT and NUMBER: one of the schedule's numbers cannot be read.
+  decode-unread : (n at : ℕ) → member n numberFaults ≡ true
+      → (decodeAnswer s before ≡ answer n at 0 0 0) ↔ ((mostSteps ≤ length before) × (InSchedule s at × (numberAt s at ≡ fault n at)))
   unfolding member
-  decode-number n at is =
+  decode-unread n at is =
       let f = decode-fault n at (wider (or-cases (eqb n CUT) _ is)) in
-      (λ e. let w = f .0 e in (w .0, there (w .1)), λ h. f .1 (h .0, ⊎-elim no-number back (h .1)))
+      (λ e. let w = f .0 e in (w .0, there (w .1)), λ h. f .1 (h .0, back (h .1 .0) (h .1 .1)))
     where
       wider : (eqb n CUT ≡ true) ⊎ (member n (NUMBER ∷ []) ≡ true) → member n scheduleFaults ≡ true
       wider (inl t) = or-left (eqb n CUT) _ t
       wider (inr t) = or-right (eqb n CUT) _ (⊎-elim (λ u. or-left (eqb n NUMBER) _ u) (λ u. absurd (not-both u refl)) (or-cases (eqb n NUMBER) _ t))
 
-      there : ScheduleStop s n at → (numberAt s 0 ≡ fault n at) ⊎ FirstUnread s n at
-      there (no-number e) = inl e
+      there : ScheduleStop s n at → InSchedule s at × (numberAt s at ≡ fault n at)
+      there (no-number e) = let h = number-fault-at s 0 e in (subst (InSchedule s) h itsPlan, ap (numberAt s) (sym h) ∙ e)
       there (bad-plan b e) = absurd (not-given numberFaults n is refl e)
       there (in-steps p (many gs l e)) = absurd (not-given numberFaults n is refl e)
-      there (in-steps {from} p (one {n = k} {start} h gs l e)) =
-          inr (record { from = from; plan = p; before = k; few = h; start = start; steps = gs; left = l; stops = e })
+      there (in-steps p (one {n = k} {start} h gs l e)) = let w = step-unread s is .0 e in (inStep {n = k} {start = start} p h gs l (w .0), w .1)
 
-      back : FirstUnread s n at → ScheduleStop s n at
-      back u = in-steps (u .plan) (one {n = u .before} {start = u .start} (u .few) (u .steps) (u .left) (u .stops))
+      back : {by : ℕ} → InSchedule s by → numberAt s by ≡ fault n at → ScheduleStop s n at
+      back itsPlan e = no-number e
+      back {by} (inStep {n = k} {start} p h gs l w) e =
+          let q = number-fault-at s by e in
+          in-steps p (one {n = k} {start = start} h gs l (step-unread s is .1 (subst (InStep s start) q w, ap (numberAt s) (sym q) ∙ e)))
+
+  -- "bytes end inside or before a number"
+  pub decode-cut : (at : ℕ)
+      → (decodeAnswer s before ≡ answer CUT at 0 0 0) ↔ ((mostSteps ≤ length before) × (InSchedule s at × EndsEarly moreBytes s at))
+  unfolding member
+  decode-cut at =
+      let f = decode-unread CUT at refl in (
+        λ e. let w = f .0 e in (w .0, (w .1 .0, number-cut s at .0 (w .1 .1))),
+        λ h. f .1 (h .0, (h .1 .0, number-cut s at .1 (h .1 .1))),
+      )
+
+  -- "not shortest, or above 32 bits"
+  pub decode-number : (at : ℕ)
+      → (decodeAnswer s before ≡ answer NUMBER at 0 0 0)
+      ↔ ((mostSteps ≤ length before) × (InSchedule s at × (EndsInZero moreBytes s at ⊎ EndsAbove lastByte moreBytes s at)))
+  unfolding member
+  decode-number at =
+      let f = decode-unread NUMBER at refl in (
+        λ e. let w = f .0 e in (w .0, (w .1 .0, number-malformed s at .0 (w .1 .1))),
+        λ h. f .1 (h .0, (h .1 .0, number-malformed s at .1 (h .1 .1))),
+      )
 
   -- The numbers that decoding answers; of a refusal only a is named besides.
   pub decode-answers : Among (DONE ∷ SMALL ∷ scheduleFaults) (decodeAnswer s before)
