@@ -1,8 +1,8 @@
 -- Decode: SMALL; then from the left CUT, NUMBER, PLAN or OP, and MANY first at a step's start. Assumes nothing.
 use mathlib.Core.Path.{_≡_, refl, sym, ap, subst, _∙_}
-use mathlib.Core.Bool.{Bool, true, false, cond}
+use mathlib.Core.Bool.{true, false, cond}
 use mathlib.Core.List.{List, [], _∷_}
-use mathlib.Core.Logic.{_≢_, _↔_, _⊎_, inl, inr, ⊎-elim}
+use mathlib.Core.Logic.{_↔_, _⊎_, inl, inr, ⊎-elim}
 use Prim.Native.Nat.{ℕ, zero, suc, _<_, _≤_}
 use native.Mathlib.Decide.{decLt}
 use native.Mathlib.Omega.{arith}
@@ -19,7 +19,7 @@ use Rattle.store.specs.StoreRules.{planNumberTest}
 use Rattle.wire.specs.Reading.{Got, got, fault, bind, numberAt}
 use Rattle.wire.proofs.Chains.{got-or-fault, bind-got, bind-fault, check-holds, check-fails, Faults, faults-got, faults-fault, faults-bind, faults-cond, faults-number}
 use Rattle.schedule.specs.declared.Step.{Step}
-use Rattle.schedule.specs.Schedule.{mostSteps, stepRecord, Schedule, knownStep, hasTwo, secondAt, stepAt, stepsAt, scheduleAt, scheduleAnswer, decodeAnswer, decodeList}
+use Rattle.schedule.specs.Schedule.{mostSteps, stepRecord, Schedule, knownStep, hasTwo, secondAt, stepAt, stepsAt, scheduleAt, decodeAnswer, decodeList}
 use Rattle.refusals.proofs.OnStores.{Among, not-given}
 use Rattle.refusals.proofs.Fresh.{OneToThree, plan-test, plan-test-fails}
 use Rattle.refusals.proofs.Reading.{After, first-fault, same-fault, numberFaults, number-faults, number-fault-at, number-cut, number-malformed}

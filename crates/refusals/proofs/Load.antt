@@ -6,7 +6,7 @@ use mathlib.Core.Logic.{_≢_, _↔_, _⊎_, inl, inr, ⊎-elim}
 use Prim.Native.Nat.{ℕ, zero, suc, _<_, _≤_}
 use native.Mathlib.Decide.{decLt}
 use native.Mathlib.Omega.{arith}
-use lib.Dec.{leb, ltb, eqb}
+use lib.Dec.{ltb, eqb}
 use lib.ListN.{length}
 use borrow.Author.Tests.{eqb-true, eqb-false, ne-eqb}
 use Rattle.lists.proofs.Truths.{bool?, not-both}
@@ -22,7 +22,7 @@ use Rattle.store.specs.StoreRules.{planNumberTest, goodStore}
 use Rattle.wire.specs.Reading.{Got, got, fault, bind, numberAt}
 use Rattle.wire.proofs.Chains.{got-or-fault, bind-got, bind-fault, check-holds, check-fails}
 use Rattle.image.specs.Image.{formatNumber}
-use Rattle.image.specs.Loading.{valueAt, copyAt, copiesAt, nodeAt, nodesAt, loaded, nodesFrom, clockFrom, planFrom, imageAt, refusedLoad, loadOutcome}
+use Rattle.image.specs.Loading.{valueAt, copyAt, copiesAt, nodeAt, nodesAt, nodesFrom, clockFrom, planFrom, imageAt, refusedLoad, loadOutcome}
 use Rattle.image.proofs.LoadEnds.{acceptedLoad, finish-stops, finish-trails, finish-breaks, finish-accepts}
 use Rattle.refusals.proofs.OnStores.{not-given}
 use Rattle.refusals.proofs.Fresh.{OneToThree, plan-test-fails}

@@ -1,6 +1,6 @@
 -- Reading from the left: "the first fault wins". A chain stops where its first part stops, or where the rest does after it; and a number
 -- is CUT or NUMBER exactly where document 01 says. Assumes nothing.
-use mathlib.Core.Path.{_≡_, refl, sym, ap, _∙_}
+use mathlib.Core.Path.{_≡_, refl, ap, _∙_}
 use mathlib.Core.Bool.{true}
 use mathlib.Core.List.{List, [], _∷_}
 use mathlib.Core.Logic.{_↔_, _⊎_, inl, inr, ⊎-elim}
