@@ -1,0 +1,69 @@
+-- Carry: BADSTORE, NODE, EDGE. Assumes nothing.
+use mathlib.Core.Path.{_≡_, refl}
+use mathlib.Core.Bool.{true, false}
+use mathlib.Core.List.{List, [], _∷_}
+use mathlib.Core.Logic.{_↔_}
+use Prim.Native.Nat.{ℕ, _<_, _≤_}
+use native.Mathlib.Omega.{arith}
+use lib.ListN.{length}
+use Rattle.plan.specs.Plan.{Plan, size, edgesOf}
+use Rattle.plan.specs.PlanTable.{planOf}
+use Rattle.store.specs.declared.Store.{Store}
+use Rattle.store.specs.Answers.{DONE, BADSTORE, NODE, EDGE}
+use Rattle.store.specs.Copies.{member}
+use Rattle.store.specs.State.{State}
+use Rattle.store.specs.Layout.{stateOf}
+use Rattle.store.specs.StoreRules.{goodStore}
+use Rattle.store.specs.Calls.{Effect, onStore}
+use Rattle.store.proofs.Lifting.{plan-good, state-good}
+use Rattle.steps.specs.Carries.{carriedOut, carryStep}
+use Rattle.steps.proofs.WaysOut.{CarryWay, carry-way}
+use Rattle.steps.proofs.WaysOut.CarryWay.{no-node, no-edge, merges}
+use Rattle.steps.proofs.Refusals.{node-exactly, edge-exactly}
+use Rattle.refusals.proofs.OnStores.{Among, StepRefuses, Refuses, on-badstore, on-exactly, on-among, on-refuses}
+
+-- What a carry answers in a good store.
+abbrev pub carryAnswers : List ℕ
+carryAnswers = DONE ∷ NODE ∷ EDGE ∷ []
+
+step-among : (node edge : ℕ) (p : Plan) (s : State) → Among carryAnswers (carryStep node edge p s .answer)
+unfolding member carriedOut
+step-among node edge p s = go (carry-way node edge p s)
+  where
+    go : {e : Effect} → CarryWay node edge p s e → Among carryAnswers (e .answer)
+    go (no-node h) = refl
+    go (no-edge h f) = refl
+    go (merges d) = refl
+
+step-refuses : (node edge : ℕ) (p : Plan) (s : State) → StepRefuses s (carryStep node edge p s)
+unfolding carriedOut
+step-refuses node edge p s = go (carry-way node edge p s)
+  where
+    go : {e : Effect} → CarryWay node edge p s e → StepRefuses s e
+    go (no-node h) = λ _. refl
+    go (no-edge h f) = λ _. refl
+    go (merges d) = λ h. absurd (omega arith)
+
+module _ (z : Store) (node edge : ℕ) where
+  pub carry-badstore : (onStore (carryStep node edge) z .answer .number ≡ BADSTORE) ↔ (goodStore z ≡ false)
+  unfolding member
+  carry-badstore = on-badstore (carryStep node edge) z carryAnswers (step-among node edge (planOf (z .plan)) (stateOf z)) refl
+
+  -- "plan has no such node"
+  pub carry-node : (onStore (carryStep node edge) z .answer .number ≡ NODE) ↔ ((goodStore z ≡ true) × (size (planOf (z .plan)) ≤ node))
+  carry-node =
+      on-exactly (carryStep node edge) z NODE (λ e. omega arith) λ good.
+      node-exactly (planOf (z .plan)) (plan-good z good) (stateOf z) (state-good z good) node edge
+
+  -- "node has no such edge"
+  pub carry-edge : (onStore (carryStep node edge) z .answer .number ≡ EDGE)
+      ↔ ((goodStore z ≡ true) × ((node < size (planOf (z .plan))) × (length (edgesOf (planOf (z .plan)) node) ≤ edge)))
+  carry-edge =
+      on-exactly (carryStep node edge) z EDGE (λ e. omega arith) λ good.
+      edge-exactly (planOf (z .plan)) (plan-good z good) (stateOf z) (state-good z good) node edge
+
+  pub carry-answers : Among (BADSTORE ∷ carryAnswers) (onStore (carryStep node edge) z .answer)
+  carry-answers = on-among (carryStep node edge) z carryAnswers (step-among node edge (planOf (z .plan)) (stateOf z))
+
+  pub carry-refused : Refuses z (onStore (carryStep node edge) z)
+  carry-refused = on-refuses (carryStep node edge) z (step-refuses node edge (planOf (z .plan)) (stateOf z))

@@ -1,0 +1,11 @@
+pub mod OnStores
+pub mod Entries
+pub mod Carry
+pub mod Searches
+pub mod Fresh
+pub mod Save
+pub mod Page
+pub mod Run
+pub mod Reading
+pub mod Decode
+pub mod Load

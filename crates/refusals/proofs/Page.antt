@@ -1,0 +1,187 @@
+-- Page: BADSTORE, SAMPLE, SMALL. Serve: the notice. Assumes nothing.
+use mathlib.Core.Path.{_≡_, ap, _∙_}
+use mathlib.Core.Bool.{true, false, _&&_}
+use mathlib.Core.List.{List, [], _∷_, _++_}
+use mathlib.Core.Logic.{_↔_, _⊎_, inl, inr}
+use Prim.Native.Nat.{ℕ, _<_, _≤_}
+use native.Mathlib.Decide.{decLt}
+use native.Mathlib.Omega.{arith}
+use lib.Dec.{leb}
+use lib.ListN.{length, length-append}
+use denote.Ref.{RefT}
+use borrow.Author.Tests.{le-leb, lt-leb, leb-true}
+use Rattle.lists.proofs.Truths.{bool?, not-both, refuted, and-left, and-right, and-both}
+use Rattle.number.specs.Number.{form}
+use Rattle.number.proofs.Forms.{form-some}
+use Rattle.plan.specs.PlanTable.{planOf}
+use Rattle.store.specs.declared.Answer.{Answer}
+use Rattle.store.specs.declared.Store.{Store}
+use Rattle.store.specs.Answers.{DONE, BADSTORE, SMALL, SAMPLE, answer, bare}
+use Rattle.store.specs.Copies.{member}
+use Rattle.store.specs.Layout.{stateOf}
+use Rattle.store.specs.StoreRules.{goodStore}
+use Rattle.wire.proofs.Buffers.{small-answer, small-buffer, done-answer}
+use Rattle.page.specs.Page.{lastSample, linesOf, linesBytes, pageBytes, begins}
+use Rattle.page.specs.Promises.{pageNow, pageAnswer, pageBuffer, fresh?, servedLength, served}
+use Rattle.page.proofs.PageBytes.{begins-rest, rest-begins}
+use Rattle.page.proofs.Stale.{serves-kept, serves-notice}
+use Rattle.refusals.proofs.OnStores.{Among}
+
+-- ---- page
+
+module _ (z : Store) (sample : ℕ) (before : List ℕ) where
+  -- The bytes needed.
+  abbrev needed : ℕ
+  needed = length (pageNow z sample)
+
+  -- The ways of making a page.
+  data Way : Type 0 where
+    bad : goodStore z ≡ false → pageAnswer z sample before ≡ bare BADSTORE → pageBuffer z sample before ≡ before → Way
+    large : goodStore z ≡ true → lastSample < sample → pageAnswer z sample before ≡ bare SAMPLE → pageBuffer z sample before ≡ before → Way
+    small : goodStore z ≡ true → sample ≤ lastSample → length before < needed → pageAnswer z sample before ≡ answer SMALL needed 0 0 0
+        → pageBuffer z sample before ≡ before → Way
+    done : goodStore z ≡ true → sample ≤ lastSample → needed ≤ length before → pageAnswer z sample before ≡ answer DONE needed 0 0 0 → Way
+
+  way : Way
+  unfolding pageAnswer pageBuffer
+  way = go (bool? (goodStore z)) (decLt lastSample sample) (decLt (length before) needed)
+    where
+      go : (goodStore z ≡ true) ⊎ (goodStore z ≡ false) → Dec (lastSample < sample) → Dec (length before < needed) → Way
+      go (inr b) d f = bad b (rw b) (rw b)
+      go (inl g) (yes l) f = large g l (rw (g, lt-leb sample lastSample l)) (rw (g, lt-leb sample lastSample l))
+      go (inl g) (no l) (yes h) =
+          let t = le-leb sample lastSample (omega arith) in
+          small g (omega arith) h (rw (g, t) (small-answer (pageNow z sample) before h)) (rw (g, t) (small-buffer (pageNow z sample) before h))
+      go (inl g) (no l) (no h) =
+          let t = le-leb sample lastSample (omega arith) in
+          done g (omega arith) (omega arith) (rw (g, t) (done-answer (pageNow z sample) before (omega arith)))
+
+  abbrev number : ℕ
+  number = pageAnswer z sample before .number
+
+  numbered : {r : Answer} → pageAnswer z sample before ≡ r → number ≡ r .number
+  numbered e = ap (λ (r : Answer). r .number) e
+
+  pub page-badstore : (pageAnswer z sample before .number ≡ BADSTORE) ↔ (goodStore z ≡ false)
+  page-badstore = go way
+    where
+      go : Way → (number ≡ BADSTORE) ↔ (goodStore z ≡ false)
+      go (bad b e f) = (λ _. b, λ _. numbered e)
+      go (large g l e f) = (λ n. absurd (omega (arith, numbered e)), λ b. absurd (not-both g b))
+      go (small g l h e f) = (λ n. absurd (omega (arith, numbered e)), λ b. absurd (not-both g b))
+      go (done g l h e) = (λ n. absurd (omega (arith, numbered e)), λ b. absurd (not-both g b))
+
+  -- "sample too large"
+  pub page-sample : (pageAnswer z sample before .number ≡ SAMPLE) ↔ ((goodStore z ≡ true) × (lastSample < sample))
+  page-sample = go way
+    where
+      go : Way → (number ≡ SAMPLE) ↔ ((goodStore z ≡ true) × (lastSample < sample))
+      go (bad b e f) = (λ n. absurd (omega (arith, numbered e)), λ h. absurd (not-both (h .0) b))
+      go (large g l e f) = (λ _. (g, l), λ _. numbered e)
+      go (small g l h e f) = (λ n. absurd (omega (arith, numbered e)), λ k. absurd (omega (arith, k .1)))
+      go (done g l h e) = (λ n. absurd (omega (arith, numbered e)), λ k. absurd (omega (arith, k .1)))
+
+  -- "buffer too short"
+  pub page-small : (pageAnswer z sample before .number ≡ SMALL)
+      ↔ ((goodStore z ≡ true) × ((sample ≤ lastSample) × (length before < length (pageNow z sample))))
+  page-small = go way
+    where
+      go : Way → (number ≡ SMALL) ↔ ((goodStore z ≡ true) × ((sample ≤ lastSample) × (length before < needed)))
+      go (bad b e f) = (λ n. absurd (omega (arith, numbered e)), λ h. absurd (not-both (h .0) b))
+      go (large g l e f) = (λ n. absurd (omega (arith, numbered e)), λ h. absurd (omega (arith, h .1 .0)))
+      go (small g l h e f) = (λ _. (g, (l, h)), λ _. numbered e)
+      go (done g l h e) = (λ n. absurd (omega (arith, numbered e)), λ k. absurd (omega (arith, h, k .1 .1)))
+
+  -- "bytes needed"
+  pub page-needs : pageAnswer z sample before .number ≡ SMALL → pageAnswer z sample before ≡ answer SMALL (length (pageNow z sample)) 0 0 0
+  page-needs = go way
+    where
+      go : Way → number ≡ SMALL → pageAnswer z sample before ≡ answer SMALL needed 0 0 0
+      go (bad b e f) n = absurd (omega (arith, numbered e))
+      go (large g l e f) n = absurd (omega (arith, numbered e))
+      go (small g l h e f) n = e
+      go (done g l h e) n = absurd (omega (arith, numbered e))
+
+  pub page-answers : Among (BADSTORE ∷ SAMPLE ∷ SMALL ∷ DONE ∷ []) (pageAnswer z sample before)
+  unfolding member
+  page-answers = go way
+    where
+      go : Way → Among (BADSTORE ∷ SAMPLE ∷ SMALL ∷ DONE ∷ []) (pageAnswer z sample before)
+      go (bad b e f) = rw e
+      go (large g l e f) = rw e
+      go (small g l h e f) = rw e
+      go (done g l h e) = rw e
+
+  -- A refusal leaves every byte; the store is lent to be read.
+  pub page-refused : 2 ≤ pageAnswer z sample before .number → pageBuffer z sample before ≡ before
+  page-refused = go way
+    where
+      go : Way → 2 ≤ number → pageBuffer z sample before ≡ before
+      go (bad b e f) h = f
+      go (large g l e f) h = f
+      go (small g l k e f) h = f
+      go (done g l k e) h = absurd (omega (arith, numbered e))
+
+-- ---- serve
+
+-- "If the kept bytes begin with the sample's page as it is now", of a good store and a sample that is not too large.
+pub record StillTrue (z : Store) (sample : ℕ) (kept : List ℕ) : Type 0 where
+  pub good : goodStore z ≡ true
+  pub small : sample ≤ lastSample
+  pub rest : List ℕ
+  pub begin : kept ≡ pageNow z sample ++ rest
+
+module _ (z : Store) (sample : ℕ) where
+  pub fresh-exactly : (kept : List ℕ) → (fresh? z sample kept ≡ true) ↔ StillTrue z sample kept
+  unfolding fresh?
+  fresh-exactly kept = (there, back)
+    where
+      there : goodStore z && leb sample lastSample && begins kept (pageNow z sample) ≡ true → StillTrue z sample kept
+      there t =
+          let a = and-left (goodStore z && leb sample lastSample) (begins kept (pageNow z sample)) t in
+          let w = begins-rest kept (pageNow z sample) (and-right (goodStore z && leb sample lastSample) (begins kept (pageNow z sample)) t) in
+          record {
+            good = and-left (goodStore z) (leb sample lastSample) a;
+            small = leb-true sample lastSample (and-right (goodStore z) (leb sample lastSample) a);
+            rest = w .0;
+            begin = w .1;
+          }
+
+      back : StillTrue z sample kept → goodStore z && leb sample lastSample && begins kept (pageNow z sample) ≡ true
+      back h =
+          and-both (and-both (h .good) (le-leb sample lastSample (h .small)))
+          (ap (λ (l : List ℕ). begins l (pageNow z sample)) (h .begin) ∙ rest-begins (pageNow z sample) (h .rest))
+
+  -- "otherwise, and for a bad store or sample"
+  pub stale-exactly : (kept : List ℕ) → (fresh? z sample kept ≡ false) ↔ (StillTrue z sample kept → ⊥)
+  stale-exactly kept = (
+    λ f h. not-both (fresh-exactly kept .1 h) f,
+    λ no. refuted (fresh? z sample kept) (λ t. no (fresh-exactly kept .0 t)),
+  )
+
+  -- "exactly that beginning is returned"
+  pub serve-kept : (kept notice : RefT (List ℕ)) → StillTrue z sample (kept .now) → served z sample kept notice ≡ (kept .ptr, pageNow z sample)
+  serve-kept kept notice h = serves-kept z sample kept notice (fresh-exactly (kept .now) .1 h)
+
+  -- "otherwise .. the whole notice"
+  pub serve-notice : (kept notice : RefT (List ℕ)) → (StillTrue z sample (kept .now) → ⊥) → served z sample kept notice ≡ (notice .ptr, notice .now)
+  serve-notice kept notice h = serves-notice z sample kept notice (stale-exactly (kept .now) .1 h)
+
+  -- No page is empty,
+  some-bytes : 1 ≤ length (pageNow z sample)
+  unfolding pageBytes
+  some-bytes =
+      let ls = linesOf (planOf (z .plan)) (stateOf z) sample in
+      omega (arith, form-some sample, length-append (form sample) (form (length ls) ++ linesBytes ls))
+
+  -- so the length 0 says exactly that the notice is due.
+  pub serve-length-0 : (kept : List ℕ) → (servedLength z sample kept ≡ 0) ↔ (StillTrue z sample kept → ⊥)
+  unfolding servedLength
+  serve-length-0 kept = go (bool? (fresh? z sample kept))
+    where
+      go : (fresh? z sample kept ≡ true) ⊎ (fresh? z sample kept ≡ false) → (servedLength z sample kept ≡ 0) ↔ (StillTrue z sample kept → ⊥)
+      go (inl t) = (
+        λ e. absurd (let n : length (pageNow z sample) ≡ 0 = rw t at e in omega (arith, some-bytes)),
+        λ no. absurd (no (fresh-exactly kept .0 t)),
+      )
+      go (inr f) = (λ e. stale-exactly kept .0 f, λ no. rw f)

@@ -1,0 +1,1 @@
+// Each refusal of each public call, given exactly when its line holds: theorems, no code.
