@@ -117,10 +117,10 @@ pub fn served_length_lent<'a>(
     ensures { λ r. ⌜ ServesLength (ofParts plan clock (now (counts .entry)) (now (keys .entry)) (now (kinds .entry)) (now (values .entry)) (now (stamps .entry)) slots) sample (now (kept .entry)) r ⌝ }
 {
     if !rules::good(plan, clock, counts, keys, kinds, values, stamps, slots) {
-        return 0;
+        return 0; // a bad store
     }
     if LAST_SAMPLE < sample {
-        return 0;
+        return 0; // a sample too large
     }
     let mut scratch = [0; LONGEST];
     let n = write_now(
