@@ -8,7 +8,7 @@ use native.Mathlib.Decide.{decLt}
 use native.Mathlib.Omega.{arith}
 use lib.Dec.{ltb, eqb}
 use lib.ListN.{length}
-use borrow.Author.Tests.{eqb-true, eqb-false, ne-eqb}
+use borrow.Author.Tests.{eqb-true, eqb-false, ne-eqb, ltb-false, le-ltb}
 use Rattle.lists.proofs.Truths.{bool?, not-both}
 use Rattle.number.specs.Number.{moreBytes, lastByte, EndsEarly, EndsInZero, EndsAbove}
 use Rattle.plan.specs.Plan.{Plan}
@@ -24,7 +24,8 @@ use Rattle.wire.proofs.Chains.{got-or-fault, bind-got, bind-fault, check-holds,
 use Rattle.image.specs.Image.{formatNumber}
 use Rattle.image.specs.Loading.{valueAt, copyAt, copiesAt, nodeAt, nodesAt, nodesFrom, clockFrom, planFrom, imageAt, refusedLoad, loadOutcome}
 use Rattle.image.proofs.LoadEnds.{acceptedLoad, finish-stops, finish-trails, finish-breaks, finish-accepts}
-use Rattle.refusals.proofs.OnStores.{not-given}
+use Rattle.trips.proofs.LoadWays.{load-number as load-among}
+use Rattle.refusals.proofs.OnStores.{Among, not-given}
 use Rattle.refusals.proofs.Fresh.{OneToThree, plan-test-fails}
 use Rattle.refusals.proofs.Reading.{After, first-fault, same-fault, number-faults, number-fault-at, number-inside, number-cut, number-malformed}
 
@@ -359,10 +360,37 @@ pub record BadPlan (s : List ℕ) (at : ℕ) : Type 0 where
   pub not-one-to-three : OneToThree plan → ⊥
 
 -- RULE at a number: "RULE for clock 0, count above capacity, kind above 1".
-pub record RuleAt (s : List ℕ) (at : ℕ) : Type 0 where
-  pub own : Own
-  pub place : InImage s own at
-  pub breaks : Breaks s own at RULE
+pub data RuleAt (s : List ℕ) (at : ℕ) : Type 0 where
+  clock-0 : {next : ℕ} → InImage s theClock at → numberAt s at ≡ got 0 next → RuleAt s at
+  count-above : {capacity count next : ℕ} → InImage s (theCount capacity) at → numberAt s at ≡ got count next → capacity < count → RuleAt s at
+  kind-above : {kind next : ℕ} → InImage s theKind at → numberAt s at ≡ got kind next → 1 < kind → RuleAt s at
+
+rule-at : {s : List ℕ} {at : ℕ} (own : Own) → InImage s own at → Breaks s own at RULE → RuleAt s at
+rule-at theFormat p b = absurd (omega (arith, b .is))
+rule-at thePlan p b = absurd (omega (arith, b .is))
+rule-at theClock p b =
+    let z : b .value ≡ 0 = omega (arith, ltb-false 0 (b .value) (b .broken)) in
+    clock-0 p (b .read ∙ ap (λ (v : ℕ). got v (b .next)) z)
+rule-at (theCount capacity) p b = count-above p (b .read) (ltb-false (b .value) (suc capacity) (b .broken))
+rule-at theKind p b = kind-above p (b .read) (ltb-false (b .value) 2 (b .broken))
+rule-at nothing p b = absurd (not-both refl (b .broken))
+
+at-rule : {s : List ℕ} {at : ℕ} → RuleAt s at → StopsAt s (InImage s) RULE at
+at-rule {s} {at} (clock-0 {next} p r) =
+    record { own = theClock; place = p; fails = inr (record { value = 0; next = next; read = r; broken = refl; is = refl }) }
+at-rule {s} {at} (count-above {capacity} {count} {next} p r h) =
+    record {
+      own = theCount capacity;
+      place = p;
+      fails = inr (record { value = count; next = next; read = r; broken = le-ltb count (suc capacity) h; is = refl });
+    }
+at-rule {s} {at} (kind-above {kind} {next} p r h) =
+    record { own = theKind; place = p; fails = inr (record { value = kind; next = next; read = r; broken = le-ltb kind 2 h; is = refl }) }
+
+rule-inside : {s : List ℕ} {at : ℕ} → RuleAt s at → at < length s
+rule-inside {s} {at} (clock-0 p r) = number-inside s at r
+rule-inside {s} {at} (count-above p r h) = number-inside s at r
+rule-inside {s} {at} (kind-above p r h) = number-inside s at r
 
 -- TRAIL: "bytes after the image".
 pub record Trails (s : List ℕ) (at : ℕ) : Type 0 where
@@ -443,10 +471,10 @@ module _ (s : List ℕ) where
       there (breaking h e) = absurd (omega arith)
 
   -- "NUMBER: not shortest, or above 32 bits"
-  pub load-number-refused : (at : ℕ)
+  pub load-number : (at : ℕ)
       → (loadOutcome s ≡ refusedLoad NUMBER at) ↔ ((own : Own) × InImage s own at × (EndsInZero moreBytes s at ⊎ EndsAbove lastByte moreBytes s at))
   unfolding member
-  load-number-refused at =
+  load-number at =
       let f = load-refusal NUMBER at (λ q. omega arith) in
       (λ e. there (f .0 e), λ h. f .1 (atNumber (record { own = h .0; place = h .1; fails = inl (number-malformed s at .1 (h .2)) })))
     where
@@ -530,24 +558,27 @@ module _ (s : List ℕ) where
       there : LoadStop RULE at → RuleAt s at ⊎ BreaksWhole s at
       there (atNumber h) =
           ⊎-elim (λ e. absurd (not-both (number-faults s at .each RULE at e) refl))
-          (λ b. inl (record { own = h .own; place = h .place; breaks = b })) (h .fails)
+          (λ b. inl (rule-at (h .own) (h .place) b)) (h .fails)
       there (trailing h e) = absurd (omega arith)
       there (breaking h e) = inr h
 
       back : RuleAt s at ⊎ BreaksWhole s at → LoadStop RULE at
-      back (inl h) = atNumber (record { own = h .own; place = h .place; fails = inr (h .breaks) })
+      back (inl h) = atNumber (at-rule h)
       back (inr h) = breaking h refl
 
   -- Of these the one at the end has the image's length as offset, and the others a smaller one.
   pub load-rule-whole : (loadOutcome s ≡ refusedLoad RULE (length s)) ↔ BreaksWhole s (length s)
   load-rule-whole =
       let f = load-rule (length s) in
-      (λ e. ⊎-elim (λ h. absurd (omega (arith, number-inside s (length s) (h .breaks .read)))) (λ h. h) (f .0 e), λ h. f .1 (inr h))
+      (λ e. ⊎-elim (λ h. absurd (omega (arith, rule-inside h))) (λ h. h) (f .0 e), λ h. f .1 (inr h))
 
-  -- "A refused .. load returns a fresh store of plan 1", and names only the offset besides. (Its numbers: `load-number` of crate trips.)
+  -- "A refused .. load returns a fresh store of plan 1", and names only the offset besides.
   pub load-refused : 2 ≤ loadOutcome s .answer .number → loadOutcome s ≡ refusedLoad (loadOutcome s .answer .number) (loadOutcome s .answer .a)
   load-refused = go way
     where
       go : Way → 2 ≤ loadOutcome s .answer .number → loadOutcome s ≡ refusedLoad (loadOutcome s .answer .number) (loadOutcome s .answer .a)
       go (stops h e) q = e ∙ sym (λ t. refusedLoad (e t .answer .number) (e t .answer .a))
       go (accepts e) q = absurd (let d = ap (λ (o : Outcome). o .answer .number) e in omega arith)
+
+  pub load-answers : Among (DONE ∷ TRAIL ∷ CUT ∷ NUMBER ∷ FORMAT ∷ PLAN ∷ RULE ∷ []) (loadOutcome s .answer)
+  load-answers = load-among s

@@ -93,9 +93,20 @@ module _ (f : Plan → State → Effect) (z : Store) where
       go (inr bad) = λ h. on-bad f z bad ∙ ap (λ (m : ℕ). record { answer = bare m; store = z }) (sym (numbered-bad bad))
 
 -- A call that only asks.
-pub of-badstore : (f : Plan → State → Answer) (z : Store) → f (planOf (z .plan)) (stateOf z) .number ≢ BADSTORE
-    → (ofStore f z .number ≡ BADSTORE) ↔ (goodStore z ≡ false)
-of-badstore f z other = (
-  λ e. refuted (goodStore z) (λ good. other (sym (ap (λ (r : Answer). r .number) (of-good f z good)) ∙ e)),
-  λ bad. ap (λ (r : Answer). r .number) (of-bad f z bad),
-)
+module _ (f : Plan → State → Answer) (z : Store) where
+  asked-bad : goodStore z ≡ false → ofStore f z .number ≡ BADSTORE
+  asked-bad bad = ap (λ (r : Answer). r .number) (of-bad f z bad)
+
+  asked-good : goodStore z ≡ true → ofStore f z .number ≡ f (planOf (z .plan)) (stateOf z) .number
+  asked-good good = ap (λ (r : Answer). r .number) (of-good f z good)
+
+  pub of-badstore : f (planOf (z .plan)) (stateOf z) .number ≢ BADSTORE → (ofStore f z .number ≡ BADSTORE) ↔ (goodStore z ≡ false)
+  of-badstore other = (λ e. refuted (goodStore z) (λ good. other (sym (asked-good good) ∙ e)), asked-bad)
+
+  pub of-among : (numbers : List ℕ) → Among numbers (f (planOf (z .plan)) (stateOf z)) → Among (BADSTORE ∷ numbers) (ofStore f z)
+  unfolding member
+  of-among numbers among = go (bool? (goodStore z))
+    where
+      go : (goodStore z ≡ true) ⊎ (goodStore z ≡ false) → Among (BADSTORE ∷ numbers) (ofStore f z)
+      go (inl good) = rw (asked-good good) (or-right (eqb (f (planOf (z .plan)) (stateOf z) .number) BADSTORE) _ among)
+      go (inr bad) = rw (asked-bad bad)

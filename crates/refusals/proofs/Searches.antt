@@ -25,7 +25,7 @@ use Rattle.steps.proofs.WaysOut.RunningWay.{no-slot, slot-idle, slot-runs}
 use Rattle.steps.proofs.WaysOut.Visit.{finds, never, goes}
 use Rattle.steps.proofs.WaysOut.Freed.{freed}
 use Rattle.steps.proofs.Refusals.{slots-exactly, step-slot-exactly, step-idle-exactly, cancel-slot-exactly, cancel-idle-exactly}
-use Rattle.refusals.proofs.OnStores.{Among, StepRefuses, Refuses, on-badstore, on-exactly, on-among, on-refuses, of-badstore}
+use Rattle.refusals.proofs.OnStores.{Among, StepRefuses, Refuses, on-badstore, on-exactly, on-among, on-refuses, of-badstore, of-among}
 
 -- ---- start
 
@@ -190,3 +190,7 @@ look-done key p s = go (current p s key)
 -- A look has no store or buffer to alter.
 pub look-badstore : (z : Store) (key : ℕ) → (ofStore (lookAnswer key) z .number ≡ BADSTORE) ↔ (goodStore z ≡ false)
 look-badstore z key = of-badstore (lookAnswer key) z (λ e. omega (arith, look-done key (planOf (z .plan)) (stateOf z)))
+
+pub look-answers : (z : Store) (key : ℕ) → Among (BADSTORE ∷ DONE ∷ []) (ofStore (lookAnswer key) z)
+unfolding member
+look-answers z key = of-among (lookAnswer key) z (DONE ∷ []) (rw (look-done key (planOf (z .plan)) (stateOf z)))
