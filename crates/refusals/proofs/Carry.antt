@@ -20,7 +20,8 @@ use Rattle.steps.specs.Carries.{carriedOut, carryStep}
 use Rattle.steps.proofs.WaysOut.{CarryWay, carry-way}
 use Rattle.steps.proofs.WaysOut.CarryWay.{no-node, no-edge, merges}
 use Rattle.steps.proofs.Refusals.{node-exactly, edge-exactly}
-use Rattle.refusals.proofs.OnStores.{Among, StepRefuses, Refuses, on-badstore, on-exactly, on-among, on-refuses}
+use Rattle.refusals.specs.Given.{Among, StepRefuses, Refuses}
+use Rattle.refusals.proofs.OnStores.{on-badstore, on-exactly, on-among, on-refuses}
 
 -- What a carry answers in a good store.
 abbrev pub carryAnswers : List ℕ

@@ -20,30 +20,11 @@ use Rattle.wire.specs.Reading.{Got, got, fault, bind, numberAt}
 use Rattle.wire.proofs.Chains.{got-or-fault, bind-got, bind-fault, check-holds, check-fails, Faults, faults-got, faults-fault, faults-bind, faults-cond, faults-number}
 use Rattle.schedule.specs.declared.Step.{Step}
 use Rattle.schedule.specs.Schedule.{mostSteps, stepRecord, Schedule, knownStep, hasTwo, secondAt, stepAt, stepsAt, scheduleAt, decodeAnswer, decodeList}
-use Rattle.refusals.proofs.OnStores.{Among, not-given}
-use Rattle.refusals.proofs.Fresh.{OneToThree, plan-test, plan-test-fails}
+use Rattle.refusals.specs.Given.{Among}
+use Rattle.refusals.specs.Schedules.{scheduleFaults, GoodSteps, StepsStop, many, one, InStep, itsNumber, itsFirst, itsSecond, UnknownAt, BadPlan, ScheduleStop, no-number, bad-plan, in-steps, AfterMost, FirstUnknown, InSchedule, itsPlan, inStep}
+use Rattle.refusals.proofs.OnStores.{not-given}
+use Rattle.refusals.proofs.Fresh.{plan-test, plan-test-fails}
 use Rattle.refusals.proofs.Reading.{After, first-fault, same-fault, numberFaults, number-faults, number-fault-at, number-cut, number-malformed}
-
--- The faults of decoding.
-abbrev pub scheduleFaults : List ℕ
-scheduleFaults = CUT ∷ NUMBER ∷ PLAN ∷ OP ∷ MANY ∷ []
-
--- So many good steps stand from one offset up to another.
-abbrev pub GoodSteps : List ℕ → ℕ → ℕ → ℕ → Type 0
-GoodSteps s zero from end = from ≡ end
-GoodSteps s (suc n) from end = (x : Step) × (next : ℕ) × (from < length s) × (stepAt s from ≡ got x next) × GoodSteps s n next end
-
--- The steps from an offset on stop: so many are good, and bytes are left at the next one's start; or one of so many stops.
-pub data StepsStop (s : List ℕ) (most from number at : ℕ) : Type 0 where
-  many : GoodSteps s most from at → at < length s → number ≡ MANY → StepsStop s most from number at
-  one : {n start : ℕ} → n < most → GoodSteps s n from start → start < length s → stepAt s start ≡ fault number at → StepsStop s most from number at
-
--- The numbers of a step that begins at an offset, those before it read.
-pub data InStep (s : List ℕ) (start : ℕ) : ℕ → Type 0 where
-  itsNumber : InStep s start start
-  itsFirst : {number at : ℕ} → numberAt s start ≡ got number at → knownStep number ≡ true → InStep s start at
-  itsSecond : {number a x at : ℕ} → numberAt s start ≡ got number a → knownStep number ≡ true → numberAt s a ≡ got x at → hasTwo number ≡ true
-      → InStep s start at
 
 module _ (s : List ℕ) where
   steps-fault : (most from number at : ℕ) → (stepsAt s most from ≡ fault number at) ↔ StepsStop s most from number at
@@ -103,15 +84,7 @@ module _ (s : List ℕ) where
       faults-bind _ _ (faults-cond (hasTwo number) (numberAt s b) (got 0 b) (faults-number s b refl refl) (faults-got 0 b)) λ y c. faults-got _ c)
       (faults-fault at refl)
 
-  -- OP: the number at a step's start is read, and is no step's.
-  pub record UnknownAt (start at : ℕ) : Type 0 where
-    pub here : start ≡ at
-    pub number : ℕ
-    pub next : ℕ
-    pub read : numberAt s start ≡ got number next
-    pub unknown : knownStep number ≡ false
-
-  step-op : (start at : ℕ) → (stepAt s start ≡ fault OP at) ↔ UnknownAt start at
+  step-op : (start at : ℕ) → (stepAt s start ≡ fault OP at) ↔ UnknownAt s start at
   unfolding stepAt secondAt member
   step-op start at = (λ e. there (first-fault (numberAt s start) _ .0 e), λ u. back u)
     where
@@ -124,17 +97,17 @@ module _ (s : List ℕ) where
           faults-bind _ _ (faults-cond (hasTwo number) (numberAt s b) (got 0 b) (number-faults s b) (faults-got 0 b)) λ y c. faults-got _ c
 
       in-rest : (number a : ℕ) → numberAt s start ≡ got number a → (knownStep number ≡ true) ⊎ (knownStep number ≡ false)
-          → cond (knownStep number) (rest number a) (fault OP start) ≡ fault OP at → UnknownAt start at
+          → cond (knownStep number) (rest number a) (fault OP start) ≡ fault OP at → UnknownAt s start at
       in-rest number a r (inl t) e = absurd (not-both (rest-faults number a .each OP at (rw t at e)) refl)
       in-rest number a r (inr f) e =
           record { here = same-fault {A = Step} (rw f at e) .1; number = number; next = a; read = r; unknown = f }
 
       there : (numberAt s start ≡ fault OP at) ⊎ After (numberAt s start) (λ number a. cond (knownStep number) (rest number a) (fault OP start)) OP at
-          → UnknownAt start at
+          → UnknownAt s start at
       there (inl e) = absurd (not-both (number-faults s start .each OP at e) refl)
       there (inr h) = in-rest (h .value) (h .next) (h .first) (bool? (knownStep (h .value))) (h .then)
 
-      back : UnknownAt start at → bind (numberAt s start) (λ number a. cond (knownStep number) (rest number a) (fault OP start)) ≡ fault OP at
+      back : UnknownAt s start at → bind (numberAt s start) (λ number a. cond (knownStep number) (rest number a) (fault OP start)) ≡ fault OP at
       back u =
           bind-got _ _ (u .read) ∙ check-fails (knownStep (u .number)) OP start _ (u .unknown) ∙ ap (λ (n : ℕ). fault OP n) (u .here)
 
@@ -185,27 +158,7 @@ module _ (s : List ℕ) where
       back (itsSecond {number} r t q two) e =
           bind-got _ _ r ∙ check-holds (knownStep number) OP start _ t ∙ bind-got _ _ q ∙ bind-fault _ _ (rw two e)
 
-  -- The plan's number is read, and is 1 to 3.
-  pub record PlanRead (from : ℕ) : Type 0 where
-    pub plan : ℕ
-    pub read : numberAt s 0 ≡ got plan from
-    pub one-to-three : OneToThree plan
-
-  -- PLAN: it is read, and is not.
-  pub record BadPlan (at : ℕ) : Type 0 where
-    pub first : at ≡ 0
-    pub plan : ℕ
-    pub next : ℕ
-    pub read : numberAt s 0 ≡ got plan next
-    pub not-one-to-three : OneToThree plan → ⊥
-
-  -- A schedule stops: its plan's number is not read, or is no plan's, or its steps stop.
-  pub data ScheduleStop (number at : ℕ) : Type 0 where
-    no-number : numberAt s 0 ≡ fault number at → ScheduleStop number at
-    bad-plan : BadPlan at → number ≡ PLAN → ScheduleStop number at
-    in-steps : {from : ℕ} → PlanRead from → StepsStop s mostSteps from number at → ScheduleStop number at
-
-  pub schedule-stop : (number at : ℕ) → (scheduleAt s ≡ fault number at) ↔ ScheduleStop number at
+  pub schedule-stop : (number at : ℕ) → (scheduleAt s ≡ fault number at) ↔ ScheduleStop s number at
   unfolding scheduleAt
   schedule-stop number at = (λ e. there (first-fault (numberAt s 0) _ .0 e), λ h. back h)
     where
@@ -213,7 +166,7 @@ module _ (s : List ℕ) where
       rest plan a = bind (stepsAt s mostSteps a) λ xs b. got (record { plan = plan; steps = xs }) b
 
       in-rest : (plan a : ℕ) → numberAt s 0 ≡ got plan a → (planNumberTest plan ≡ true) ⊎ (planNumberTest plan ≡ false)
-          → cond (planNumberTest plan) (rest plan a) (fault PLAN 0) ≡ fault number at → ScheduleStop number at
+          → cond (planNumberTest plan) (rest plan a) (fault PLAN 0) ≡ fault number at → ScheduleStop s number at
       in-rest plan a r (inl t) e =
           ⊎-elim
           (λ q. in-steps (record { plan = plan; read = r; one-to-three = plan-test plan .0 t }) (steps-fault mostSteps a number at .0 q))
@@ -224,11 +177,11 @@ module _ (s : List ℕ) where
           bad-plan (record { first = sym (w .1); plan = plan; next = a; read = r; not-one-to-three = plan-test-fails plan .0 f }) (sym (w .0))
 
       there : (numberAt s 0 ≡ fault number at) ⊎ After (numberAt s 0) (λ plan a. cond (planNumberTest plan) (rest plan a) (fault PLAN 0)) number at
-          → ScheduleStop number at
+          → ScheduleStop s number at
       there (inl e) = no-number e
       there (inr h) = in-rest (h .value) (h .next) (h .first) (bool? (planNumberTest (h .value))) (h .then)
 
-      back : ScheduleStop number at
+      back : ScheduleStop s number at
           → bind (numberAt s 0) (λ plan a. cond (planNumberTest plan) (rest plan a) (fault PLAN 0)) ≡ fault number at
       back (no-number e) = bind-fault _ _ e
       back (bad-plan b e) =
@@ -260,28 +213,6 @@ module _ (s : List ℕ) where
       faults-cond (planNumberTest plan) _ (fault PLAN 0) (faults-bind _ _ (steps-faults mostSteps a) λ xs b. faults-got _ b) (faults-fault 0 refl)
 
 -- ---- the call
-
--- MANY: "bytes after 256 steps".
-pub record AfterMost (s : List ℕ) (at : ℕ) : Type 0 where
-  pub from : ℕ
-  pub plan : PlanRead s from
-  pub steps : GoodSteps s mostSteps from at
-  pub left : at < length s
-
--- OP: the first step that is not good has a number that is read, and is no step's.
-pub record FirstUnknown (s : List ℕ) (at : ℕ) : Type 0 where
-  pub from : ℕ
-  pub plan : PlanRead s from
-  pub before : ℕ
-  pub few : before < mostSteps
-  pub steps : GoodSteps s before from at
-  pub left : at < length s
-  pub unknown : UnknownAt s at at
-
--- The numbers of a schedule, all those before it read and their checks passed: the plan's, and those of each step but those after 256.
-pub data InSchedule (s : List ℕ) : ℕ → Type 0 where
-  itsPlan : InSchedule s 0
-  inStep : {from n start at : ℕ} → PlanRead s from → n < mostSteps → GoodSteps s n from start → start < length s → InStep s start at → InSchedule s at
 
 module _ (s : List ℕ) (before : List Step) where
   -- The ways of decoding.

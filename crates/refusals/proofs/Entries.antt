@@ -3,17 +3,15 @@ use mathlib.Core.Path.{_≡_, refl}
 use mathlib.Core.Bool.{true, false}
 use mathlib.Core.List.{List, [], _∷_}
 use mathlib.Core.Logic.{_↔_}
-use mathlib.Core.Option.{none}
-use Prim.Native.Nat.{ℕ, _<_}
+use Prim.Native.Nat.{ℕ}
 use native.Mathlib.Omega.{arith}
-use lib.ListN.{length}
-use Rattle.plan.specs.Plan.{Plan, capacityOf}
+use Rattle.plan.specs.Plan.{Plan}
 use Rattle.plan.specs.PlanTable.{planOf}
 use Rattle.store.specs.declared.Outcome.{Outcome}
 use Rattle.store.specs.declared.Store.{Store}
 use Rattle.store.specs.Answers.{DONE, BADSTORE, CLOCK, FULL}
-use Rattle.store.specs.Copies.{WITHDRAWN, RESULT, keyOf, find, member}
-use Rattle.store.specs.State.{State, lastClock, nodeAt}
+use Rattle.store.specs.Copies.{WITHDRAWN, RESULT, member}
+use Rattle.store.specs.State.{State, lastClock}
 use Rattle.store.specs.Layout.{stateOf}
 use Rattle.store.specs.StoreRules.{goodStore}
 use Rattle.store.specs.Calls.{Effect, onStore}
@@ -22,13 +20,8 @@ use Rattle.steps.specs.Entries.{entry, enterStep, withdrawStep}
 use Rattle.steps.proofs.WaysOut.{EntryWay, entry-way}
 use Rattle.steps.proofs.WaysOut.EntryWay.{at-last-clock, root-full, enters}
 use Rattle.steps.proofs.Refusals.{clock-exactly, full-exactly}
-use Rattle.refusals.proofs.OnStores.{Among, StepRefuses, Refuses, on-badstore, on-exactly, on-among, on-refuses}
-
--- FULL: "root full and lacks the key".
-pub record RootFull (z : Store) (key : ℕ) : Type 0 where
-  pub clock-left : z .clock < lastClock
-  pub lacks-key : find keyOf (nodeAt (stateOf z) 0) key ≡ none
-  pub no-place : length (nodeAt (stateOf z) 0) ≡ capacityOf (planOf (z .plan)) 0
+use Rattle.refusals.specs.Given.{Among, StepRefuses, Refuses, RootFull}
+use Rattle.refusals.proofs.OnStores.{on-badstore, on-exactly, on-among, on-refuses}
 
 -- What an entry answers in a good store.
 abbrev pub entryAnswers : List ℕ

@@ -12,10 +12,7 @@ use Rattle.store.specs.Answers.{DONE, PLAN, bare}
 use Rattle.store.specs.Layout.{freshStore}
 use Rattle.store.specs.StoreRules.{planNumberTest}
 use Rattle.store.specs.Promises.{freshOutcome}
-
--- "plan 1 to 3"
-abbrev pub OneToThree : ℕ → Type 0
-OneToThree plan = (1 ≤ plan) × (plan ≤ 3)
+use Rattle.refusals.specs.Given.{OneToThree}
 
 module _ (plan : ℕ) where
   pub plan-test : (planNumberTest plan ≡ true) ↔ OneToThree plan

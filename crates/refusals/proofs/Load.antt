@@ -1,12 +1,12 @@
 -- Load: for each number from the left CUT, NUMBER, then its own check; at the end TRAIL, then RULE. Assumes nothing.
 use mathlib.Core.Path.{_≡_, refl, sym, ap, subst, _∙_}
-use mathlib.Core.Bool.{Bool, true, false, cond}
+use mathlib.Core.Bool.{true, false, cond}
 use mathlib.Core.List.{List, [], _∷_}
 use mathlib.Core.Logic.{_≢_, _↔_, _⊎_, inl, inr, ⊎-elim}
 use Prim.Native.Nat.{ℕ, zero, suc, _<_, _≤_}
 use native.Mathlib.Decide.{decLt}
 use native.Mathlib.Omega.{arith}
-use lib.Dec.{ltb, eqb}
+use lib.Dec.{eqb}
 use lib.ListN.{length}
 use borrow.Author.Tests.{eqb-true, eqb-false, ne-eqb, ltb-false, le-ltb}
 use Rattle.lists.proofs.Truths.{bool?, not-both}
@@ -18,59 +18,18 @@ use Rattle.store.specs.declared.Outcome.{Outcome}
 use Rattle.store.specs.declared.Store.{Store}
 use Rattle.store.specs.Answers.{DONE, PLAN, CUT, NUMBER, FORMAT, RULE, TRAIL, answer}
 use Rattle.store.specs.Copies.{RESULT, copy, member}
-use Rattle.store.specs.StoreRules.{planNumberTest, goodStore}
+use Rattle.store.specs.StoreRules.{goodStore}
 use Rattle.wire.specs.Reading.{Got, got, fault, bind, numberAt}
 use Rattle.wire.proofs.Chains.{got-or-fault, bind-got, bind-fault, check-holds, check-fails}
 use Rattle.image.specs.Image.{formatNumber}
 use Rattle.image.specs.Loading.{valueAt, copyAt, copiesAt, nodeAt, nodesAt, nodesFrom, clockFrom, planFrom, imageAt, refusedLoad, loadOutcome}
 use Rattle.image.proofs.LoadEnds.{acceptedLoad, finish-stops, finish-trails, finish-breaks, finish-accepts}
 use Rattle.trips.proofs.LoadWays.{load-number as load-among}
-use Rattle.refusals.proofs.OnStores.{Among, not-given}
-use Rattle.refusals.proofs.Fresh.{OneToThree, plan-test-fails}
+use Rattle.refusals.specs.Given.{Among}
+use Rattle.refusals.specs.Images.{Own, theFormat, thePlan, theClock, theCount, theKind, nothing, passes, refusal, Passes, Breaks, Fails, InCopy, itsKey, itsKind, itsValue, itsStamp, InCopies, InNode, itsCount, itsCopies, InNodes, InImage, itsFormat, itsPlan, itsClock, itsNodes, StopsAt, BadFormat, BadPlan, RuleAt, clock-0, count-above, kind-above, Trails, BreaksWhole, LoadStop, atNumber, trailing, breaking}
+use Rattle.refusals.proofs.OnStores.{not-given}
+use Rattle.refusals.proofs.Fresh.{plan-test-fails}
 use Rattle.refusals.proofs.Reading.{After, first-fault, same-fault, number-faults, number-fault-at, number-inside, number-cut, number-malformed}
-
--- What a number of an image is checked for, once it is read.
-pub data Own : Type 0 where
-  theFormat : Own
-  thePlan : Own
-  theClock : Own
-  theCount : ℕ → Own
-  theKind : Own
-  nothing : Own
-
--- "its own check (FORMAT, PLAN; RULE for clock 0, count above capacity, kind above 1)"
-abbrev pub passes : Own → ℕ → Bool
-passes theFormat v = eqb v formatNumber
-passes thePlan v = planNumberTest v
-passes theClock v = ltb 0 v
-passes (theCount capacity) v = ltb v (suc capacity)
-passes theKind v = ltb v 2
-passes nothing v = true
-
-abbrev pub refusal : Own → ℕ
-refusal theFormat = FORMAT
-refusal thePlan = PLAN
-refusal theClock = RULE
-refusal (theCount capacity) = RULE
-refusal theKind = RULE
-refusal nothing = RULE
-
--- A number is read, and passes its check.
-pub record Passes (s : List ℕ) (own : Own) (at value next : ℕ) : Type 0 where
-  pub read : numberAt s at ≡ got value next
-  pub passed : passes own value ≡ true
-
--- A number is read, and does not.
-pub record Breaks (s : List ℕ) (own : Own) (at number : ℕ) : Type 0 where
-  pub value : ℕ
-  pub next : ℕ
-  pub read : numberAt s at ≡ got value next
-  pub broken : passes own value ≡ false
-  pub is : refusal own ≡ number
-
--- "For each number CUT, NUMBER, then its own check."
-abbrev pub Fails : List ℕ → Own → ℕ → ℕ → Type 0
-Fails s own at number = (numberAt s at ≡ fault number at) ⊎ Breaks s own at number
 
 -- One number with its check, and the rest after it.
 module _ {A : Type 0} (s : List ℕ) (own : Own) (start : ℕ) (rest : ℕ → ℕ → Got A) where
@@ -106,21 +65,7 @@ module _ {A : Type 0} (s : List ℕ) (own : Own) (start : ℕ) (rest : ℕ → �
   stage-later : {v next : ℕ} → Passes s own start v next → staged ≡ rest v next
   stage-later {v} p = bind-got _ _ (p .read) ∙ check-holds (passes own v) (refusal own) start _ (p .passed)
 
--- Reading stops at a number that stands at a place of this kind.
-pub record StopsAt (s : List ℕ) (Place : Own → ℕ → Type 0) (number at : ℕ) : Type 0 where
-  pub own : Own
-  pub place : Place own at
-  pub fails : Fails s own at number
-
 -- ---- a copy
-
--- The numbers of a copy that begins at an offset: each with its check, and those before it read.
-pub data InCopy (s : List ℕ) (start : ℕ) : Own → ℕ → Type 0 where
-  itsKey : InCopy s start nothing start
-  itsKind : {key at : ℕ} → numberAt s start ≡ got key at → InCopy s start theKind at
-  itsValue : {key a at : ℕ} → numberAt s start ≡ got key a → numberAt s a ≡ got RESULT at → InCopy s start nothing at
-  itsStamp : {key a kind b value at : ℕ} → numberAt s start ≡ got key a → Passes s theKind a kind b → valueAt s kind b ≡ got value at
-      → InCopy s start nothing at
 
 module _ (s : List ℕ) where
   stampRest : ℕ → ℕ → ℕ → ℕ → Got Copy
@@ -179,23 +124,6 @@ module _ (s : List ℕ) where
       ∙ stage-here s nothing at (λ stamp d. got (copy key kind value stamp) d) f
 
 -- ---- the copies of a node, and nodes
-
--- The numbers of so many copies that begin at an offset.
-abbrev pub InCopies : List ℕ → ℕ → ℕ → Own → ℕ → Type 0
-InCopies s zero start own at = ⊥
-InCopies s (suc n) start own at =
-    InCopy s start own at ⊎ ((x : Copy) × (next : ℕ) × (copyAt s start ≡ got x next) × InCopies s n next own at)
-
--- The numbers of a node: its count, and those of its copies.
-pub data InNode (s : List ℕ) (capacity start : ℕ) : Own → ℕ → Type 0 where
-  itsCount : InNode s capacity start (theCount capacity) start
-  itsCopies : {count a at : ℕ} {own : Own} → Passes s (theCount capacity) start count a → InCopies s count a own at → InNode s capacity start own at
-
-abbrev pub InNodes : List ℕ → Plan → ℕ → Own → ℕ → Type 0
-InNodes s [] start own at = ⊥
-InNodes s (n ∷ p) start own at =
-    InNode s (n .capacity) start own at
-    ⊎ ((xs : List Copy) × (next : ℕ) × (nodeAt s (n .capacity) start ≡ got xs next) × InNodes s p next own at)
 
 module _ (s : List ℕ) where
   copies-stop : (n start : ℕ) {number at : ℕ} → copiesAt s n start ≡ fault number at → StopsAt s (InCopies s n start) number at
@@ -261,14 +189,6 @@ module _ (s : List ℕ) where
   nodes-fail (n ∷ p) start (inr (xs, a, g, h)) f = bind-got _ _ g ∙ bind-fault _ _ (nodes-fail p a h f)
 
 -- ---- an image
-
--- The numbers of an image, each with its check, all those before it read and their checks passed.
-pub data InImage (s : List ℕ) : Own → ℕ → Type 0 where
-  itsFormat : InImage s theFormat 0
-  itsPlan : {format at : ℕ} → Passes s theFormat 0 format at → InImage s thePlan at
-  itsClock : {format a plan at : ℕ} → Passes s theFormat 0 format a → Passes s thePlan a plan at → InImage s theClock at
-  itsNodes : {format a plan b clock c at : ℕ} {own : Own} → Passes s theFormat 0 format a → Passes s thePlan a plan b → Passes s theClock b clock c
-      → InNodes s (planOf plan) c own at → InImage s own at
 
 module _ (s : List ℕ) where
   -- Reading an image stops with a number and an offset exactly if at that offset stands a number of it that fails so.
@@ -343,28 +263,6 @@ own-among nothing = refl
 own-not : (own : Own) {n : ℕ} → refusal own ≡ n → member n (FORMAT ∷ PLAN ∷ RULE ∷ []) ≡ false → ⊥
 own-not own e lacks = not-given (FORMAT ∷ PLAN ∷ RULE ∷ []) (refusal own) (own-among own) lacks e
 
--- FORMAT: "format not 1".
-pub record BadFormat (s : List ℕ) (at : ℕ) : Type 0 where
-  pub first : at ≡ 0
-  pub format : ℕ
-  pub next : ℕ
-  pub read : numberAt s 0 ≡ got format next
-  pub not-one : format ≢ formatNumber
-
--- PLAN: "plan not 1 to 3".
-pub record BadPlan (s : List ℕ) (at : ℕ) : Type 0 where
-  pub format : numberAt s 0 ≡ got formatNumber at
-  pub plan : ℕ
-  pub next : ℕ
-  pub read : numberAt s at ≡ got plan next
-  pub not-one-to-three : OneToThree plan → ⊥
-
--- RULE at a number: "RULE for clock 0, count above capacity, kind above 1".
-pub data RuleAt (s : List ℕ) (at : ℕ) : Type 0 where
-  clock-0 : {next : ℕ} → InImage s theClock at → numberAt s at ≡ got 0 next → RuleAt s at
-  count-above : {capacity count next : ℕ} → InImage s (theCount capacity) at → numberAt s at ≡ got count next → capacity < count → RuleAt s at
-  kind-above : {kind next : ℕ} → InImage s theKind at → numberAt s at ≡ got kind next → 1 < kind → RuleAt s at
-
 rule-at : {s : List ℕ} {at : ℕ} (own : Own) → InImage s own at → Breaks s own at RULE → RuleAt s at
 rule-at theFormat p b = absurd (omega (arith, b .is))
 rule-at thePlan p b = absurd (omega (arith, b .is))
@@ -392,31 +290,10 @@ rule-inside {s} {at} (clock-0 p r) = number-inside s at r
 rule-inside {s} {at} (count-above p r h) = number-inside s at r
 rule-inside {s} {at} (kind-above p r h) = number-inside s at r
 
--- TRAIL: "bytes after the image".
-pub record Trails (s : List ℕ) (at : ℕ) : Type 0 where
-  pub store : Store
-  pub read : imageAt s ≡ got store at
-  pub left : at < length s
-
--- RULE at the end: all is read, nothing is left, and the store of it breaks a store rule.
-pub record BreaksWhole (s : List ℕ) (at : ℕ) : Type 0 where
-  pub store : Store
-  pub end : ℕ
-  pub read : imageAt s ≡ got store end
-  pub whole : length s ≤ end
-  pub broken : goodStore store ≡ false
-  pub is-length : at ≡ length s
-
 module _ (s : List ℕ) where
-  -- The refusals of loading.
-  pub data LoadStop (number at : ℕ) : Type 0 where
-    atNumber : StopsAt s (InImage s) number at → LoadStop number at
-    trailing : Trails s at → number ≡ TRAIL → LoadStop number at
-    breaking : BreaksWhole s at → number ≡ RULE → LoadStop number at
-
   -- The ways of loading.
   data Way : Type 0 where
-    stops : {number at : ℕ} → LoadStop number at → loadOutcome s ≡ refusedLoad number at → Way
+    stops : {number at : ℕ} → LoadStop s number at → loadOutcome s ≡ refusedLoad number at → Way
     accepts : {z : Store} → loadOutcome s ≡ acceptedLoad z → Way
 
   same-refusal : {n m at by : ℕ} → loadOutcome s ≡ refusedLoad n at → loadOutcome s ≡ refusedLoad m by → (n ≡ m) × (at ≡ by)
@@ -424,7 +301,7 @@ module _ (s : List ℕ) where
       let r = sym e ∙ f in (ap (λ (o : Outcome). o .answer .number) r, ap (λ (o : Outcome). o .answer .a) r)
 
   -- A refusal is given as these say.
-  given : {number at : ℕ} → LoadStop number at → loadOutcome s ≡ refusedLoad number at
+  given : {number at : ℕ} → LoadStop s number at → loadOutcome s ≡ refusedLoad number at
   unfolding loadOutcome
   given {number} {at} (atNumber h) = finish-stops s (imageAt s) (image-stop s number at .1 h)
   given {number} {at} (trailing h e) = finish-trails s (imageAt s) (h .read) (h .left) ∙ ap (λ (n : ℕ). refusedLoad n at) (sym e)
@@ -436,10 +313,10 @@ module _ (s : List ℕ) where
   way = go (imageAt s) refl
     where
       ends : (z : Store) (end : ℕ) → imageAt s ≡ got z end → Dec (end < length s) → (goodStore z ≡ true) ⊎ (goodStore z ≡ false) → Way
-      ends z end e (yes h) g = let w : LoadStop TRAIL end = trailing (record { store = z; read = e; left = h }) refl in stops w (given w)
+      ends z end e (yes h) g = let w : LoadStop s TRAIL end = trailing (record { store = z; read = e; left = h }) refl in stops w (given w)
       ends z end e (no h) (inl g) = accepts (finish-accepts s (imageAt s) e (omega arith) g)
       ends z end e (no h) (inr g) =
-          let w : LoadStop RULE (length s) = breaking (record { store = z; end = end; read = e; whole = omega arith; broken = g; is-length = refl }) refl in
+          let w : LoadStop s RULE (length s) = breaking (record { store = z; end = end; read = e; whole = omega arith; broken = g; is-length = refl }) refl in
           stops w (given w)
 
       go : (m : Got Store) → imageAt s ≡ m → Way
@@ -447,11 +324,11 @@ module _ (s : List ℕ) where
       go (got z end) e = ends z end e (decLt end (length s)) (bool? (goodStore z))
 
   -- Each refusal, with its offset, is given exactly when it is the first from the left.
-  pub load-refusal : (number at : ℕ) → number ≢ DONE → (loadOutcome s ≡ refusedLoad number at) ↔ LoadStop number at
+  pub load-refusal : (number at : ℕ) → number ≢ DONE → (loadOutcome s ≡ refusedLoad number at) ↔ LoadStop s number at
   load-refusal number at not-done = (λ e. go way e, given)
     where
-      go : Way → loadOutcome s ≡ refusedLoad number at → LoadStop number at
-      go (stops {number = n} {at = by} h e) f = let w = same-refusal e f in subst (λ (m : ℕ). LoadStop m at) (w .0) (subst (λ (b : ℕ). LoadStop n b) (w .1) h)
+      go : Way → loadOutcome s ≡ refusedLoad number at → LoadStop s number at
+      go (stops {number = n} {at = by} h e) f = let w = same-refusal e f in subst (λ (m : ℕ). LoadStop s m at) (w .0) (subst (λ (b : ℕ). LoadStop s n b) (w .1) h)
       go (accepts e) f = absurd (not-done (ap (λ (o : Outcome). o .answer .number) (sym f ∙ e)))
 
   -- "CUT: bytes end inside or before a number"
@@ -465,7 +342,7 @@ module _ (s : List ℕ) where
       fails own p (inl e) = (own, p, number-cut s at .0 e)
       fails own p (inr b) = absurd (own-not own (b .is) refl)
 
-      there : LoadStop CUT at → (own : Own) × InImage s own at × EndsEarly moreBytes s at
+      there : LoadStop s CUT at → (own : Own) × InImage s own at × EndsEarly moreBytes s at
       there (atNumber h) = fails (h .own) (h .place) (h .fails)
       there (trailing h e) = absurd (omega arith)
       there (breaking h e) = absurd (omega arith)
@@ -485,7 +362,7 @@ module _ (s : List ℕ) where
       fails own p (inl e) = (own, p, number-malformed s at .0 e)
       fails own p (inr b) = absurd (own-not own (b .is) refl)
 
-      there : LoadStop NUMBER at → Spoilt
+      there : LoadStop s NUMBER at → Spoilt
       there (atNumber h) = fails (h .own) (h .place) (h .fails)
       there (trailing h e) = absurd (omega arith)
       there (breaking h e) = absurd (omega arith)
@@ -501,15 +378,15 @@ module _ (s : List ℕ) where
       breaks (itsClock p q) b = absurd (omega (arith, b .is))
       breaks {own} {by} (itsNodes {plan = plan} {c = c} p q k h) b = absurd (omega (arith, b .is, nodes-rule s (planOf plan) c by own h))
 
-      there : LoadStop FORMAT at → BadFormat s at
+      there : LoadStop s FORMAT at → BadFormat s at
       there (atNumber h) = ⊎-elim (λ e. absurd (not-both (number-faults s at .each FORMAT at e) refl)) (λ b. breaks (h .place) b) (h .fails)
       there (trailing h e) = absurd (omega arith)
       there (breaking h e) = absurd (omega arith)
 
-      back : BadFormat s at → LoadStop FORMAT at
+      back : BadFormat s at → LoadStop s FORMAT at
       back b =
           let w : Breaks s theFormat 0 FORMAT = record { value = b .format; next = b .next; read = b .read; broken = ne-eqb (b .format) formatNumber (b .not-one); is = refl } in
-          subst (λ (k : ℕ). LoadStop FORMAT k) (sym (b .first)) (atNumber (record { own = theFormat; place = itsFormat; fails = inr w }))
+          subst (λ (k : ℕ). LoadStop s FORMAT k) (sym (b .first)) (atNumber (record { own = theFormat; place = itsFormat; fails = inr w }))
 
   -- "PLAN: plan not 1 to 3"
   pub load-plan : (at : ℕ) → (loadOutcome s ≡ refusedLoad PLAN at) ↔ BadPlan s at
@@ -529,12 +406,12 @@ module _ (s : List ℕ) where
       breaks (itsClock p q) b = absurd (omega (arith, b .is))
       breaks {own} {by} (itsNodes {plan = plan} {c = c} p q k h) b = absurd (omega (arith, b .is, nodes-rule s (planOf plan) c by own h))
 
-      there : LoadStop PLAN at → BadPlan s at
+      there : LoadStop s PLAN at → BadPlan s at
       there (atNumber h) = ⊎-elim (λ e. absurd (not-both (number-faults s at .each PLAN at e) refl)) (λ b. breaks (h .place) b) (h .fails)
       there (trailing h e) = absurd (omega arith)
       there (breaking h e) = absurd (omega arith)
 
-      back : BadPlan s at → LoadStop PLAN at
+      back : BadPlan s at → LoadStop s PLAN at
       back b =
           let w : Breaks s thePlan at PLAN = record { value = b .plan; next = b .next; read = b .read; broken = plan-test-fails (b .plan) .1 (b .not-one-to-three); is = refl } in
           atNumber (record { own = thePlan; place = itsPlan (record { read = b .format; passed = refl }); fails = inr w })
@@ -544,7 +421,7 @@ module _ (s : List ℕ) where
   unfolding member
   load-trail at = let f = load-refusal TRAIL at (λ q. omega arith) in (λ e. there (f .0 e), λ h. f .1 (trailing h refl))
     where
-      there : LoadStop TRAIL at → Trails s at
+      there : LoadStop s TRAIL at → Trails s at
       there (atNumber h) =
           ⊎-elim (λ e. absurd (not-both (number-faults s at .each TRAIL at e) refl)) (λ b. absurd (own-not (h .own) (b .is) refl)) (h .fails)
       there (trailing h e) = h
@@ -555,14 +432,14 @@ module _ (s : List ℕ) where
   unfolding member
   load-rule at = let f = load-refusal RULE at (λ q. omega arith) in (λ e. there (f .0 e), λ h. f .1 (back h))
     where
-      there : LoadStop RULE at → RuleAt s at ⊎ BreaksWhole s at
+      there : LoadStop s RULE at → RuleAt s at ⊎ BreaksWhole s at
       there (atNumber h) =
           ⊎-elim (λ e. absurd (not-both (number-faults s at .each RULE at e) refl))
           (λ b. inl (rule-at (h .own) (h .place) b)) (h .fails)
       there (trailing h e) = absurd (omega arith)
       there (breaking h e) = inr h
 
-      back : RuleAt s at ⊎ BreaksWhole s at → LoadStop RULE at
+      back : RuleAt s at ⊎ BreaksWhole s at → LoadStop s RULE at
       back (inl h) = atNumber (at-rule h)
       back (inr h) = breaking h refl
 

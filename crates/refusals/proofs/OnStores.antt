@@ -4,7 +4,7 @@ use mathlib.Core.Path.{_≡_, sym, ap, _∙_}
 use mathlib.Core.Bool.{true, false}
 use mathlib.Core.List.{List, _∷_}
 use mathlib.Core.Logic.{_≢_, _↔_, _⊎_, inl, inr}
-use Prim.Native.Nat.{ℕ, _≤_}
+use Prim.Native.Nat.{ℕ}
 use lib.Dec.{eqb}
 use Rattle.lists.proofs.Truths.{bool?, not-both, refuted, or-right}
 use Rattle.plan.specs.Plan.{Plan}
@@ -20,26 +20,15 @@ use Rattle.store.specs.StoreRules.{StoreRules, goodStore}
 use Rattle.store.specs.Calls.{Effect, onStore, ofStore}
 use Rattle.store.proofs.Ruling.{good-rules, rules-good}
 use Rattle.store.proofs.Lifting.{on-bad, on-good, of-bad, of-good, good-back}
+use Rattle.refusals.specs.Given.{Among, StepRefuses, Refuses}
 
 -- "a store rule is broken": the test fails exactly when not all rules hold.
 pub rule-broken : (z : Store) → (goodStore z ≡ false) ↔ (StoreRules z → ⊥)
 rule-broken z = (λ bad rules. not-both (rules-good z rules) bad, λ broken. refuted (goodStore z) (λ good. broken (good-rules z good)))
 
--- An answer from among these numbers.
-abbrev pub Among : List ℕ → Answer → Type 0
-Among numbers r = member (r .number) numbers ≡ true
-
 -- A number that is not among them is not given.
 pub not-given : (numbers : List ℕ) (n : ℕ) {m : ℕ} → member n numbers ≡ true → member m numbers ≡ false → n ≢ m
 not-given numbers n among lacks e = not-both among (ap (λ (k : ℕ). member k numbers) e ∙ lacks)
-
--- A refused step: nothing but the number is named, and the state is as it was.
-abbrev pub StepRefuses : State → Effect → Type 0
-StepRefuses s e = 2 ≤ e .answer .number → e ≡ record { answer = bare (e .answer .number); after = s }
-
--- A refused call: nothing but the number is named, and the store is as it was.
-abbrev pub Refuses : Store → Outcome → Type 0
-Refuses z o = 2 ≤ o .answer .number → o ≡ record { answer = bare (o .answer .number); store = z }
 
 -- A call that may alter the store.
 module _ (f : Plan → State → Effect) (z : Store) where

@@ -25,7 +25,7 @@ use Rattle.page.specs.Page.{lastSample, linesOf, linesBytes, pageBytes, begins}
 use Rattle.page.specs.Promises.{pageNow, pageAnswer, pageBuffer, fresh?, servedLength, served}
 use Rattle.page.proofs.PageBytes.{begins-rest, rest-begins}
 use Rattle.page.proofs.Stale.{serves-kept, serves-notice}
-use Rattle.refusals.proofs.OnStores.{Among}
+use Rattle.refusals.specs.Given.{Among, StillTrue}
 
 -- ---- page
 
@@ -123,13 +123,6 @@ module _ (z : Store) (sample : ℕ) (before : List ℕ) where
       go (done g l k e) h = absurd (omega (arith, numbered e))
 
 -- ---- serve
-
--- "If the kept bytes begin with the sample's page as it is now", of a good store and a sample that is not too large.
-pub record StillTrue (z : Store) (sample : ℕ) (kept : List ℕ) : Type 0 where
-  pub good : goodStore z ≡ true
-  pub small : sample ≤ lastSample
-  pub rest : List ℕ
-  pub begin : kept ≡ pageNow z sample ++ rest
 
 module _ (z : Store) (sample : ℕ) where
   pub fresh-exactly : (kept : List ℕ) → (fresh? z sample kept ≡ true) ↔ StillTrue z sample kept

@@ -6,7 +6,7 @@ use mathlib.Core.Logic.{_↔_, _⊎_, inl, inr}
 use Prim.Native.Nat.{ℕ, _<_, _≤_}
 use native.Mathlib.Decide.{decLt, ℕ-discrete}
 use native.Mathlib.Omega.{arith}
-use lib.ListN.{length, getD, List·getD-eq-default}
+use lib.ListN.{length, List·getD-eq-default}
 use Rattle.lists.proofs.Truths.{bool?, not-both}
 use Rattle.plan.specs.Plan.{Plan}
 use Rattle.plan.specs.PlanTable.{planOf}
@@ -27,7 +27,8 @@ use Rattle.schedule.specs.Schedule.{ENTER, WITHDRAW, CARRY, START, STEP, CANCEL
 use Rattle.schedule.specs.Running.{noStep, unknownStep, stepOf, runOutcome}
 use Rattle.schedule.proofs.StepLaws.{does-enter, does-withdraw, does-carry, does-start, does-step, does-cancel, does-unknown}
 use Rattle.schedule.proofs.ScheduleLaws.{known-between}
-use Rattle.refusals.proofs.OnStores.{Among, not-given, Refuses, on-badstore, on-exactly}
+use Rattle.refusals.specs.Given.{Among, Refuses, recordAt, Unknown}
+use Rattle.refusals.proofs.OnStores.{not-given, on-badstore, on-exactly}
 use Rattle.refusals.proofs.Entries.{entryAnswers, enter-badstore, enter-answers, enter-refused, withdraw-badstore, withdraw-answers, withdraw-refused}
 use Rattle.refusals.proofs.Carry.{carryAnswers, carry-badstore, carry-answers, carry-refused}
 use Rattle.refusals.proofs.Searches.{
@@ -52,19 +53,15 @@ same-call f g z e =
     ap (λ (w : Effect). cond (goodStore z) (record { answer = w .answer; store = storeOf (z .plan) (w .after) }) (record { answer = bare BADSTORE; store = z })) e
 
 module _ (z : Store) (list : List Step) (place : ℕ) where
-  -- The record at the place, of zeros outside the list.
-  abbrev pub at-place : Step
-  at-place = getD list place noStep
-
   -- The runner gives the very outcome of the record's call, or the step is unknown.
   pub data RunWay : Type 0 where
-    enters : at-place .number ≡ ENTER → runOutcome z list place ≡ onStore (enterStep (at-place .x) (at-place .y)) z → RunWay
-    withdraws : at-place .number ≡ WITHDRAW → runOutcome z list place ≡ onStore (withdrawStep (at-place .x)) z → RunWay
-    carries : at-place .number ≡ CARRY → runOutcome z list place ≡ onStore (carryStep (at-place .x) (at-place .y)) z → RunWay
-    starts : at-place .number ≡ START → runOutcome z list place ≡ onStore (startStep (at-place .x)) z → RunWay
-    steps : at-place .number ≡ STEP → runOutcome z list place ≡ onStore (stepStep (at-place .x)) z → RunWay
-    cancels : at-place .number ≡ CANCEL → runOutcome z list place ≡ onStore (cancelStep (at-place .x)) z → RunWay
-    unknown : knownStep (at-place .number) ≡ false → runOutcome z list place ≡ onStore (λ p s. unknownStep place s) z → RunWay
+    enters : recordAt list place .number ≡ ENTER → runOutcome z list place ≡ onStore (enterStep (recordAt list place .x) (recordAt list place .y)) z → RunWay
+    withdraws : recordAt list place .number ≡ WITHDRAW → runOutcome z list place ≡ onStore (withdrawStep (recordAt list place .x)) z → RunWay
+    carries : recordAt list place .number ≡ CARRY → runOutcome z list place ≡ onStore (carryStep (recordAt list place .x) (recordAt list place .y)) z → RunWay
+    starts : recordAt list place .number ≡ START → runOutcome z list place ≡ onStore (startStep (recordAt list place .x)) z → RunWay
+    steps : recordAt list place .number ≡ STEP → runOutcome z list place ≡ onStore (stepStep (recordAt list place .x)) z → RunWay
+    cancels : recordAt list place .number ≡ CANCEL → runOutcome z list place ≡ onStore (cancelStep (recordAt list place .x)) z → RunWay
+    unknown : knownStep (recordAt list place .number) ≡ false → runOutcome z list place ≡ onStore (λ p s. unknownStep place s) z → RunWay
 
   pub run-way : RunWay
   unfolding runOutcome
@@ -72,7 +69,7 @@ module _ (z : Store) (list : List Step) (place : ℕ) where
       go (ℕ-discrete n ENTER) (ℕ-discrete n WITHDRAW) (ℕ-discrete n CARRY) (ℕ-discrete n START) (ℕ-discrete n STEP) (ℕ-discrete n CANCEL)
     where
       n : ℕ
-      n = at-place .number
+      n = recordAt list place .number
 
       p : Plan
       p = planOf (z .plan)
@@ -80,19 +77,19 @@ module _ (z : Store) (list : List Step) (place : ℕ) where
       s : State
       s = stateOf z
 
-      calls : (g : Plan → State → Effect) → stepOf at-place place p s ≡ g p s → runOutcome z list place ≡ onStore g z
-      calls g e = same-call (stepOf at-place place) g z e
+      calls : (g : Plan → State → Effect) → stepOf (recordAt list place) place p s ≡ g p s → runOutcome z list place ≡ onStore g z
+      calls g e = same-call (stepOf (recordAt list place) place) g z e
 
       go : Dec (n ≡ ENTER) → Dec (n ≡ WITHDRAW) → Dec (n ≡ CARRY) → Dec (n ≡ START) → Dec (n ≡ STEP) → Dec (n ≡ CANCEL) → RunWay
-      go (yes e) b c d f g = enters e (calls (enterStep (at-place .x) (at-place .y)) (does-enter n (at-place .x) (at-place .y) place p s e))
-      go (no a) (yes e) c d f g = withdraws e (calls (withdrawStep (at-place .x)) (does-withdraw n (at-place .x) (at-place .y) place p s e))
-      go (no a) (no b) (yes e) d f g = carries e (calls (carryStep (at-place .x) (at-place .y)) (does-carry n (at-place .x) (at-place .y) place p s e))
-      go (no a) (no b) (no c) (yes e) f g = starts e (calls (startStep (at-place .x)) (does-start n (at-place .x) (at-place .y) place p s e))
-      go (no a) (no b) (no c) (no d) (yes e) g = steps e (calls (stepStep (at-place .x)) (does-step n (at-place .x) (at-place .y) place p s e))
-      go (no a) (no b) (no c) (no d) (no f) (yes e) = cancels e (calls (cancelStep (at-place .x)) (does-cancel n (at-place .x) (at-place .y) place p s e))
+      go (yes e) b c d f g = enters e (calls (enterStep (recordAt list place .x) (recordAt list place .y)) (does-enter n (recordAt list place .x) (recordAt list place .y) place p s e))
+      go (no a) (yes e) c d f g = withdraws e (calls (withdrawStep (recordAt list place .x)) (does-withdraw n (recordAt list place .x) (recordAt list place .y) place p s e))
+      go (no a) (no b) (yes e) d f g = carries e (calls (carryStep (recordAt list place .x) (recordAt list place .y)) (does-carry n (recordAt list place .x) (recordAt list place .y) place p s e))
+      go (no a) (no b) (no c) (yes e) f g = starts e (calls (startStep (recordAt list place .x)) (does-start n (recordAt list place .x) (recordAt list place .y) place p s e))
+      go (no a) (no b) (no c) (no d) (yes e) g = steps e (calls (stepStep (recordAt list place .x)) (does-step n (recordAt list place .x) (recordAt list place .y) place p s e))
+      go (no a) (no b) (no c) (no d) (no f) (yes e) = cancels e (calls (cancelStep (recordAt list place .x)) (does-cancel n (recordAt list place .x) (recordAt list place .y) place p s e))
       go (no a) (no b) (no c) (no d) (no f) (no g) =
           unknown (other (bool? (knownStep n)))
-          (calls (λ q t. unknownStep place t) (does-unknown n (at-place .x) (at-place .y) place p s a b c d f g))
+          (calls (λ q t. unknownStep place t) (does-unknown n (recordAt list place .x) (recordAt list place .y) place p s a b c d f g))
         where
           other : (knownStep n ≡ true) ⊎ (knownStep n ≡ false) → knownStep n ≡ false
           other (inl t) = let k = known-between n t in absurd (omega (arith, k .0, k .1))
@@ -113,52 +110,48 @@ module _ (z : Store) (list : List Step) (place : ℕ) where
   run-badstore = go run-way
     where
       go : RunWay → (number ≡ BADSTORE) ↔ (goodStore z ≡ false)
-      go (enters n e) = same-exactly e (enter-badstore z (at-place .x) (at-place .y))
-      go (withdraws n e) = same-exactly e (withdraw-badstore z (at-place .x))
-      go (carries n e) = same-exactly e (carry-badstore z (at-place .x) (at-place .y))
-      go (starts n e) = same-exactly e (start-badstore z (at-place .x))
-      go (steps n e) = same-exactly e (step-badstore z (at-place .x))
-      go (cancels n e) = same-exactly e (cancel-badstore z (at-place .x))
+      go (enters n e) = same-exactly e (enter-badstore z (recordAt list place .x) (recordAt list place .y))
+      go (withdraws n e) = same-exactly e (withdraw-badstore z (recordAt list place .x))
+      go (carries n e) = same-exactly e (carry-badstore z (recordAt list place .x) (recordAt list place .y))
+      go (starts n e) = same-exactly e (start-badstore z (recordAt list place .x))
+      go (steps n e) = same-exactly e (step-badstore z (recordAt list place .x))
+      go (cancels n e) = same-exactly e (cancel-badstore z (recordAt list place .x))
       go (unknown n e) = same-exactly e (on-badstore (λ p s. unknownStep place s) z (OP ∷ []) refl refl)
 
-  -- "unknown step number, or a place outside the list"
-  abbrev pub Unknown : Type 0
-  Unknown = (length list ≤ place) ⊎ ((place < length list) × (knownStep (at-place .number) ≡ false))
-
-  unknown-number : Unknown → knownStep (at-place .number) ≡ false
+  unknown-number : Unknown list place → knownStep (recordAt list place .number) ≡ false
   unfolding knownStep
   unknown-number (inl h) = rw (List·getD-eq-default list noStep h)
   unknown-number (inr h) = h .1
 
-  known-not : {n : ℕ} → at-place .number ≡ n → knownStep n ≡ true → Unknown → ⊥
+  known-not : {n : ℕ} → recordAt list place .number ≡ n → knownStep n ≡ true → Unknown list place → ⊥
   known-not e t u = not-both (ap knownStep e ∙ t) (unknown-number u)
 
-  unknown-why : knownStep (at-place .number) ≡ false → Unknown
+  unknown-why : knownStep (recordAt list place .number) ≡ false → Unknown list place
   unknown-why f = go (decLt place (length list))
     where
-      go : Dec (place < length list) → Unknown
+      go : Dec (place < length list) → Unknown list place
       go (yes h) = inr (h, f)
       go (no h) = inl (omega arith)
 
   -- A known step does not answer OP.
-  not-op : {n : ℕ} {o : Outcome} (numbers : List ℕ) → at-place .number ≡ n → knownStep n ≡ true → runOutcome z list place ≡ o → Among numbers (o .answer)
-      → member OP numbers ≡ false → (number ≡ OP) ↔ ((goodStore z ≡ true) × Unknown)
+  not-op : {n : ℕ} {o : Outcome} (numbers : List ℕ) → recordAt list place .number ≡ n → knownStep n ≡ true → runOutcome z list place ≡ o → Among numbers (o .answer)
+      → member OP numbers ≡ false → (number ≡ OP) ↔ ((goodStore z ≡ true) × Unknown list place)
   not-op {n} {o} numbers e t r among lacks = (
     λ q. absurd (not-given numbers (o .answer .number) among lacks (sym (same-number r) ∙ q)),
     λ u. absurd (known-not e t (u .1)),
   )
 
-  pub run-op : (runOutcome z list place .answer .number ≡ OP) ↔ ((goodStore z ≡ true) × Unknown)
+  pub run-op : (runOutcome z list place .answer .number ≡ OP) ↔ ((goodStore z ≡ true) × Unknown list place)
   unfolding member knownStep
   run-op = go run-way
     where
-      go : RunWay → (number ≡ OP) ↔ ((goodStore z ≡ true) × Unknown)
-      go (enters n e) = not-op (BADSTORE ∷ entryAnswers) n refl e (enter-answers z (at-place .x) (at-place .y)) refl
-      go (withdraws n e) = not-op (BADSTORE ∷ entryAnswers) n refl e (withdraw-answers z (at-place .x)) refl
-      go (carries n e) = not-op (BADSTORE ∷ carryAnswers) n refl e (carry-answers z (at-place .x) (at-place .y)) refl
-      go (starts n e) = not-op (BADSTORE ∷ startAnswers) n refl e (start-answers z (at-place .x)) refl
-      go (steps n e) = not-op (BADSTORE ∷ stepAnswers) n refl e (step-answers z (at-place .x)) refl
-      go (cancels n e) = not-op (BADSTORE ∷ cancelAnswers) n refl e (cancel-answers z (at-place .x)) refl
+      go : RunWay → (number ≡ OP) ↔ ((goodStore z ≡ true) × Unknown list place)
+      go (enters n e) = not-op (BADSTORE ∷ entryAnswers) n refl e (enter-answers z (recordAt list place .x) (recordAt list place .y)) refl
+      go (withdraws n e) = not-op (BADSTORE ∷ entryAnswers) n refl e (withdraw-answers z (recordAt list place .x)) refl
+      go (carries n e) = not-op (BADSTORE ∷ carryAnswers) n refl e (carry-answers z (recordAt list place .x) (recordAt list place .y)) refl
+      go (starts n e) = not-op (BADSTORE ∷ startAnswers) n refl e (start-answers z (recordAt list place .x)) refl
+      go (steps n e) = not-op (BADSTORE ∷ stepAnswers) n refl e (step-answers z (recordAt list place .x)) refl
+      go (cancels n e) = not-op (BADSTORE ∷ cancelAnswers) n refl e (cancel-answers z (recordAt list place .x)) refl
       go (unknown n e) =
           same-exactly e (on-exactly (λ p s. unknownStep place s) z OP (λ q. omega arith) λ good. (λ q. unknown-why n, λ u. refl))
 
@@ -167,7 +160,7 @@ module _ (z : Store) (list : List Step) (place : ℕ) where
   unfolding knownStep
   run-op-place q = let u = run-op .0 q in go (u .0) (unknown-number (u .1)) run-way
     where
-      go : goodStore z ≡ true → knownStep (at-place .number) ≡ false → RunWay → runOutcome z list place .answer ≡ answer OP place 0 0 0
+      go : goodStore z ≡ true → knownStep (recordAt list place .number) ≡ false → RunWay → runOutcome z list place .answer ≡ answer OP place 0 0 0
       go good f (enters n e) = absurd (not-both (rw n) f)
       go good f (withdraws n e) = absurd (not-both (rw n) f)
       go good f (carries n e) = absurd (not-both (rw n) f)
@@ -185,10 +178,10 @@ module _ (z : Store) (list : List Step) (place : ℕ) where
           ap (λ (w : Outcome). w .store) e ∙ ap (λ (w : Outcome). w .store) (r (omega (arith, same-number e)))
 
       go : RunWay → 2 ≤ number → runOutcome z list place .store ≡ z
-      go (enters n e) = leaves e (enter-refused z (at-place .x) (at-place .y))
-      go (withdraws n e) = leaves e (withdraw-refused z (at-place .x))
-      go (carries n e) = leaves e (carry-refused z (at-place .x) (at-place .y))
-      go (starts n e) = leaves e (start-refused z (at-place .x))
-      go (steps n e) = leaves e (step-refused z (at-place .x))
-      go (cancels n e) = leaves e (cancel-refused z (at-place .x))
+      go (enters n e) = leaves e (enter-refused z (recordAt list place .x) (recordAt list place .y))
+      go (withdraws n e) = leaves e (withdraw-refused z (recordAt list place .x))
+      go (carries n e) = leaves e (carry-refused z (recordAt list place .x) (recordAt list place .y))
+      go (starts n e) = leaves e (start-refused z (recordAt list place .x))
+      go (steps n e) = leaves e (step-refused z (recordAt list place .x))
+      go (cancels n e) = leaves e (cancel-refused z (recordAt list place .x))
       go (unknown n e) = λ h. ap (λ (w : Outcome). w .store) e ∙ store-stays (λ p s. unknownStep place s) z refl

@@ -16,7 +16,7 @@ use Rattle.store.specs.StoreRules.{goodStore}
 use Rattle.wire.proofs.Buffers.{small-answer, small-buffer, done-answer}
 use Rattle.image.specs.Image.{image}
 use Rattle.image.specs.Promises.{saveAnswer, saveBuffer}
-use Rattle.refusals.proofs.OnStores.{Among}
+use Rattle.refusals.specs.Given.{Among}
 
 module _ (z : Store) (before : List ℕ) where
   -- The ways of saving.

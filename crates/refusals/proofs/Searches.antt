@@ -25,7 +25,8 @@ use Rattle.steps.proofs.WaysOut.RunningWay.{no-slot, slot-idle, slot-runs}
 use Rattle.steps.proofs.WaysOut.Visit.{finds, never, goes}
 use Rattle.steps.proofs.WaysOut.Freed.{freed}
 use Rattle.steps.proofs.Refusals.{slots-exactly, step-slot-exactly, step-idle-exactly, cancel-slot-exactly, cancel-idle-exactly}
-use Rattle.refusals.proofs.OnStores.{Among, StepRefuses, Refuses, on-badstore, on-exactly, on-among, on-refuses, of-badstore, of-among}
+use Rattle.refusals.specs.Given.{Among, StepRefuses, Refuses}
+use Rattle.refusals.proofs.OnStores.{on-badstore, on-exactly, on-among, on-refuses, of-badstore, of-among}
 
 -- ---- start
 
