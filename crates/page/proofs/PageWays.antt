@@ -22,7 +22,7 @@ use Rattle.store.specs.StoreRules.{goodStore}
 use Rattle.store.specs.Workers.{holding}
 use Rattle.wire.proofs.Buffers.{small-answer, small-buffer, done-answer, done-front, done-wrote, wrote-end}
 use Rattle.page.specs.Page.{lastSample, mostPageBytes, pageOf, begins}
-use Rattle.page.specs.Promises.{pageNow, pageAnswer, pageBuffer, Pages, fresh?, servedLength, ServesLength, Handed, served, Serves}
+use Rattle.page.specs.Promises.{pageNow, pageAnswer, pageBuffer, Pages, stillTrue, servedLength, ServesLength, Handed, served, Serves}
 use Rattle.page.proofs.PageLength.{page-length, page-some}
 use Rattle.page.proofs.PageWriting.{begins-long}
 use Rattle.page.proofs.Stale.{same-page, serves-notice}
@@ -91,46 +91,46 @@ module _ (z : Store) (sample : ℕ) (before : List ℕ) {r : Answer} where
 -- ---- served_length
 
 module _ (z : Store) (sample : ℕ) (kept : List ℕ) where
-  length-none : fresh? z sample kept ≡ false → servedLength z sample kept ≡ 0
+  length-none : stillTrue z sample kept ≡ false → servedLength z sample kept ≡ 0
   unfolding servedLength
   length-none f = rw f
 
-  length-page : fresh? z sample kept ≡ true → servedLength z sample kept ≡ length (pageNow z sample)
+  length-page : stillTrue z sample kept ≡ true → servedLength z sample kept ≡ length (pageNow z sample)
   unfolding servedLength
   length-page f = rw f
 
   pub length-bad-store : goodStore z ≡ false → ServesLength z sample kept 0
-  unfolding fresh?
+  unfolding stillTrue
   length-bad-store bad = sym (length-none (rw bad))
 
   module _ (good : goodStore z ≡ true) where
     pub length-bad-sample : lastSample < sample → ServesLength z sample kept 0
-    unfolding fresh?
+    unfolding stillTrue
     length-bad-sample large = sym (length-none (rw (good, lt-leb sample lastSample large)))
 
     module _ (small : sample ≤ lastSample) {n : ℕ} {scratch : List ℕ} (h : Holds (pageNow z sample) n scratch) where
       pub length-stale : begins kept (take n scratch) ≡ false → ServesLength z sample kept 0
-      unfolding fresh?
+      unfolding stillTrue
       length-stale f = sym (length-none (rw (good, le-leb sample lastSample small, ← h .begin) f))
 
       pub length-fresh : begins kept (take n scratch) ≡ true → ServesLength z sample kept n
-      unfolding fresh?
+      unfolding stillTrue
       length-fresh t = h .long ∙ sym (length-page (rw (good, le-leb sample lastSample small, ← h .begin) t))
 
 -- ---- serve
 
 module _ (z : Store) (sample : ℕ) (kept notice : RefT (List ℕ)) {n : ℕ} (told : ServesLength z sample (kept .now) n) where
-  none-stale : n ≡ 0 → fresh? z sample (kept .now) ≡ false
+  none-stale : n ≡ 0 → stillTrue z sample (kept .now) ≡ false
   none-stale e =
       ⊎-elim
-      (λ (f : fresh? z sample (kept .now) ≡ true). absurd (omega (arith, e, told, length-page z sample (kept .now) f, page-some (planOf (z .plan)) (stateOf z) sample)))
-      (λ (f : fresh? z sample (kept .now) ≡ false). f) (bool? (fresh? z sample (kept .now)))
+      (λ (f : stillTrue z sample (kept .now) ≡ true). absurd (omega (arith, e, told, length-page z sample (kept .now) f, page-some (planOf (z .plan)) (stateOf z) sample)))
+      (λ (f : stillTrue z sample (kept .now) ≡ false). f) (bool? (stillTrue z sample (kept .now)))
 
-  some-fresh : 0 < n → fresh? z sample (kept .now) ≡ true
-  some-fresh g =
-      ⊎-elim (λ (f : fresh? z sample (kept .now) ≡ true). f)
-      (λ (f : fresh? z sample (kept .now) ≡ false). absurd (omega (arith, g, told, length-none z sample (kept .now) f)))
-      (bool? (fresh? z sample (kept .now)))
+  some-true : 0 < n → stillTrue z sample (kept .now) ≡ true
+  some-true g =
+      ⊎-elim (λ (f : stillTrue z sample (kept .now) ≡ true). f)
+      (λ (f : stillTrue z sample (kept .now) ≡ false). absurd (omega (arith, g, told, length-none z sample (kept .now) f)))
+      (bool? (stillTrue z sample (kept .now)))
 
   pub serve-notice : n ≡ 0 → Serves z sample kept notice notice
   serve-notice none =
@@ -138,12 +138,12 @@ module _ (z : Store) (sample : ℕ) (kept notice : RefT (List ℕ)) {n : ℕ} (t
       (sym (ap (λ (h : Handed). h .0) e), sym (ap (λ (h : Handed). h .1) e))
 
   pub serve-fits : 0 < n → n ≤ length (kept .now)
-  unfolding fresh?
+  unfolding stillTrue
   serve-fits g =
-      let f = some-fresh g in
+      let f = some-true g in
       let b = and-right (goodStore z && leb sample lastSample) (begins (kept .now) (pageNow z sample)) f in
       omega (arith, told, length-page z sample (kept .now) f, begins-long (kept .now) (pageNow z sample) b)
 
   pub serve-kept : 0 < n → (kept .ptr ≡ served z sample kept notice .0) × (take n (kept .now) ≡ served z sample kept notice .1)
   unfolding served
-  serve-kept g = let f = some-fresh g in (rw f, rw (f, ← length-page z sample (kept .now) f, ← told))
+  serve-kept g = let f = some-true g in (rw f, rw (f, ← length-page z sample (kept .now) f, ← told))

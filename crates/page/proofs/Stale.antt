@@ -20,7 +20,7 @@ use Rattle.store.specs.Copies.{WITHDRAWN, RESULT}
 use Rattle.store.specs.State.{State, current}
 use Rattle.store.specs.StoreRules.{goodStore}
 use Rattle.page.specs.Page.{analytes, lastSample, keyFor, Line, linesFrom, pageBytes, pageOf, begins}
-use Rattle.page.specs.Promises.{pageNow, fresh?, served}
+use Rattle.page.specs.Promises.{pageNow, stillTrue, served}
 use Rattle.page.proofs.PageBytes.{begins-rest}
 use Rattle.page.proofs.PageLines.{lineOf, Bounded, same-lines, same-line}
 
@@ -83,9 +83,9 @@ module _ (p : Plan) (s t : State) (same : (k : ℕ) → current p t k ≡ curren
   same-page = ap (pageBytes sample) (same-lines-from 0 analytes)
 
 -- What serve hands back is the sample's page as the store is now, in the kept page's own bytes, or the whole notice.
-pub serves-kept : (z : Store) (sample : ℕ) (kept notice : RefT (List ℕ)) → fresh? z sample (kept .now) ≡ true
+pub serves-kept : (z : Store) (sample : ℕ) (kept notice : RefT (List ℕ)) → stillTrue z sample (kept .now) ≡ true
     → served z sample kept notice ≡ (kept .ptr, pageNow z sample)
-unfolding served fresh?
+unfolding served stillTrue
 serves-kept z sample kept notice t =
     let b : begins (kept .now) (pageNow z sample) ≡ true =
     and-right (goodStore z && leb sample lastSample) (begins (kept .now) (pageNow z sample)) t
@@ -95,7 +95,7 @@ serves-kept z sample kept notice t =
     (ap (λ (l : List ℕ). (kept .ptr, l))
     (ap (λ (l : List ℕ). take (length (pageNow z sample)) l) (w .1) ∙ take-append-seam (pageNow z sample) (w .0)))
 
-pub serves-notice : (z : Store) (sample : ℕ) (kept notice : RefT (List ℕ)) → fresh? z sample (kept .now) ≡ false
+pub serves-notice : (z : Store) (sample : ℕ) (kept notice : RefT (List ℕ)) → stillTrue z sample (kept .now) ≡ false
     → served z sample kept notice ≡ (notice .ptr, notice .now)
 unfolding served
 serves-notice z sample kept notice f = rw f

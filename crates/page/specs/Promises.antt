@@ -32,12 +32,12 @@ abbrev pub Pages : Store → ℕ → List ℕ → Answer → List ℕ → Type 0
 Pages store sample before r after = (r ≡ pageAnswer store sample before) × (after ≡ pageBuffer store sample before)
 
 -- "If the kept bytes begin with the sample's page as it is now": of a good store and a sample that is not too large.
-unfoldable pub fresh? : Store → ℕ → List ℕ → Bool
-fresh? z sample kept = goodStore z && leb sample lastSample && begins kept (pageNow z sample)
+unfoldable pub stillTrue : Store → ℕ → List ℕ → Bool
+stillTrue z sample kept = goodStore z && leb sample lastSample && begins kept (pageNow z sample)
 
 -- How many of the kept bytes may be shown: the length of the page that they begin with, or none. No page is empty.
 unfoldable pub servedLength : Store → ℕ → List ℕ → ℕ
-servedLength z sample kept = cond (fresh? z sample kept) (length (pageNow z sample)) 0
+servedLength z sample kept = cond (stillTrue z sample kept) (length (pageNow z sample)) 0
 
 abbrev pub ServesLength : Store → ℕ → List ℕ → ℕ → Type 0
 ServesLength store sample kept r = r ≡ servedLength store sample kept
@@ -53,7 +53,7 @@ handed false kept notice = notice
 -- "exactly that beginning is returned; otherwise, and for a bad store or sample, the whole notice"
 unfoldable pub served : Store → ℕ → RefT (List ℕ) → RefT (List ℕ) → Handed
 served z sample kept notice =
-    handed (fresh? z sample (kept .now)) (kept .ptr, take (length (pageNow z sample)) (kept .now)) (notice .ptr, notice .now)
+    handed (stillTrue z sample (kept .now)) (kept .ptr, take (length (pageNow z sample)) (kept .now)) (notice .ptr, notice .now)
 
 -- Of what is handed back, its pointer and its bytes.
 abbrev pub Serves : Store → ℕ → RefT (List ℕ) → RefT (List ℕ) → RefT (List ℕ) → Type 0

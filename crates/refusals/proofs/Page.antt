@@ -22,7 +22,7 @@ use Rattle.store.specs.Layout.{stateOf}
 use Rattle.store.specs.StoreRules.{goodStore}
 use Rattle.wire.proofs.Buffers.{small-answer, small-buffer, done-answer}
 use Rattle.page.specs.Page.{lastSample, linesOf, linesBytes, pageBytes, begins}
-use Rattle.page.specs.Promises.{pageNow, pageAnswer, pageBuffer, fresh?, servedLength, served}
+use Rattle.page.specs.Promises.{pageNow, pageAnswer, pageBuffer, stillTrue, servedLength, served}
 use Rattle.page.proofs.PageBytes.{begins-rest, rest-begins}
 use Rattle.page.proofs.Stale.{serves-kept, serves-notice}
 use Rattle.refusals.specs.Given.{Among, StillTrue}
@@ -125,9 +125,9 @@ module _ (z : Store) (sample : ℕ) (before : List ℕ) where
 -- ---- serve
 
 module _ (z : Store) (sample : ℕ) where
-  pub fresh-exactly : (kept : List ℕ) → (fresh? z sample kept ≡ true) ↔ StillTrue z sample kept
-  unfolding fresh?
-  fresh-exactly kept = (there, back)
+  pub true-exactly : (kept : List ℕ) → (stillTrue z sample kept ≡ true) ↔ StillTrue z sample kept
+  unfolding stillTrue
+  true-exactly kept = (there, back)
     where
       there : goodStore z && leb sample lastSample && begins kept (pageNow z sample) ≡ true → StillTrue z sample kept
       there t =
@@ -146,15 +146,15 @@ module _ (z : Store) (sample : ℕ) where
           (ap (λ (l : List ℕ). begins l (pageNow z sample)) (h .begin) ∙ rest-begins (pageNow z sample) (h .rest))
 
   -- "otherwise, and for a bad store or sample"
-  pub stale-exactly : (kept : List ℕ) → (fresh? z sample kept ≡ false) ↔ (StillTrue z sample kept → ⊥)
+  pub stale-exactly : (kept : List ℕ) → (stillTrue z sample kept ≡ false) ↔ (StillTrue z sample kept → ⊥)
   stale-exactly kept = (
-    λ f h. not-both (fresh-exactly kept .1 h) f,
-    λ no. refuted (fresh? z sample kept) (λ t. no (fresh-exactly kept .0 t)),
+    λ f h. not-both (true-exactly kept .1 h) f,
+    λ no. refuted (stillTrue z sample kept) (λ t. no (true-exactly kept .0 t)),
   )
 
   -- "exactly that beginning is returned"
   pub serve-kept : (kept notice : RefT (List ℕ)) → StillTrue z sample (kept .now) → served z sample kept notice ≡ (kept .ptr, pageNow z sample)
-  serve-kept kept notice h = serves-kept z sample kept notice (fresh-exactly (kept .now) .1 h)
+  serve-kept kept notice h = serves-kept z sample kept notice (true-exactly (kept .now) .1 h)
 
   -- "otherwise .. the whole notice"
   pub serve-notice : (kept notice : RefT (List ℕ)) → (StillTrue z sample (kept .now) → ⊥) → served z sample kept notice ≡ (notice .ptr, notice .now)
@@ -170,11 +170,11 @@ module _ (z : Store) (sample : ℕ) where
   -- so the length 0 says exactly that the notice is due.
   pub serve-length-0 : (kept : List ℕ) → (servedLength z sample kept ≡ 0) ↔ (StillTrue z sample kept → ⊥)
   unfolding servedLength
-  serve-length-0 kept = go (bool? (fresh? z sample kept))
+  serve-length-0 kept = go (bool? (stillTrue z sample kept))
     where
-      go : (fresh? z sample kept ≡ true) ⊎ (fresh? z sample kept ≡ false) → (servedLength z sample kept ≡ 0) ↔ (StillTrue z sample kept → ⊥)
+      go : (stillTrue z sample kept ≡ true) ⊎ (stillTrue z sample kept ≡ false) → (servedLength z sample kept ≡ 0) ↔ (StillTrue z sample kept → ⊥)
       go (inl t) = (
         λ e. absurd (let n : length (pageNow z sample) ≡ 0 = rw t at e in omega (arith, some-bytes)),
-        λ no. absurd (no (fresh-exactly kept .0 t)),
+        λ no. absurd (no (true-exactly kept .0 t)),
       )
       go (inr f) = (λ e. stale-exactly kept .0 f, λ no. rw f)

@@ -23,7 +23,7 @@ use Rattle.store.specs.Layout.{stateOf}
 use Rattle.store.specs.StoreRules.{goodStore}
 use Rattle.store.proofs.Lifting.{plan-good, state-good}
 use Rattle.page.specs.Page.{analytes, lastSample, keyFor, pageOf, begins}
-use Rattle.page.specs.Promises.{pageNow, fresh?, served}
+use Rattle.page.specs.Promises.{pageNow, stillTrue, served}
 use Rattle.page.proofs.PageBytes.{rest-begins}
 use Rattle.page.proofs.PageLines.{Bounded}
 use Rattle.page.proofs.Stale.{stale-by-result, stale-by-withdrawal, same-page, serves-kept, serves-notice}
@@ -82,7 +82,7 @@ module _ (z : Store) (good : goodStore z ≡ true) (cs : List Call) (stays : sam
   -- While nothing was entered, whatever was carried and searched, the kept page is served.
   pub served-while-true : history cs z [] ≡ [] → (kept notice : RefT (List ℕ)) → KeptFrom z sample kept
       → ServesPage z (storeAfterAll cs z) sample kept notice
-  unfolding fresh?
+  unfolding stillTrue
   served-while-true none-entered kept notice begun =
       let same : pageNow y sample ≡ pageNow z sample =
       page-then ∙ same-page p s t (currents-stay p rules (eventsOf cs) s (state-good z good) (sym entered-since ∙ none-entered)) sample in
@@ -93,7 +93,7 @@ module _ (z : Store) (good : goodStore z ≡ true) (cs : List Call) (stays : sam
   -- Kept bytes that do not begin with the page as it is now are not served.
   not-served : (kept notice : RefT (List ℕ)) (rest : List ℕ) → kept .now ≡ pageNow z sample ++ rest
       → begins (pageOf p s sample ++ rest) (pageOf p t sample) ≡ false → served y sample kept notice ≡ (notice .ptr, notice .now)
-  unfolding fresh?
+  unfolding stillTrue
   not-served kept notice rest e b =
       let c : begins (kept .now) (pageNow y sample) ≡ false = rw (e, page-then) b in
       serves-notice y sample kept notice (rw (c, and-false (goodStore y && leb sample lastSample)))

@@ -7,6 +7,7 @@ use Rattle.plan.specs.PlanTable.{planOf}
 use Rattle.store.specs.declared.Store.{Store}
 use Rattle.store.specs.Answers.{DONE, answer}
 use Rattle.store.specs.Copies.{keyOf}
+use Rattle.store.specs.State.{lastClock}
 use Rattle.store.specs.Layout.{countOf, nodeOf}
 use Rattle.steps.specs.Carries.{countHeld}
 use Rattle.story.specs.PublicCalls.{Call, storeAfter, answerTo}
@@ -36,4 +37,4 @@ pub record CarryCounts (c : Call) (n i : ℕ) (z : Store) : Type 0 where
 
 -- The clock goes from 1 to 4294967295, and each accepted entry takes one of its values below the last.
 abbrev pub mostEntries : ℕ
-mostEntries = 4294967294
+mostEntries = lastClock - 1
