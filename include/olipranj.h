@@ -1,6 +1,8 @@
-/* Olipranj's C interface: the functions of the crate `export`, in target/staticlib/libexport.a. Each keeps a promise of
-   crates/export/specs/Promises.antt. No function asks anything of the store's numbers: a store that breaks a store rule is answered
-   BADSTORE. Pointers must be valid and aligned, and must not overlap; a buffer's pointer must not be NULL, not even for length 0. */
+/* Olipranj's C interface: the functions of the crate `export`, in target/staticlib/libexport.a. Each keeps the
+   promise that docs/PROMISES.md names. No function asks anything of the store's numbers: a store that breaks a store rule is answered
+   BADSTORE (by olipranj_serve 0); olipranj_fresh and olipranj_load do not look at what stood there. Pointers must be valid and aligned, and
+   must not overlap; a buffer's pointer must not be NULL, not even for length 0. Calls on one store must not run at the same time: each call
+   is one indivisible step, and the caller keeps them apart. */
 #ifndef OLIPRANJ_H
 #define OLIPRANJ_H
 

@@ -11,10 +11,11 @@ use Rattle.carries.specs.Decisions.{Within}
 abbrev pub gather : List ℕ → List ℕ → List ℕ
 gather column list = map (numberIn column) list
 
--- No place of the list lies beyond its goal, or none before it: the goals are the places from start on.
+-- No place of the list lies beyond its goal: the goals are the places from start on.
 abbrev pub Under : ℕ → List ℕ → Type 0
 Under start list = (i : ℕ) → i < length list → numberIn list i ≤ start + i
 
+-- No place of the list lies before its goal.
 abbrev pub Over : ℕ → List ℕ → Type 0
 Over start list = (i : ℕ) → i < length list → start + i ≤ numberIn list i
 

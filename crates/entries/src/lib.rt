@@ -29,7 +29,8 @@ fn put(column: &mut [u32; Store::PLACES], decision: Decision, number: u32)
     }
 }
 
-// An entry: decided first; then the columns are written where they lie, one by one. A refusal writes back what was there.
+// An entry: decided first; then the columns are written where they lie, one by one. A refusal writes no place, and the
+// count and the clock as they were.
 fn entry(mut store: Store, kind: u32, key: u32, value: u32) -> Outcome
     ensures { λ r. ⌜ r ≡ onStore (entryStep kind key value) store ⌝ }
 {

@@ -97,7 +97,7 @@ fn entered() {
     );
 }
 
-// Withdraw: the same answers.
+// Withdraw: DONE twice, BADSTORE, CLOCK, FULL, DONE in a full root that has the key.
 fn withdrawn() {
     let first = entries::withdraw(fresh(1), 33);
     print(3, first.answer);

@@ -17,6 +17,7 @@ use Rattle.store.proofs.Slot.Laws as Q′
 use Rattle.store.proofs.Store as S
 use Rattle.store.proofs.Store.Laws as S′
 
+-- A store, as the machine holds it.
 abbrev pub store-val : Store → Val
 store-val s = LL.tuple-val S.the-type S′.the-laws (S.the-type .to s)
 
@@ -24,16 +25,20 @@ store-val s = LL.tuple-val S.the-type S′.the-laws (S.the-type .to s)
 abbrev pub slots-val : Store → Val
 slots-val s = arrayVal (map (Q′.the-field-laws .val) (map (Q.the-type .to) (s .slots)))
 
+-- An answer,
 abbrev pub answer-val : Answer → Val
 answer-val a = LL.tuple-val R.the-type R′.the-laws (R.the-type .to a)
 
+-- and an outcome.
 abbrev pub outcome-val : Outcome → Val
 outcome-val o = LL.tuple-val O.the-type O′.the-laws (O.the-type .to o)
 
+-- The first of some values.
 hd : List Val → Val
 hd [] = vunit
 hd (v ∷ vs) = v
 
+-- A value that is an outcome's is spelled so.
 pub spelled : (o : Outcome) (u : Val) → Is O.the-row o (u ∷ []) → u ≡ outcome-val o
 unfolding hd
 spelled o u is = ap hd (LL.tells O.the-type O′.the-laws o (u ∷ []) is)

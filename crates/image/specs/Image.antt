@@ -21,9 +21,11 @@ formatNumber = 1
 unfoldable pub valueBytes : ℕ → ℕ → List ℕ
 valueBytes kind value = cond (eqb kind RESULT) (form value) []
 
+-- A copy: "key, kind, value (only for kind 1), stamp".
 unfoldable pub copyBytes : Copy → List ℕ
 copyBytes x = form (x .key) ++ (form (x .kind) ++ (valueBytes (x .kind) (x .value) ++ form (x .stamp)))
 
+-- Copies one after another.
 unfoldable pub copiesBytes : List Copy → List ℕ
 copiesBytes [] = []
 copiesBytes (x ∷ xs) = copyBytes x ++ copiesBytes xs
@@ -32,6 +34,7 @@ copiesBytes (x ∷ xs) = copyBytes x ++ copiesBytes xs
 unfoldable pub nodeBytes : List Copy → List ℕ
 nodeBytes xs = form (length xs) ++ copiesBytes xs
 
+-- Nodes one after another.
 unfoldable pub nodesBytes : List (List Copy) → List ℕ
 nodesBytes [] = []
 nodesBytes (xs ∷ ns) = nodeBytes xs ++ nodesBytes ns

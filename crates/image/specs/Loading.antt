@@ -37,6 +37,7 @@ copyAt s at =
     bind (numberAt s c) λ stamp d.
     got (copy key kind value stamp) d)
 
+-- So many copies one after another.
 unfoldable pub copiesAt : List ℕ → ℕ → ℕ → Got (List Copy)
 copiesAt s zero at = got [] at
 copiesAt s (suc n) at =
@@ -48,6 +49,7 @@ copiesAt s (suc n) at =
 unfoldable pub nodeAt : List ℕ → ℕ → ℕ → Got (List Copy)
 nodeAt s capacity at = bind (numberAt s at) λ count a. checked (ltb count (suc capacity)) RULE at (copiesAt s count a)
 
+-- The nodes of a plan one after another.
 unfoldable pub nodesAt : List ℕ → Plan → ℕ → Got (List (List Copy))
 nodesAt s [] at = got [] at
 nodesAt s (n ∷ ns) at =

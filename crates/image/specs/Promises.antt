@@ -24,5 +24,6 @@ saveBuffer z before = cond (goodStore z) (writtenBuffer (image z) before) before
 abbrev pub Saves : Store → List ℕ → Answer → List ℕ → Type 0
 Saves store before r after = (r ≡ saveAnswer store before) × (after ≡ saveBuffer store before)
 
+-- The outcome of a load: it is given no store.
 abbrev pub Loads : List ℕ → Outcome → Type 0
 Loads bytes r = r ≡ loadOutcome bytes

@@ -38,6 +38,7 @@ pub record Columns : Type 0 where
   pub values : List ℕ
   pub stamps : List ℕ
 
+-- Four columns together.
 abbrev pub columns : List ℕ → List ℕ → List ℕ → List ℕ → Columns
 columns keys kinds values stamps = record { keys = keys; kinds = kinds; values = values; stamps = stamps }
 
@@ -51,12 +52,13 @@ laid c from xs =
       stamps = sets (c .stamps) from (map (λ (x : Copy). x .stamp) xs);
     }
 
--- The columns of a store whose nodes hold these lists, and its counts.
+-- The columns of a store whose nodes hold these lists.
 abbrev pub columnsOf : List (List Copy) → Columns
 columnsOf ns =
     columns (column (λ (x : Copy). x .key) ns) (column (λ (x : Copy). x .kind) ns) (column (λ (x : Copy). x .value) ns)
     (column (λ (x : Copy). x .stamp) ns)
 
+-- The counts of such a store.
 abbrev pub countsOf : List (List Copy) → List ℕ
 countsOf ns = run 0 mostNodes (λ n. length (getD ns n []))
 
@@ -84,10 +86,11 @@ pub record ReadsHead (s : List ℕ) (r : Head) : Type 0 where
   pub goes : r .ok ≡ true → (planNumberTest (r .plan) ≡ true) × (imageAt s ≡ nodesFrom s (r .plan) (r .clock) (r .at))
   pub stops : r .ok ≡ false → imageAt s ≡ fault (r .fault) (r .at)
 
--- The store of this plan, clock, counts, columns and slots; and with all slots idle.
+-- The store of this plan, clock, counts, columns and slots.
 abbrev pub storeIn : ℕ → ℕ → List ℕ → Columns → List Slot → Store
 storeIn plan clock counts c slots = ofParts plan clock counts (c .keys) (c .kinds) (c .values) (c .stamps) slots
 
+-- The same with all slots idle.
 abbrev pub idleStore : ℕ → ℕ → List ℕ → Columns → Store
 idleStore plan clock counts c = storeIn plan clock counts c (replicate slotCount idle)
 

@@ -24,6 +24,7 @@ fn value_length(kind: u32, value: u32) -> usize
     0
 }
 
+// How many bytes a copy takes.
 fn copy_length(key: u32, kind: u32, value: u32, stamp: u32) -> usize
     ensures { λ r. ⌜ r ≡ length (copyBytes (copy key kind value stamp)) ⌝ }
 {

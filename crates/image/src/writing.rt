@@ -26,6 +26,7 @@ fn write_value(buffer: &mut [u8], at: usize, kind: u32, value: u32) -> usize
     at
 }
 
+// Writes a copy: key, kind, value (only for a result), stamp.
 fn write_copy(buffer: &mut [u8], at: usize, key: u32, kind: u32, value: u32, stamp: u32) -> usize
     requires { ⌜ at + length (copyBytes (copy key kind value stamp)) ≤ length (now buffer) ⌝ }
     ensures { λ r. ⌜ Wrote (now (buffer .entry)) at (copyBytes (copy key kind value stamp)) r (now (buffer .exit)) ⌝ }

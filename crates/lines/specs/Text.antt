@@ -5,13 +5,15 @@ use Prim.Native.Nat.{ℕ, zero, suc, _+_, _-_, _*_, _/_, _%_}
 use lib.Dec.{ltb}
 use Rattle.store.specs.declared.Answer.{Answer}
 
--- The byte of a digit, the space and the line feed.
+-- The byte of a digit.
 abbrev pub digit : ℕ → ℕ
 digit v = 48 + v
 
+-- The byte of a space.
 abbrev pub SPACE : ℕ
 SPACE = 32
 
+-- The byte of a line feed.
 abbrev pub FEED : ℕ
 FEED = 10
 

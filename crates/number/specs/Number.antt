@@ -1,6 +1,6 @@
 -- Numbers as bytes. Document 01, "Bytes".
 -- A kind of number has at most `more` bytes with the top bit set and a last byte, which after `more` others is at most `last`:
--- (15, 4) is 32 bits in at most five bytes, and (1, 9) would be 64 bits in at most ten (Q-7).
+-- (15, 4) is 32 bits in at most five bytes, and (1, 9) would be 64 bits in at most ten.
 -- Assumes nothing.
 use mathlib.Core.Path.{_≡_}
 use mathlib.Core.Bool.{Bool, true, false, cond}

@@ -12,13 +12,15 @@ use Rattle.store.specs.declared.Copy.{Copy}
 use Rattle.store.specs.Copies.{RESULT}
 use Rattle.store.specs.State.{State, current}
 
--- "sample × 32 + analyte, analyte 0 to 31, sample 0 to 134,217,727"
+-- "analyte 0 to 31"
 abbrev pub analytes : ℕ
 analytes = 32
 
+-- "sample 0 to 134,217,727"
 abbrev pub lastSample : ℕ
 lastSample = 134217727
 
+-- "sample × 32 + analyte"
 abbrev pub keyFor : ℕ → ℕ → ℕ
 keyFor sample analyte = sample * analytes + analyte
 
@@ -42,9 +44,11 @@ linesFrom p s sample analyte (suc n) = shown analyte (current p s (keyFor sample
 abbrev pub linesOf : Plan → State → ℕ → List Line
 linesOf p s sample = linesFrom p s sample 0 analytes
 
+-- A line's bytes: analyte, value, stamp.
 unfoldable pub lineBytes : Line → List ℕ
 lineBytes l = form (l .analyte) ++ (form (l .value) ++ form (l .stamp))
 
+-- Lines one after another.
 unfoldable pub linesBytes : List Line → List ℕ
 linesBytes [] = []
 linesBytes (l ∷ ls) = lineBytes l ++ linesBytes ls

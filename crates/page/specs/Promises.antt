@@ -28,6 +28,7 @@ pageAnswer z sample before =
 unfoldable pub pageBuffer : Store → ℕ → List ℕ → List ℕ
 pageBuffer z sample before = cond (goodStore z && leb sample lastSample) (writtenBuffer (pageNow z sample) before) before
 
+-- Of a buffer at entry: the answer, and the buffer at exit.
 abbrev pub Pages : Store → ℕ → List ℕ → Answer → List ℕ → Type 0
 Pages store sample before r after = (r ≡ pageAnswer store sample before) × (after ≡ pageBuffer store sample before)
 
@@ -39,6 +40,7 @@ stillTrue z sample kept = goodStore z && leb sample lastSample && begins kept (p
 unfoldable pub servedLength : Store → ℕ → List ℕ → ℕ
 servedLength z sample kept = cond (stillTrue z sample kept) (length (pageNow z sample)) 0
 
+-- Of the kept bytes: how many of them may be shown.
 abbrev pub ServesLength : Store → ℕ → List ℕ → ℕ → Type 0
 ServesLength store sample kept r = r ≡ servedLength store sample kept
 
@@ -46,6 +48,7 @@ ServesLength store sample kept r = r ≡ servedLength store sample kept
 abbrev pub Handed : Type 0
 Handed = (ℕ × ℕ) × List ℕ
 
+-- The kept bytes, or the notice.
 abbrev pub handed : Bool → Handed → Handed → Handed
 handed true kept notice = kept
 handed false kept notice = notice

@@ -51,6 +51,7 @@ CurrentAt plan counts keys sample at =
     → copyThere keys kinds values stamps (getD at a 0)
     ≡ current (planOf plan) (stateIn plan counts keys kinds values stamps) (keyFor sample a)
 
+-- A line of these numbers.
 abbrev pub line : ℕ → ℕ → ℕ → Line
 line analyte value stamp = record { analyte = analyte; value = value; stamp = stamp }
 

@@ -30,6 +30,7 @@ noNode = record { capacity = 0; edges = [] }
 abbrev pub size : Plan → ℕ
 size p = length p
 
+-- The capacity of a node.
 abbrev pub capacityOf : Plan → ℕ → ℕ
 capacityOf p n = getD p n noNode .capacity
 
@@ -64,6 +65,7 @@ walk p k (suc most) (To n) = n ∷ walk p k most (next p n k)
 unfoldable pub pathFrom : Plan → ℕ → ℕ → List ℕ
 pathFrom p k n = walk p k (size p) (To n)
 
+-- The key's path from the root.
 abbrev pub path : Plan → ℕ → List ℕ
 path p k = pathFrom p k 0
 

@@ -16,6 +16,7 @@ use Rattle.plan.specs.PlanTable.{planOf}
 abbrev pub Grid : Type 0
 Grid = List (List ℕ)
 
+-- The number for edge i of node n.
 abbrev pub cell : Grid → ℕ → ℕ → ℕ
 cell g n i = getD (getD g n []) i 0
 
@@ -35,13 +36,15 @@ edgeCountIn counts n = min (atNode counts n) mostEdges
 unfoldable pub edgesIn : List ℕ → Grid → Grid → Grid → ℕ → List Edge
 edgesIn counts lows highs targets n = run 0 (edgeCountIn counts n) (edgeIn lows highs targets n)
 
--- The arrays of a plan: 0 where it has no node or no edge.
+-- The capacities of a plan, by node: 0 where it has no node.
 unfoldable pub capacitiesRow : Plan → List ℕ
 capacitiesRow p = run 0 mostNodes (capacityOf p)
 
+-- The numbers of its edges, by node.
 unfoldable pub countsRow : Plan → List ℕ
 countsRow p = run 0 mostNodes (λ n. length (edgesOf p n))
 
+-- A number of each of its edges: 0 where it has no edge.
 unfoldable pub gridOf : (Edge → ℕ) → Plan → Grid
 gridOf part p = run 0 mostNodes (λ n. run 0 mostEdges (λ i. part (edgeOf p n i)))
 

@@ -16,6 +16,7 @@ pub record IsEdge (p : Plan) (n i : ℕ) : Type 0 where
   pub node : n < size p
   pub edge : i < length (edgesOf p n)
 
+-- The plan rules.
 pub record PlanRules (p : Plan) : Type 0 where
   -- "2 to 8 nodes"
   pub two-to-eight-nodes : (2 ≤ size p) × (size p ≤ mostNodes)
@@ -34,10 +35,11 @@ pub record PlanRules (p : Plan) : Type 0 where
   -- "the root's edges cover every key"
   pub root-covers-every-key : (k : ℕ) → k ≤ lastKey → (i : ℕ) × (i < length (edgesOf p 0)) × (holds (edgeOf p 0 i) k ≡ true)
 
--- A test at every node, and at every edge.
+-- A test at every node.
 abbrev pub atNodes : Plan → (ℕ → Bool) → Bool
 atNodes p f = allBelow (size p) f
 
+-- A test at every edge.
 abbrev pub atEdges : Plan → (ℕ → ℕ → Bool) → Bool
 atEdges p f = atNodes p (λ n. allBelow (length (edgesOf p n)) (f n))
 
@@ -50,25 +52,31 @@ abbrev pub goesOn : Hop → Bool
 goesOn (To t) = true
 goesOn Ends = false
 
--- Each rule as a test, in the same order.
+-- Each rule as a test, in the same order. The number of nodes.
 unfoldable pub nodesTest : Plan → Bool
 nodesTest p = leb 2 (size p) && leb (size p) mostNodes
 
+-- The nodes' capacities.
 unfoldable pub capacitiesTest : Plan → Bool
 capacitiesTest p = atNodes p (λ n. leb 1 (capacityOf p n) && leb (capacityOf p n) mostCapacity)
 
+-- The number of each node's edges.
 unfoldable pub edgeCountsTest : Plan → Bool
 edgeCountsTest p = atNodes p (λ n. leb (length (edgesOf p n)) mostEdges)
 
+-- The edges' highest keys are keys.
 unfoldable pub keysTest : Plan → Bool
 keysTest p = atEdges p (λ n i. leb (edgeOf p n i .highest) lastKey)
 
+-- No edge's lowest key is above its highest.
 unfoldable pub rangesTest : Plan → Bool
 rangesTest p = atEdges p (λ n i. leb (edgeOf p n i .lowest) (edgeOf p n i .highest))
 
+-- The ranges at one node share no key.
 unfoldable pub apartTest : Plan → Bool
 apartTest p = atEdges p (λ n j. allBelow j (λ i. apart (edgeOf p n i) (edgeOf p n j)))
 
+-- Each edge's target is a node with a larger number than its own.
 unfoldable pub targetsTest : Plan → Bool
 targetsTest p = atEdges p (λ n i. ltb n (edgeOf p n i .target) && ltb (edgeOf p n i .target) (size p))
 

@@ -6,16 +6,19 @@ use Rattle.plan.specs.declared.Edge.{Edge}
 use Rattle.plan.specs.Sizes.{lastKey}
 use Rattle.plan.specs.Plan.{Node, Plan}
 
--- Edges that hold all keys, the keys 0..2147483647, and the keys 2147483648..4294967295.
+-- An edge that holds all keys.
 abbrev pub allKeysTo : ℕ → Edge
 allKeysTo t = record { lowest = 0; highest = lastKey; target = t }
 
+-- An edge that holds the keys 0..2147483647.
 abbrev pub lowKeysTo : ℕ → Edge
 lowKeysTo t = record { lowest = 0; highest = 2147483647; target = t }
 
+-- An edge that holds the keys 2147483648..4294967295.
 abbrev pub highKeysTo : ℕ → Edge
 highKeysTo t = record { lowest = 2147483648; highest = lastKey; target = t }
 
+-- A node with this capacity and these edges.
 abbrev pub node : ℕ → List Edge → Node
 node c es = record { capacity = c; edges = es }
 
@@ -31,6 +34,7 @@ plan2 = node 8 (lowKeysTo 1 ∷ highKeysTo 2 ∷ []) ∷ node 32 [] ∷ node 32 
 abbrev pub plan3 : Plan
 plan3 = node 8 (lowKeysTo 1 ∷ highKeysTo 2 ∷ []) ∷ node 16 (allKeysTo 3 ∷ []) ∷ node 16 (allKeysTo 3 ∷ []) ∷ node 64 [] ∷ []
 
+-- The three plans.
 unfoldable pub planTable : List Plan
 planTable = plan1 ∷ plan2 ∷ plan3 ∷ []
 

@@ -110,6 +110,7 @@ pub fn capacities_of(plan: u32) -> [u32; MOST_NODES]
     }
 }
 
+// The plan's edge counts, by node.
 pub fn edge_counts_of(plan: u32) -> [u32; MOST_NODES]
     ensures { λ r. ⌜ r ≡ countsRow (planOf plan) ⌝ }
 {
@@ -121,6 +122,7 @@ pub fn edge_counts_of(plan: u32) -> [u32; MOST_NODES]
     }
 }
 
+// The edges' lowest keys, by node and then by edge.
 pub fn lowest_of(plan: u32) -> [[u32; MOST_EDGES]; MOST_NODES]
     ensures { λ r. ⌜ r ≡ gridOf (λ e. e .lowest) (planOf plan) ⌝ }
 {
@@ -132,6 +134,7 @@ pub fn lowest_of(plan: u32) -> [[u32; MOST_EDGES]; MOST_NODES]
     }
 }
 
+// Their highest keys, likewise.
 pub fn highest_of(plan: u32) -> [[u32; MOST_EDGES]; MOST_NODES]
     ensures { λ r. ⌜ r ≡ gridOf (λ e. e .highest) (planOf plan) ⌝ }
 {
@@ -143,6 +146,7 @@ pub fn highest_of(plan: u32) -> [[u32; MOST_EDGES]; MOST_NODES]
     }
 }
 
+// Their targets, likewise.
 pub fn targets_of(plan: u32) -> [[u32; MOST_EDGES]; MOST_NODES]
     ensures { λ r. ⌜ r ≡ gridOf (λ e. e .target) (planOf plan) ⌝ }
 {

@@ -21,7 +21,7 @@ use Rattle.wire.proofs.Chains.{got-or-fault, bind-got, bind-fault, check-holds,
 use Rattle.schedule.specs.declared.Step.{Step}
 use Rattle.schedule.specs.Schedule.{mostSteps, stepRecord, Schedule, knownStep, hasTwo, secondAt, stepAt, stepsAt, scheduleAt, decodeAnswer, decodeList}
 use Rattle.refusals.specs.Given.{Among}
-use Rattle.refusals.specs.Schedules.{scheduleFaults, GoodSteps, StepsStop, many, one, InStep, itsNumber, itsFirst, itsSecond, UnknownAt, BadPlan, ScheduleStop, no-number, bad-plan, in-steps, AfterMost, FirstUnknown, InSchedule, itsPlan, inStep}
+use Rattle.refusals.specs.Schedules.{scheduleFaults, GoodSteps, StepsStop, many, one, InStep, itsNumber, itsFirst, itsSecond, UnknownAt, BadSchedulePlan, ScheduleStop, no-number, bad-plan, in-steps, AfterMost, FirstUnknown, InSchedule, itsPlan, inStep}
 use Rattle.refusals.proofs.OnStores.{not-given}
 use Rattle.refusals.proofs.Fresh.{plan-test, plan-test-fails}
 use Rattle.refusals.proofs.Reading.{After, first-fault, same-fault, numberFaults, number-faults, number-fault-at, number-cut, number-malformed}
@@ -284,13 +284,13 @@ module _ (s : List ℕ) (before : List Step) where
       )
 
   -- "plan not 1 to 3"
-  pub decode-plan : (at : ℕ) → (decodeAnswer s before ≡ answer PLAN at 0 0 0) ↔ ((mostSteps ≤ length before) × BadPlan s at)
+  pub decode-plan : (at : ℕ) → (decodeAnswer s before ≡ answer PLAN at 0 0 0) ↔ ((mostSteps ≤ length before) × BadSchedulePlan s at)
   unfolding member
   decode-plan at =
       let f = decode-fault PLAN at refl in
       (λ e. let w = f .0 e in (w .0, there (w .1)), λ h. f .1 (h .0, bad-plan (h .1) refl))
     where
-      there : ScheduleStop s PLAN at → BadPlan s at
+      there : ScheduleStop s PLAN at → BadSchedulePlan s at
       there (no-number e) = absurd (not-both (number-faults s 0 .each PLAN at e) refl)
       there (bad-plan b e) = b
       there (in-steps p (many gs l e)) = absurd (omega arith)

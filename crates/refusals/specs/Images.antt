@@ -51,7 +51,7 @@ pub record Passes (s : List ℕ) (own : Own) (at value next : ℕ) : Type 0 wher
   pub read : numberAt s at ≡ got value next
   pub passed : passes own value ≡ true
 
--- A number is read, and does not.
+-- A number is read, and fails its check.
 pub record Breaks (s : List ℕ) (own : Own) (at number : ℕ) : Type 0 where
   pub value : ℕ
   pub next : ℕ
@@ -82,6 +82,7 @@ pub data InNode (s : List ℕ) (capacity start : ℕ) : Own → ℕ → Type 0 w
   itsCount : InNode s capacity start (theCount capacity) start
   itsCopies : {count a at : ℕ} {own : Own} → Passes s (theCount capacity) start count a → InCopies s count a own at → InNode s capacity start own at
 
+-- The numbers of the nodes of a plan, one node after another.
 abbrev pub InNodes : List ℕ → Plan → ℕ → Own → ℕ → Type 0
 InNodes s [] start own at = ⊥
 InNodes s (n ∷ p) start own at =
@@ -96,7 +97,7 @@ pub data InImage (s : List ℕ) : Own → ℕ → Type 0 where
   itsNodes : {format a plan b clock c at : ℕ} {own : Own} → Passes s theFormat 0 format a → Passes s thePlan a plan b → Passes s theClock b clock c
       → InNodes s (planOf plan) c own at → InImage s own at
 
--- Reading stops at a number that stands at a place of this kind.
+-- Reading stops at one of the numbers that Place names: it is not read, or fails its check.
 pub record StopsAt (s : List ℕ) (Place : Own → ℕ → Type 0) (number at : ℕ) : Type 0 where
   pub own : Own
   pub place : Place own at

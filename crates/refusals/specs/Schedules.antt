@@ -46,8 +46,8 @@ pub record PlanRead (s : List ℕ) (from : ℕ) : Type 0 where
   pub read : numberAt s 0 ≡ got plan from
   pub one-to-three : OneToThree plan
 
--- PLAN: it is read, and is not.
-pub record BadPlan (s : List ℕ) (at : ℕ) : Type 0 where
+-- PLAN: the plan's number is read, and is not 1 to 3.
+pub record BadSchedulePlan (s : List ℕ) (at : ℕ) : Type 0 where
   pub first : at ≡ 0
   pub plan : ℕ
   pub next : ℕ
@@ -57,7 +57,7 @@ pub record BadPlan (s : List ℕ) (at : ℕ) : Type 0 where
 -- A schedule stops: its plan's number is not read, or is no plan's, or its steps stop.
 pub data ScheduleStop (s : List ℕ) (number at : ℕ) : Type 0 where
   no-number : numberAt s 0 ≡ fault number at → ScheduleStop s number at
-  bad-plan : BadPlan s at → number ≡ PLAN → ScheduleStop s number at
+  bad-plan : BadSchedulePlan s at → number ≡ PLAN → ScheduleStop s number at
   in-steps : {from : ℕ} → PlanRead s from → StepsStop s mostSteps from number at → ScheduleStop s number at
 
 -- MANY: "bytes after 256 steps".

@@ -13,5 +13,6 @@ use Rattle.schedule.specs.Running.{runOutcome}
 abbrev pub Decodes : List ℕ → List Step → Answer → List Step → Type 0
 Decodes bytes before r after = (r ≡ decodeAnswer bytes before) × (after ≡ decodeList bytes before)
 
+-- The outcome of the record at a place of a list.
 abbrev pub Runs : Store → List Step → ℕ → Outcome → Type 0
 Runs store steps place r = r ≡ runOutcome store steps place

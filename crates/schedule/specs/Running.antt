@@ -45,6 +45,7 @@ runOutcome z steps place = onStore (stepOf (getD steps place noStep) place) z
 abbrev pub Line : Type 0
 Line = List ℕ
 
+-- A first number, and an answer.
 abbrev pub line : ℕ → Answer → Line
 line first r = first ∷ r .number ∷ r .a ∷ r .b ∷ r .c ∷ r .d ∷ []
 

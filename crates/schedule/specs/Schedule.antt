@@ -11,21 +11,27 @@ use Rattle.store.specs.StoreRules.{planNumberTest}
 use Rattle.wire.specs.Reading.{Got, got, fault, bind, numberAt}
 use Rattle.schedule.specs.declared.Step.{Step}
 
+-- "1 key value (enter)"
 abbrev pub ENTER : ℕ
 ENTER = 1
 
+-- "2 key (withdraw)"
 abbrev pub WITHDRAW : ℕ
 WITHDRAW = 2
 
+-- "3 node edge (carry)"
 abbrev pub CARRY : ℕ
 CARRY = 3
 
+-- "4 key (start)"
 abbrev pub START : ℕ
 START = 4
 
+-- "5 slot (step)"
 abbrev pub STEP : ℕ
 STEP = 5
 
+-- "6 slot (cancel)"
 abbrev pub CANCEL : ℕ
 CANCEL = 6
 
@@ -73,6 +79,7 @@ pub record Schedule : Type 0 where
   pub plan : ℕ
   pub steps : List Step
 
+-- "Schedule: plan, then steps".
 unfoldable pub scheduleAt : List ℕ → Got Schedule
 scheduleAt s =
     bind (numberAt s 0) λ plan a.

@@ -1,4 +1,4 @@
-// Schedules: step records, their decoding and their running. Document 01, "Bytes" and "A schedule in full".
+// Schedules: step records and their decoding. What running one means is in specs/Running.antt.
 pub mod decoding; // decoding.rt: a schedule's bytes into a list of records by value
 
 // "step number and two more, 0 where unused"

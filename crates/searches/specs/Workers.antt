@@ -35,10 +35,11 @@ seenIn z k =
 abbrev pub movedBy : Effect → Moved
 movedBy e = record { answer = e .answer; slots = e .after .slots }
 
--- What was decided is done: one slot is written. A refusal writes the first as it was.
+-- What was decided is done: one slot is written.
 abbrev pub turned : List Slot → Turn → Moved
 turned slots t = record { answer = t .answer; slots = set slots (t .at) (t .slot) }
 
+-- A refusal writes the first slot as it was.
 abbrev pub stays : ℕ → List Slot → Turn
 stays number slots = record { answer = bare number; at = 0; slot = getD slots 0 idle }
 
@@ -59,20 +60,21 @@ pub record Running (plan : ℕ) (counts keys : List ℕ) (slots : List Slot) (i 
   pub runs : getD slots i idle .running ≢ 0
   pub stands : Stands plan (getD slots i idle)
 
--- What start and cancel decide, whatever else a state holds,
+-- What a start decides, whatever else a state holds.
 abbrev pub StartsIn : List Slot → ℕ → Turn → Type 0
 StartsIn slots key r =
     (r .at < slotCount)
     × ((p : Plan) (clock : ℕ) (nodes : List (List Copy))
     → turned slots r ≡ movedBy (startStep key p (record { clock = clock; nodes = nodes; slots = slots })))
 
+-- What a cancel decides, likewise.
 abbrev pub CancelsIn : List Slot → ℕ → Turn → Type 0
 CancelsIn slots slot r =
     (r .at < slotCount)
     × ((p : Plan) (clock : ℕ) (nodes : List (List Copy))
     → turned slots r ≡ movedBy (cancelStep slot p (record { clock = clock; nodes = nodes; slots = slots })))
 
--- and a step, whatever the clock.
+-- What a step decides, whatever the clock.
 abbrev pub StepsIn : ℕ → List ℕ → List ℕ → List ℕ → List ℕ → List ℕ → List Slot → ℕ → Turn → Type 0
 StepsIn plan counts keys kinds values stamps slots slot r =
     (r .at < slotCount)

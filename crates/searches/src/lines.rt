@@ -85,7 +85,7 @@ pub fn never(visits: u32) -> Answer
 }
 
 // The answer of a look.
-pub fn looked<'a>(
+fn looked<'a>(
     plan: u32,
     counts: &'a [u32; Store::NODES],
     keys: &'a [u32; Store::PLACES],

@@ -45,6 +45,7 @@ countHeld key e (x ∷ xs) = bit (holds e (key x)) + countHeld key e xs
 unfoldable pub mergeAlong : Plan → ℕ → Edge → State → Merged Copy
 mergeAlong p n e s = merge keyOf (capacityOf p (e .target)) e (nodeAt s n) (nodeAt s (e .target))
 
+-- The state after a merge: what stays in node n, and what its target t then has.
 unfoldable pub carriedTo : ℕ → ℕ → Merged Copy → State → State
 carriedTo n t m s = record { clock = s .clock; nodes = set (set (s .nodes) n (m .stay)) t (m .target); slots = s .slots }
 

@@ -37,6 +37,7 @@ entry kind k v p s =
     (refused FULL s))
     (refused CLOCK s)
 
+-- Enter: an entry of a result.
 abbrev pub enterStep : ℕ → ℕ → Plan → State → Effect
 enterStep k v = entry RESULT k v
 

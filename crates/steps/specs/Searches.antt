@@ -21,6 +21,7 @@ use Rattle.steps.specs.Entries.{refused}
 abbrev pub running : ℕ → ℕ → ℕ → Slot
 running k n visits = record { running = 1; key = k; node = n; visits = visits }
 
+-- The state with another slot i.
 abbrev pub withSlot : ℕ → Slot → State → State
 withSlot i q s = record { clock = s .clock; nodes = s .nodes; slots = set (s .slots) i q }
 

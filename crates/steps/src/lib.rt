@@ -1,1 +1,1 @@
-// The steps of the store.
+// What each step does to a state, and its laws: definitions and theorems, no code.

@@ -9,13 +9,15 @@ use Rattle.store.specs.declared.Copy.{Copy}
 use Rattle.store.specs.declared.Found.{Found}
 use Rattle.store.specs.declared.Found.the-variants.{Held, Nothing}
 
--- "A copy has a key, a kind (0 withdrawn, 1 result), a value .. and a stamp."
+-- The kind of a withdrawn copy.
 abbrev pub WITHDRAWN : ℕ
 WITHDRAWN = 0
 
+-- The kind of a result.
 abbrev pub RESULT : ℕ
 RESULT = 1
 
+-- "A copy has a key, a kind (0 withdrawn, 1 result), a value .. and a stamp."
 abbrev pub copy : ℕ → ℕ → ℕ → ℕ → Copy
 copy k kind v t = record { key = k; kind = kind; value = v; stamp = t }
 
@@ -23,6 +25,7 @@ copy k kind v t = record { key = k; kind = kind; value = v; stamp = t }
 abbrev pub noCopy : Copy
 noCopy = copy 0 0 0 0
 
+-- A copy's key.
 abbrev pub keyOf : Copy → ℕ
 keyOf x = x .key
 
@@ -31,6 +34,7 @@ unfoldable pub find : {A : Type 0} → (A → ℕ) → List A → ℕ → Option
 find key [] k = none
 find key (x ∷ xs) k = cond (eqb (key x) k) (some x) (find key xs k)
 
+-- There is one.
 abbrev pub isSome : {A : Type 0} → Option A → Bool
 isSome none = false
 isSome (some x) = true

@@ -13,10 +13,11 @@ use Rattle.store.specs.declared.Store.{Store}
 use Rattle.store.specs.Copies.{noCopy}
 use Rattle.store.specs.State.{State, slotCount, fresh}
 
--- 64 places to each node, 512 in all.
+-- 64 places to each node.
 abbrev pub width : ℕ
 width = mostCapacity
 
+-- 512 places in all.
 abbrev pub places : ℕ
 places = 512
 
@@ -28,12 +29,15 @@ copyIn keys kinds values stamps i = record { key = getD keys i 0; kind = getD ki
 unfoldable pub nodeIn : List ℕ → List ℕ → List ℕ → List ℕ → List ℕ → ℕ → List Copy
 nodeIn counts keys kinds values stamps n = run (width * n) (getD counts n 0) (copyIn keys kinds values stamps)
 
+-- The copy at a place of a store.
 abbrev pub copyOf : Store → ℕ → Copy
 copyOf z i = copyIn (z .keys) (z .kinds) (z .values) (z .stamps) i
 
+-- The count of a node.
 abbrev pub countOf : Store → ℕ → ℕ
 countOf z n = getD (z .counts) n 0
 
+-- The copies of a node.
 abbrev pub nodeOf : Store → ℕ → List Copy
 nodeOf z n = nodeIn (z .counts) (z .keys) (z .kinds) (z .values) (z .stamps) n
 

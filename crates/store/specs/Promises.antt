@@ -14,5 +14,6 @@ freshOutcome plan =
     (record { answer = bare DONE; store = freshStore plan })
     (record { answer = bare PLAN; store = freshStore 1 })
 
+-- The outcome of a fresh: it is given no store.
 abbrev pub Freshens : ℕ → Outcome → Type 0
 Freshens plan r = r ≡ freshOutcome plan

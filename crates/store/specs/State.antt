@@ -10,10 +10,11 @@ use Rattle.store.specs.declared.Copy.{Copy}
 use Rattle.store.specs.declared.Slot.{Slot}
 use Rattle.store.specs.Copies.{noCopy, keyOf, find}
 
--- "The clock's last value, the slot count": 4294967295 and 8.
+-- The clock's last value.
 abbrev pub lastClock : ℕ
 lastClock = 4294967295
 
+-- The slot count.
 abbrev pub slotCount : ℕ
 slotCount = 8
 
@@ -23,6 +24,7 @@ pub record State : Type 0 where
   pub nodes : List (List Copy)
   pub slots : List Slot
 
+-- The copies of a node.
 abbrev pub nodeAt : State → ℕ → List Copy
 nodeAt s n = getD (s .nodes) n []
 
@@ -34,6 +36,7 @@ copyAt s n i = getD (nodeAt s n) i noCopy
 abbrev pub idle : Slot
 idle = record { running = 0; key = 0; node = 0; visits = 0 }
 
+-- A slot by its number.
 abbrev pub slotAt : State → ℕ → Slot
 slotAt s i = getD (s .slots) i idle
 

@@ -21,6 +21,7 @@ pub record OnPath (p : Plan) (k n above : ℕ) : Type 0 where
   pub inside : above < length (path p k)
   pub here : getD (path p k) above 0 ≡ n
 
+-- The store rules that are about a state.
 pub record StateRules (p : Plan) (s : State) : Type 0 where
   -- each node of the plan has its list
   pub a-list-for-each-node : length (s .nodes) ≡ size p

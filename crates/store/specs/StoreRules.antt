@@ -18,6 +18,7 @@ use Rattle.store.specs.State.{State, lastClock, slotCount, idle, inReach
 use Rattle.store.specs.StateRules.{StateRules}
 use Rattle.store.specs.Layout.{width, places, copyOf, countOf, stateOf, Shape}
 
+-- The store rules.
 pub record StoreRules (z : Store) : Type 0 where
   -- what a store holds
   pub shape : Shape z
@@ -36,12 +37,15 @@ shapeTest z =
     eqb (length (z .counts)) mostNodes && eqb (length (z .keys)) places && eqb (length (z .kinds)) places
     && eqb (length (z .values)) places && eqb (length (z .stamps)) places && eqb (length (z .slots)) slotCount
 
+-- "plan 1 to 3"
 unfoldable pub planNumberTest : ℕ → Bool
 planNumberTest plan = leb 1 plan && leb plan plans
 
+-- "clock 1 to 4294967295"
 unfoldable pub clockTest : ℕ → Bool
 clockTest clock = leb 1 clock && leb clock lastClock
 
+-- Kind 1, or kind 0 and value 0.
 unfoldable pub kindTest : Copy → Bool
 kindTest x = eqb (x .kind) RESULT || (eqb (x .kind) WITHDRAWN && eqb (x .value) 0)
 
@@ -84,6 +88,7 @@ standsAt n [] above = false
 standsAt n (m ∷ ms) zero = eqb n m
 standsAt n (m ∷ ms) (suc above) = standsAt n ms above
 
+-- An idle slot all zero, or a search at the node of its key's path that its visits say.
 unfoldable pub slotTest : Plan → Slot → Bool
 slotTest p q =
     cond (eqb (q .running) 0)

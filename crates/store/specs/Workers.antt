@@ -42,6 +42,7 @@ pub record Ordered (counts keys : List ℕ) (n : ℕ) : Type 0 where
   pub fits : getD counts n 0 ≤ width
   pub rises : RisesIn keys (width * n) (width * n + getD counts n 0)
 
+-- All nodes are such.
 abbrev pub AllOrdered : List ℕ → List ℕ → Type 0
 AllOrdered counts keys = (n : ℕ) → n < mostNodes → Ordered counts keys n
 

@@ -16,11 +16,11 @@ use Rattle.story.specs.PublicCalls.{Call, storeAfter, answerTo}
 abbrev pub targetOf : Store → ℕ → ℕ → ℕ
 targetOf z n i = edgeOf (planOf (z .plan)) n i .target
 
--- By how much a node's count falls in a call,
+-- By how much a node's count falls in a call.
 abbrev pub fall : Store → Call → ℕ → ℕ
 fall z c n = countOf z n - countOf (storeAfter c z) n
 
--- and by how much it rises.
+-- By how much a node's count rises in a call.
 abbrev pub rise : Store → Call → ℕ → ℕ
 rise z c n = countOf (storeAfter c z) n - countOf z n
 

@@ -34,15 +34,15 @@ reachStamp z n k = stampOf (ContentsInReach (planOf (z .plan)) (stateOf z) n k)
 abbrev pub AllIdle : Store → Type 0
 AllIdle z = z .slots ≡ replicate slotCount idle
 
--- The store at the search's start,
+-- The store at the search's start.
 abbrev pub atStart : Store → List Call → Store
 atStart z before = storeAfterAll before z
 
--- after it,
+-- The store after the call that started the search.
 abbrev pub started : Store → List Call → Call → Store
 started z before c = storeAfter c (atStart z before)
 
--- and at its last step.
+-- The store at the search's last step.
 abbrev pub atEnd : Store → List Call → Call → List Call → Store
 atEnd z before c between = storeAfterAll between (started z before c)
 

@@ -28,6 +28,7 @@ pub data Event : Type 0 where
   cancels : ℕ → Event
   asks : Event
 
+-- What an event does to a state, and what it answers.
 unfoldable pub effect : Plan → Event → State → Effect
 effect p (enters k v) s = enterStep k v p s
 effect p (withdraws k) s = withdrawStep k p s
@@ -37,9 +38,11 @@ effect p (steps i) s = stepStep i p s
 effect p (cancels i) s = cancelStep i p s
 effect p asks s = record { answer = bare DONE; after = s }
 
+-- The state after an event.
 abbrev pub after : Plan → Event → State → State
 after p e s = effect p e s .after
 
+-- The answer to an event.
 abbrev pub answerOf : Plan → Event → State → Answer
 answerOf p e s = effect p e s .answer
 
@@ -58,6 +61,7 @@ entryOf p (steps i) s = none
 entryOf p (cancels i) s = none
 entryOf p asks s = none
 
+-- A copy as a list of one, or none.
 abbrev pub optionList : Option Copy → List Copy
 optionList none = []
 optionList (some x) = x ∷ []
@@ -71,6 +75,7 @@ entered p (e ∷ es) s = optionList (entryOf p e s) ++ entered p es (after p e s
 unfoldable pub held : State → List Copy
 held s = flatten (s .nodes)
 
+-- It is a copy of the line.
 abbrev pub ofLine : ℕ → Option Copy → Bool
 ofLine k none = false
 ofLine k (some x) = eqb (x .key) k
@@ -80,11 +85,12 @@ unfoldable pub entries : Plan → ℕ → List Event → State → ℕ
 entries p k [] s = 0
 entries p k (e ∷ es) s = bit (ofLine k (entryOf p e s)) + entries p k es (after p e s)
 
--- The copies of a line among some, and those that a state holds.
+-- The copies of a line among some.
 unfoldable pub copiesOf : ℕ → List Copy → ℕ
 copiesOf k [] = 0
 copiesOf k (x ∷ xs) = bit (eqb (x .key) k) + copiesOf k xs
 
+-- The copies of a line that a state holds.
 abbrev pub heldOf : ℕ → State → ℕ
 heldOf k s = copiesOf k (held s)
 
@@ -108,6 +114,7 @@ unfoldable pub worthOn : (ℕ → Option Copy) → List ℕ → ℕ
 worthOn l [] = 0
 worthOn l (n ∷ ns) = cond (isSome (l n)) (length ns) 0 + worthOn l ns
 
+-- What a line's copies are worth on its key's path.
 abbrev pub worth : Plan → ℕ → State → ℕ
 worth p k s = worthOn (line s k) (path p k)
 
@@ -121,11 +128,12 @@ goesOnThrough p i (carries n j) s = true
 goesOnThrough p i (starts k) s = true
 goesOnThrough p i asks s = true
 
+-- The search in a slot goes on through a sequence.
 unfoldable pub goesOn : Plan → ℕ → List Event → State → Bool
 goesOn p i [] s = true
 goesOn p i (e ∷ es) s = goesOnThrough p i e s && goesOn p i es (after p e s)
 
--- A search's own steps in a sequence.
+-- The event is a step of the search in a slot.
 unfoldable pub isOwnStep : ℕ → Event → Bool
 isOwnStep i (steps j) = eqb j i
 isOwnStep i (enters k v) = false
@@ -135,11 +143,12 @@ isOwnStep i (starts k) = false
 isOwnStep i (cancels j) = false
 isOwnStep i asks = false
 
+-- How many steps of a sequence are a search's own.
 unfoldable pub ownSteps : ℕ → List Event → ℕ
 ownSteps i [] = 0
 ownSteps i (e ∷ es) = bit (isOwnStep i e) + ownSteps i es
 
--- An event that cancels the search in a slot;
+-- The event cancels the search in a slot.
 unfoldable pub cancelsSlot : ℕ → Event → Bool
 cancelsSlot i (cancels j) = eqb j i
 cancelsSlot i (steps j) = false
@@ -149,7 +158,7 @@ cancelsSlot i (carries n j) = false
 cancelsSlot i (starts k) = false
 cancelsSlot i asks = false
 
--- and no event of a sequence does.
+-- No event of a sequence cancels the search in a slot.
 unfoldable pub notCancelled : ℕ → List Event → Bool
 notCancelled i [] = true
 notCancelled i (e ∷ es) = not (cancelsSlot i e) && notCancelled i es

@@ -24,6 +24,7 @@ numbered at (Value v next) = got v next
 numbered at Cut = fault CUT at
 numbered at Malformed = fault NUMBER at
 
+-- The number at an offset.
 unfoldable pub numberAt : List ℕ → ℕ → Got ℕ
 numberAt s at = numbered at (readAt s at)
 

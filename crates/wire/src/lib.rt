@@ -1,4 +1,4 @@
-// Numbers read one after another, where the first fault wins; bytes written into a lent buffer.
+// Numbers read one after another, where the first fault wins. What a lent buffer holds after a call is defined in specs/Writing.antt.
 ghost use mathlib.Core.Path.{_≡_};
 ghost use Rattle.wire.specs.Reading.{numberAt, numOf};
 use number::Reading;

@@ -18,11 +18,12 @@ use Rattle.schedule.specs.declared.Step.{Step}
 use Rattle.schedule.specs.Schedule.{Schedule, stepRecord, scheduleAt}
 use Rattle.schedule.specs.Running.{stepOf, scheduleLines}
 
--- The answers of some steps done one after another, and the store after them.
+-- The answers of some steps done one after another.
 unfoldable pub answersOf : List Step → Store → List Answer
 answersOf [] z = []
 answersOf (x ∷ xs) z = let o = onStore (stepOf x 0) z in o .answer ∷ answersOf xs (o .store)
 
+-- The store after them.
 unfoldable pub storeAfter : List Step → Store → Store
 storeAfter [] z = z
 storeAfter (x ∷ xs) z = storeAfter xs (onStore (stepOf x 0) z .store)
@@ -38,6 +39,7 @@ input =
     0x01 ∷ 0x01 ∷ 0x21 ∷ 0xB4 ∷ 0x01 ∷ 0x03 ∷ 0x00 ∷ 0x00 ∷ 0x04 ∷ 0x21 ∷ 0x05 ∷ 0x00 ∷ 0x01 ∷ 0x21 ∷ 0xD2 ∷ 0x01 ∷ 0x03 ∷ 0x00
     ∷ 0x00 ∷ 0x05 ∷ 0x00 ∷ 0x05 ∷ 0x00 ∷ []
 
+-- A printed line.
 abbrev pub line : ℕ → ℕ → ℕ → ℕ → ℕ → ℕ → List ℕ
 line s n a b c d = s ∷ n ∷ a ∷ b ∷ c ∷ d ∷ []
 
@@ -55,9 +57,11 @@ nineKeys =
 abbrev pub lateStore : Store
 lateStore = storeOf 1 (record { clock = 4294967294; nodes = replicate 4 []; slots = replicate slotCount idle })
 
+-- DONE with a number.
 abbrev pub done : ℕ → Answer
 done a = answer DONE a 0 0 0
 
+-- P1 to P10.
 pub record Worked : Type 0 where
   -- "(P1) these lines."
   pub p1 :

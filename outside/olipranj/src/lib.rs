@@ -1,13 +1,14 @@
 //! Safe calls of Olipranj's proved library.
 //!
-//! A [`Store`] holds results by line. Results are entered at a small top node ([`Store::enter`]), full nodes are
-//! carried down to larger ones ([`Store::carry`]), a search finds a line's current result ([`Store::look`], or node
+//! A [`Store`] holds results by line. Results are entered at the small root ([`Store::enter`]), copies are
+//! carried down to larger nodes ([`Store::carry`]), a search finds a line's current result ([`Store::look`], or node
 //! by node with [`Store::start`] and [`Store::step`]). [`Store::page`] makes a household's page, and [`Store::serve`]
 //! shows a kept page only while it is still true.
 //!
 //! Every call ends with a numbered [`Answer`] and asks nothing of its caller: a store that breaks a rule, a number
 //! out of range or damaged bytes get their own answer, and a refused call leaves the store and the buffer as they
-//! were. That is proved of the library; this crate only passes numbers, pointers and lengths to it.
+//! were (but [`Store::fresh_over`] and [`Store::load_over`], which then lay down a fresh store of plan 1). That is
+//! proved of the library; this crate only passes numbers, pointers and lengths to it.
 //!
 //! ```
 //! use olipranj::Store;
@@ -30,8 +31,9 @@ pub const LONGEST_PAGE: usize = 357;
 /// An image takes at most so many bytes: format, plan, clock, four counts, and 120 copies of at most 16 bytes.
 pub const LONGEST_IMAGE: usize = 2 + 5 + 4 + 120 * 16;
 
-/// The key of a sample's analyte (0 to 31).
+/// The key of a sample's analyte. Panics if the sample is above 134217727 or the analyte above 31.
 pub const fn line(sample: u32, analyte: u32) -> u32 {
+    assert!(sample <= 134_217_727 && analyte <= 31);
     sample * 32 + analyte
 }
 

@@ -1,3 +1,4 @@
+-- `examples::print` meets its contract. Assumes nothing.
 use Rattle.lines.proofs.Printed.{line-within, line-length}
 use borrow.Author.Needs.{needs}
 use Rattle.examples.proofs.print.Statement.{statement}

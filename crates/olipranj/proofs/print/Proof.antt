@@ -1,3 +1,4 @@
+-- `olipranj::print` meets its contract. Assumes nothing.
 use Rattle.lines.proofs.Printed.{line-within, line-length}
 use borrow.Author.Needs.{needs}
 use Rattle.olipranj.proofs.print.Statement.{statement}

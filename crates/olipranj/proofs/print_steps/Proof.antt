@@ -1,3 +1,4 @@
+-- `olipranj::print_steps` meets its contract. Assumes nothing.
 use Prim.Native.Nat.{_≤_, _-_}
 use borrow.Author.Needs.{needs}
 use Rattle.schedule.specs.Schedule.{mostSteps}

@@ -1,3 +1,4 @@
+-- `carries::writing::carry_column` meets its contract. Assumes nothing.
 use native.Mathlib.Omega.{arith}
 use borrow.Author.Needs.{needs}
 use Rattle.store.specs.Layout.{places}

@@ -1,3 +1,4 @@
+-- `searches::lines::held` meets its contract. Assumes nothing.
 use mathlib.Core.Path.{_∙_}
 use borrow.Author.Needs.{needs}
 use Rattle.searches.proofs.Ending.{held-answer}

@@ -1,3 +1,4 @@
+-- `store::Outcome::refused` meets its contract. Assumes nothing.
 use mathlib.Core.Path.{ap}
 use borrow.Author.Needs.{needs}
 use Rattle.store.specs.declared.Answer.{Answer}

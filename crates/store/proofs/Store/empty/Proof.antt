@@ -1,3 +1,4 @@
+-- `store::Store::empty` meets its contract. Assumes nothing.
 use mathlib.Core.Path.{sym}
 use Rattle.store.proofs.Freshening.{fresh-store-is}
 use Rattle.store.proofs.Store.empty.Statement.{statement}

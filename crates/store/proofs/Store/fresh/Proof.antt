@@ -1,3 +1,4 @@
+-- `store::Store::fresh` meets its contract. Assumes nothing.
 use mathlib.Core.Path.{sym, _∙_}
 use borrow.Author.Needs.{needs}
 use Rattle.store.proofs.Freshening.{fresh-done, fresh-refused}

@@ -1,3 +1,4 @@
+-- `store::columns::look_at` meets its contract. Assumes nothing.
 use mathlib.Core.Path.{_∙_}
 use borrow.Author.Needs.{needs}
 use Rattle.store.proofs.Laying.{node-looked}
