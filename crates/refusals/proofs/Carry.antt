@@ -1,7 +1,7 @@
 -- Carry: BADSTORE, NODE, EDGE. Assumes nothing.
 use mathlib.Core.Path.{_≡_, refl}
 use mathlib.Core.Bool.{true, false}
-use mathlib.Core.List.{List, [], _∷_}
+use mathlib.Core.List.{_∷_}
 use mathlib.Core.Logic.{_↔_}
 use Prim.Native.Nat.{ℕ, _<_, _≤_}
 use native.Mathlib.Omega.{arith}
@@ -9,7 +9,7 @@ use lib.ListN.{length}
 use Rattle.plan.specs.Plan.{Plan, size, edgesOf}
 use Rattle.plan.specs.PlanTable.{planOf}
 use Rattle.store.specs.declared.Store.{Store}
-use Rattle.store.specs.Answers.{DONE, BADSTORE, NODE, EDGE}
+use Rattle.store.specs.Answers.{BADSTORE, NODE, EDGE}
 use Rattle.store.specs.Copies.{member}
 use Rattle.store.specs.State.{State}
 use Rattle.store.specs.Layout.{stateOf}
@@ -20,12 +20,8 @@ use Rattle.steps.specs.Carries.{carriedOut, carryStep}
 use Rattle.steps.proofs.WaysOut.{CarryWay, carry-way}
 use Rattle.steps.proofs.WaysOut.CarryWay.{no-node, no-edge, merges}
 use Rattle.steps.proofs.Refusals.{node-exactly, edge-exactly}
-use Rattle.refusals.specs.Given.{Among, StepRefuses, Refuses}
+use Rattle.refusals.specs.Given.{Among, StepRefuses, Refuses, carryAnswers}
 use Rattle.refusals.proofs.OnStores.{on-badstore, on-exactly, on-among, on-refuses}
-
--- What a carry answers in a good store.
-abbrev pub carryAnswers : List ℕ
-carryAnswers = DONE ∷ NODE ∷ EDGE ∷ []
 
 step-among : (node edge : ℕ) (p : Plan) (s : State) → Among carryAnswers (carryStep node edge p s .answer)
 unfolding member carriedOut

@@ -1,7 +1,7 @@
 -- Enter and withdraw: BADSTORE, CLOCK, FULL. Assumes nothing.
 use mathlib.Core.Path.{_≡_, refl}
 use mathlib.Core.Bool.{true, false}
-use mathlib.Core.List.{List, [], _∷_}
+use mathlib.Core.List.{_∷_}
 use mathlib.Core.Logic.{_↔_}
 use Prim.Native.Nat.{ℕ}
 use native.Mathlib.Omega.{arith}
@@ -9,7 +9,7 @@ use Rattle.plan.specs.Plan.{Plan}
 use Rattle.plan.specs.PlanTable.{planOf}
 use Rattle.store.specs.declared.Outcome.{Outcome}
 use Rattle.store.specs.declared.Store.{Store}
-use Rattle.store.specs.Answers.{DONE, BADSTORE, CLOCK, FULL}
+use Rattle.store.specs.Answers.{BADSTORE, CLOCK, FULL}
 use Rattle.store.specs.Copies.{WITHDRAWN, RESULT, member}
 use Rattle.store.specs.State.{State, lastClock}
 use Rattle.store.specs.Layout.{stateOf}
@@ -20,12 +20,8 @@ use Rattle.steps.specs.Entries.{entry, enterStep, withdrawStep}
 use Rattle.steps.proofs.WaysOut.{EntryWay, entry-way}
 use Rattle.steps.proofs.WaysOut.EntryWay.{at-last-clock, root-full, enters}
 use Rattle.steps.proofs.Refusals.{clock-exactly, full-exactly}
-use Rattle.refusals.specs.Given.{Among, StepRefuses, Refuses, RootFull}
+use Rattle.refusals.specs.Given.{Among, StepRefuses, Refuses, RootFull, entryAnswers}
 use Rattle.refusals.proofs.OnStores.{on-badstore, on-exactly, on-among, on-refuses}
-
--- What an entry answers in a good store.
-abbrev pub entryAnswers : List ℕ
-entryAnswers = DONE ∷ CLOCK ∷ FULL ∷ []
 
 -- An entry, of either kind.
 module _ (kind key value : ℕ) where

@@ -1,6 +1,6 @@
 -- Run: BADSTORE, OP, then the refusals of the record's own step. Assumes nothing.
 use mathlib.Core.Path.{_≡_, refl, sym, ap, _∙_}
-use mathlib.Core.Bool.{true, false, cond}
+use mathlib.Core.Bool.{true, false}
 use mathlib.Core.List.{List, [], _∷_}
 use mathlib.Core.Logic.{_↔_, _⊎_, inl, inr}
 use Prim.Native.Nat.{ℕ, _<_, _≤_}
@@ -12,13 +12,13 @@ use Rattle.plan.specs.Plan.{Plan}
 use Rattle.plan.specs.PlanTable.{planOf}
 use Rattle.store.specs.declared.Outcome.{Outcome}
 use Rattle.store.specs.declared.Store.{Store}
-use Rattle.store.specs.Answers.{BADSTORE, OP, answer, bare}
+use Rattle.store.specs.Answers.{BADSTORE, OP, answer}
 use Rattle.store.specs.Copies.{member}
 use Rattle.store.specs.State.{State}
-use Rattle.store.specs.Layout.{stateOf, storeOf}
+use Rattle.store.specs.Layout.{stateOf}
 use Rattle.store.specs.StoreRules.{goodStore}
 use Rattle.store.specs.Calls.{Effect, onStore}
-use Rattle.store.proofs.Lifting.{on-good, store-stays}
+use Rattle.store.proofs.Lifting.{same-call, on-good, store-stays}
 use Rattle.steps.specs.Entries.{enterStep, withdrawStep}
 use Rattle.steps.specs.Carries.{carryStep}
 use Rattle.steps.specs.Searches.{startStep, stepStep, cancelStep}
@@ -27,14 +27,13 @@ use Rattle.schedule.specs.Schedule.{ENTER, WITHDRAW, CARRY, START, STEP, CANCEL
 use Rattle.schedule.specs.Running.{noStep, unknownStep, stepOf, runOutcome}
 use Rattle.schedule.proofs.StepLaws.{does-enter, does-withdraw, does-carry, does-start, does-step, does-cancel, does-unknown}
 use Rattle.schedule.proofs.ScheduleLaws.{known-between}
-use Rattle.refusals.specs.Given.{Among, Refuses, recordAt, Unknown}
+use Rattle.refusals.specs.Given.{Among, entryAnswers, carryAnswers, startAnswers, stepAnswers, cancelAnswers, Refuses, recordAt, Unknown}
+use Rattle.refusals.specs.Runs.{RunWay}
+use Rattle.refusals.specs.Runs.RunWay.{enters, withdraws, carries, starts, steps, cancels, unknown}
 use Rattle.refusals.proofs.OnStores.{not-given, on-badstore, on-exactly}
-use Rattle.refusals.proofs.Entries.{entryAnswers, enter-badstore, enter-answers, enter-refused, withdraw-badstore, withdraw-answers, withdraw-refused}
-use Rattle.refusals.proofs.Carry.{carryAnswers, carry-badstore, carry-answers, carry-refused}
+use Rattle.refusals.proofs.Entries.{enter-badstore, enter-answers, enter-refused, withdraw-badstore, withdraw-answers, withdraw-refused}
+use Rattle.refusals.proofs.Carry.{carry-badstore, carry-answers, carry-refused}
 use Rattle.refusals.proofs.Searches.{
-  startAnswers,
-  stepAnswers,
-  cancelAnswers,
   start-badstore,
   start-answers,
   start-refused,
@@ -46,24 +45,9 @@ use Rattle.refusals.proofs.Searches.{
   cancel-refused,
 }
 
--- Two steps that do the same are the same call.
-same-call : (f g : Plan → State → Effect) (z : Store) → f (planOf (z .plan)) (stateOf z) ≡ g (planOf (z .plan)) (stateOf z) → onStore f z ≡ onStore g z
-unfolding onStore
-same-call f g z e =
-    ap (λ (w : Effect). cond (goodStore z) (record { answer = w .answer; store = storeOf (z .plan) (w .after) }) (record { answer = bare BADSTORE; store = z })) e
-
 module _ (z : Store) (list : List Step) (place : ℕ) where
   -- The runner gives the very outcome of the record's call, or the step is unknown.
-  pub data RunWay : Type 0 where
-    enters : recordAt list place .number ≡ ENTER → runOutcome z list place ≡ onStore (enterStep (recordAt list place .x) (recordAt list place .y)) z → RunWay
-    withdraws : recordAt list place .number ≡ WITHDRAW → runOutcome z list place ≡ onStore (withdrawStep (recordAt list place .x)) z → RunWay
-    carries : recordAt list place .number ≡ CARRY → runOutcome z list place ≡ onStore (carryStep (recordAt list place .x) (recordAt list place .y)) z → RunWay
-    starts : recordAt list place .number ≡ START → runOutcome z list place ≡ onStore (startStep (recordAt list place .x)) z → RunWay
-    steps : recordAt list place .number ≡ STEP → runOutcome z list place ≡ onStore (stepStep (recordAt list place .x)) z → RunWay
-    cancels : recordAt list place .number ≡ CANCEL → runOutcome z list place ≡ onStore (cancelStep (recordAt list place .x)) z → RunWay
-    unknown : knownStep (recordAt list place .number) ≡ false → runOutcome z list place ≡ onStore (λ p s. unknownStep place s) z → RunWay
-
-  pub run-way : RunWay
+  pub run-way : RunWay z list place
   unfolding runOutcome
   run-way =
       go (ℕ-discrete n ENTER) (ℕ-discrete n WITHDRAW) (ℕ-discrete n CARRY) (ℕ-discrete n START) (ℕ-discrete n STEP) (ℕ-discrete n CANCEL)
@@ -80,7 +64,7 @@ module _ (z : Store) (list : List Step) (place : ℕ) where
       calls : (g : Plan → State → Effect) → stepOf (recordAt list place) place p s ≡ g p s → runOutcome z list place ≡ onStore g z
       calls g e = same-call (stepOf (recordAt list place) place) g z e
 
-      go : Dec (n ≡ ENTER) → Dec (n ≡ WITHDRAW) → Dec (n ≡ CARRY) → Dec (n ≡ START) → Dec (n ≡ STEP) → Dec (n ≡ CANCEL) → RunWay
+      go : Dec (n ≡ ENTER) → Dec (n ≡ WITHDRAW) → Dec (n ≡ CARRY) → Dec (n ≡ START) → Dec (n ≡ STEP) → Dec (n ≡ CANCEL) → RunWay z list place
       go (yes e) b c d f g = enters e (calls (enterStep (recordAt list place .x) (recordAt list place .y)) (does-enter n (recordAt list place .x) (recordAt list place .y) place p s e))
       go (no a) (yes e) c d f g = withdraws e (calls (withdrawStep (recordAt list place .x)) (does-withdraw n (recordAt list place .x) (recordAt list place .y) place p s e))
       go (no a) (no b) (yes e) d f g = carries e (calls (carryStep (recordAt list place .x) (recordAt list place .y)) (does-carry n (recordAt list place .x) (recordAt list place .y) place p s e))
@@ -109,7 +93,7 @@ module _ (z : Store) (list : List Step) (place : ℕ) where
   unfolding member
   run-badstore = go run-way
     where
-      go : RunWay → (number ≡ BADSTORE) ↔ (goodStore z ≡ false)
+      go : RunWay z list place → (number ≡ BADSTORE) ↔ (goodStore z ≡ false)
       go (enters n e) = same-exactly e (enter-badstore z (recordAt list place .x) (recordAt list place .y))
       go (withdraws n e) = same-exactly e (withdraw-badstore z (recordAt list place .x))
       go (carries n e) = same-exactly e (carry-badstore z (recordAt list place .x) (recordAt list place .y))
@@ -145,7 +129,7 @@ module _ (z : Store) (list : List Step) (place : ℕ) where
   unfolding member knownStep
   run-op = go run-way
     where
-      go : RunWay → (number ≡ OP) ↔ ((goodStore z ≡ true) × Unknown list place)
+      go : RunWay z list place → (number ≡ OP) ↔ ((goodStore z ≡ true) × Unknown list place)
       go (enters n e) = not-op (BADSTORE ∷ entryAnswers) n refl e (enter-answers z (recordAt list place .x) (recordAt list place .y)) refl
       go (withdraws n e) = not-op (BADSTORE ∷ entryAnswers) n refl e (withdraw-answers z (recordAt list place .x)) refl
       go (carries n e) = not-op (BADSTORE ∷ carryAnswers) n refl e (carry-answers z (recordAt list place .x) (recordAt list place .y)) refl
@@ -160,7 +144,7 @@ module _ (z : Store) (list : List Step) (place : ℕ) where
   unfolding knownStep
   run-op-place q = let u = run-op .0 q in go (u .0) (unknown-number (u .1)) run-way
     where
-      go : goodStore z ≡ true → knownStep (recordAt list place .number) ≡ false → RunWay → runOutcome z list place .answer ≡ answer OP place 0 0 0
+      go : goodStore z ≡ true → knownStep (recordAt list place .number) ≡ false → RunWay z list place → runOutcome z list place .answer ≡ answer OP place 0 0 0
       go good f (enters n e) = absurd (not-both (rw n) f)
       go good f (withdraws n e) = absurd (not-both (rw n) f)
       go good f (carries n e) = absurd (not-both (rw n) f)
@@ -177,7 +161,7 @@ module _ (z : Store) (list : List Step) (place : ℕ) where
       leaves {o} e r h =
           ap (λ (w : Outcome). w .store) e ∙ ap (λ (w : Outcome). w .store) (r (omega (arith, same-number e)))
 
-      go : RunWay → 2 ≤ number → runOutcome z list place .store ≡ z
+      go : RunWay z list place → 2 ≤ number → runOutcome z list place .store ≡ z
       go (enters n e) = leaves e (enter-refused z (recordAt list place .x) (recordAt list place .y))
       go (withdraws n e) = leaves e (withdraw-refused z (recordAt list place .x))
       go (carries n e) = leaves e (carry-refused z (recordAt list place .x) (recordAt list place .y))

@@ -1,7 +1,7 @@
 -- Start: BADSTORE, SLOTS. Step and cancel: BADSTORE, SLOT, IDLE. Look: BADSTORE. Assumes nothing.
 use mathlib.Core.Path.{_≡_, refl}
 use mathlib.Core.Bool.{true, false}
-use mathlib.Core.List.{List, [], _∷_}
+use mathlib.Core.List.{[], _∷_}
 use mathlib.Core.Logic.{_≢_, _↔_}
 use mathlib.Core.Option.{Option, none, some}
 use Prim.Native.Nat.{ℕ, _<_, _≤_}
@@ -11,7 +11,7 @@ use Rattle.plan.specs.Plan.{Plan, path}
 use Rattle.plan.specs.PlanTable.{planOf}
 use Rattle.store.specs.declared.Copy.{Copy}
 use Rattle.store.specs.declared.Store.{Store}
-use Rattle.store.specs.Answers.{DONE, GOING, BADSTORE, SLOTS, SLOT, IDLE}
+use Rattle.store.specs.Answers.{DONE, BADSTORE, SLOTS, SLOT, IDLE}
 use Rattle.store.specs.Copies.{member}
 use Rattle.store.specs.State.{State, slotCount, idle, line, current}
 use Rattle.store.specs.Layout.{stateOf}
@@ -25,14 +25,10 @@ use Rattle.steps.proofs.WaysOut.RunningWay.{no-slot, slot-idle, slot-runs}
 use Rattle.steps.proofs.WaysOut.Visit.{finds, never, goes}
 use Rattle.steps.proofs.WaysOut.Freed.{freed}
 use Rattle.steps.proofs.Refusals.{slots-exactly, step-slot-exactly, step-idle-exactly, cancel-slot-exactly, cancel-idle-exactly}
-use Rattle.refusals.specs.Given.{Among, StepRefuses, Refuses}
+use Rattle.refusals.specs.Given.{Among, StepRefuses, Refuses, startAnswers, stepAnswers, cancelAnswers}
 use Rattle.refusals.proofs.OnStores.{on-badstore, on-exactly, on-among, on-refuses, of-badstore, of-among}
 
 -- ---- start
-
--- What it answers in a good store.
-abbrev pub startAnswers : List ℕ
-startAnswers = DONE ∷ SLOTS ∷ []
 
 start-among : (key : ℕ) (p : Plan) (s : State) → Among startAnswers (startStep key p s .answer)
 unfolding member
@@ -69,10 +65,6 @@ module _ (z : Store) (key : ℕ) where
   start-refused = on-refuses (startStep key) z (start-refuses key (planOf (z .plan)) (stateOf z))
 
 -- ---- step
-
--- What it answers in a good store.
-abbrev pub stepAnswers : List ℕ
-stepAnswers = DONE ∷ GOING ∷ SLOT ∷ IDLE ∷ []
 
 step-among : (slot : ℕ) (p : Plan) (s : State) → Among stepAnswers (stepStep slot p s .answer)
 unfolding member
@@ -127,10 +119,6 @@ module _ (z : Store) (slot : ℕ) where
   step-refused = on-refuses (stepStep slot) z (step-refuses slot (planOf (z .plan)) (stateOf z))
 
 -- ---- cancel
-
--- What it answers in a good store.
-abbrev pub cancelAnswers : List ℕ
-cancelAnswers = DONE ∷ SLOT ∷ IDLE ∷ []
 
 cancel-among : (slot : ℕ) (p : Plan) (s : State) → Among cancelAnswers (cancelStep slot p s .answer)
 unfolding member

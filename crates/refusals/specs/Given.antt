@@ -1,7 +1,7 @@
 -- What a refusal leaves, and the conditions of the calls on a store, in document 01's words.
 use mathlib.Core.Path.{_≡_}
 use mathlib.Core.Bool.{true, false}
-use mathlib.Core.List.{List, _++_}
+use mathlib.Core.List.{List, [], _∷_, _++_}
 use mathlib.Core.Logic.{_⊎_}
 use mathlib.Core.Option.{none}
 use Prim.Native.Nat.{ℕ, _<_, _≤_}
@@ -11,7 +11,7 @@ use Rattle.plan.specs.PlanTable.{planOf}
 use Rattle.store.specs.declared.Answer.{Answer}
 use Rattle.store.specs.declared.Outcome.{Outcome}
 use Rattle.store.specs.declared.Store.{Store}
-use Rattle.store.specs.Answers.{bare}
+use Rattle.store.specs.Answers.{DONE, GOING, CLOCK, FULL, NODE, EDGE, SLOTS, SLOT, IDLE, bare}
 use Rattle.store.specs.Copies.{keyOf, find, member}
 use Rattle.store.specs.State.{State, lastClock, nodeAt}
 use Rattle.store.specs.Layout.{stateOf}
@@ -26,6 +26,26 @@ use Rattle.schedule.specs.Running.{noStep}
 -- An answer from among these numbers.
 abbrev pub Among : List ℕ → Answer → Type 0
 Among numbers r = member (r .number) numbers ≡ true
+
+-- What an entry answers in a good store.
+abbrev pub entryAnswers : List ℕ
+entryAnswers = DONE ∷ CLOCK ∷ FULL ∷ []
+
+-- What a carry answers in a good store.
+abbrev pub carryAnswers : List ℕ
+carryAnswers = DONE ∷ NODE ∷ EDGE ∷ []
+
+-- What a start answers in a good store.
+abbrev pub startAnswers : List ℕ
+startAnswers = DONE ∷ SLOTS ∷ []
+
+-- What a step answers in a good store.
+abbrev pub stepAnswers : List ℕ
+stepAnswers = DONE ∷ GOING ∷ SLOT ∷ IDLE ∷ []
+
+-- What a cancel answers in a good store.
+abbrev pub cancelAnswers : List ℕ
+cancelAnswers = DONE ∷ SLOT ∷ IDLE ∷ []
 
 -- A refused step: nothing but the number is named, and the state is as it was.
 abbrev pub StepRefuses : State → Effect → Type 0

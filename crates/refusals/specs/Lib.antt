@@ -1,3 +1,4 @@
 pub mod Given
 pub mod Schedules
 pub mod Images
+pub mod Runs

@@ -1,6 +1,6 @@
 -- Calls on stores: what a step on states shows of its call, the store rules kept by it, and the fresh store. Assumes nothing.
 use mathlib.Core.Path.{_≡_, sym, ap, _∙_}
-use mathlib.Core.Bool.{true, false}
+use mathlib.Core.Bool.{true, false, cond}
 use mathlib.Core.Logic.{_⊎_, inl, inr}
 use mathlib.Core.List.{[]}
 use Prim.Native.Nat.{ℕ, suc, _+_, _-_, _*_, _<_, _≤_}
@@ -26,6 +26,16 @@ use Rattle.store.specs.Workers.{RisesIn, Ordered}
 use Rattle.store.specs.Calls.{Effect, onStore, ofStore}
 use Rattle.store.proofs.Laying.{every-count, every-copy, store-back, node-fits, rules-back, rules-store}
 use Rattle.store.proofs.Ruling.{good-rules, rules-good}
+
+-- Two steps that do the same to a store's state are the same call.
+pub same-call : (f g : Plan → State → Effect) (z : Store) → f (planOf (z .plan)) (stateOf z) ≡ g (planOf (z .plan)) (stateOf z)
+    → onStore f z ≡ onStore g z
+unfolding onStore
+same-call f g z e =
+    ap
+    (λ (w : Effect).
+    cond (goodStore z) (record { answer = w .answer; store = storeOf (z .plan) (w .after) }) (record { answer = bare BADSTORE; store = z }))
+    e
 
 -- The two ways of a call: a bad store, and a good one.
 module _ (f : Plan → State → Effect) (z : Store) where

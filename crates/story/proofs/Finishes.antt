@@ -22,9 +22,10 @@ use Rattle.store.specs.StoreRules.{goodStore}
 use Rattle.steps.specs.Searches.{running}
 use Rattle.theory.specs.Events.{Event, after, answerOf, run as runEvents, goesOnThrough, goesOn}
 use Rattle.theory.specs.Events.Event.{starts, steps}
+use Rattle.trips.specs.Trips.{AllIdle}
 use Rattle.story.specs.PublicCalls.{Call, storeAfter, Done, storeAfterAll}
 use Rattle.story.specs.Following.{eventOf, eventsOf, replacement, sameStore}
-use Rattle.story.specs.Recent.{AllIdle, atStart, started, SearchRuns, Finished}
+use Rattle.story.specs.Recent.{atStart, started, SearchRuns, Finished}
 use Rattle.story.proofs.Follows.{
   acts-as,
   start-acts,

@@ -17,11 +17,11 @@ use Rattle.store.specs.declared.Outcome.{Outcome}
 use Rattle.store.specs.declared.Store.{Store}
 use Rattle.store.specs.Copies.{isSome}
 use Rattle.store.specs.State.{State}
-use Rattle.store.specs.Layout.{stateOf, storeOf}
+use Rattle.store.specs.Layout.{stateOf}
 use Rattle.store.specs.StoreRules.{planNumberTest, goodStore}
 use Rattle.store.specs.Calls.{Effect, onStore}
 use Rattle.store.specs.Promises.{freshOutcome}
-use Rattle.store.proofs.Lifting.{Keeps, on-bad, on-good, plan-stays, store-stays, on-keeps, state-agrees, fresh-good}
+use Rattle.store.proofs.Lifting.{same-call, Keeps, on-bad, on-good, plan-stays, store-stays, on-keeps, state-agrees, fresh-good}
 use Rattle.schedule.specs.declared.Step.{Step}
 use Rattle.schedule.specs.Schedule.{ENTER, WITHDRAW, CARRY, START, STEP, CANCEL}
 use Rattle.schedule.specs.Running.{noStep, unknownStep, stepOf, runOutcome}
@@ -30,10 +30,10 @@ use Rattle.trips.proofs.RoundTrips.{load-good, fresh-idle, load-all-idle}
 use Rattle.theory.specs.Events.{Event, effect, after, answerOf, run as runEvents}
 use Rattle.theory.specs.Events.Event.{enters, withdraws, carries, starts, steps, cancels, asks}
 use Rattle.theory.proofs.EventSteps.{event-keeps}
+use Rattle.trips.specs.Trips.{AllIdle}
 use Rattle.story.specs.PublicCalls.{Call, accepted, replaced, storeAfter, answerTo, storeAfterAll}
 use Rattle.story.specs.PublicCalls.Call.{fresh, load, enter, withdraw, carry, start, step, cancel, look, save, page, serve, run}
 use Rattle.story.specs.Following.{eventOfRecord, eventOf, eventsOf, onEvent, storeIfAccepted, replacement, sameStore}
-use Rattle.story.specs.Recent.{AllIdle}
 
 -- The step and the event of a record, by the six tests of its number.
 stepBy : Bool → Bool → Bool → Bool → Bool → Bool → Step → ℕ → Plan → State → Effect
@@ -70,17 +70,6 @@ record-way r place =
     by-tests (eqb (r .number) ENTER) (eqb (r .number) WITHDRAW) (eqb (r .number) CARRY) (eqb (r .number) START) (eqb (r .number) STEP)
     (eqb (r .number) CANCEL) r place
 
--- Two steps that do the same are the same call.
-same-step : (f g : Plan → State → Effect) (z : Store) → ((p : Plan) (s : State) → f p s ≡ g p s) → onStore f z ≡ onStore g z
-same-step f g z h = go (bool? (goodStore z))
-  where
-    go : (goodStore z ≡ true) ⊎ (goodStore z ≡ false) → onStore f z ≡ onStore g z
-    go (inl good) =
-        on-good f z good
-        ∙ (ap (λ (e : Effect). record { answer = e .answer; store = storeOf (z .plan) (e .after) }) (h (planOf (z .plan)) (stateOf z))
-        ∙ sym (on-good g z good))
-    go (inr bad) = on-bad f z bad ∙ sym (on-bad g z bad)
-
 pub asks-nothing : (z : Store) → onEvent asks z .store ≡ z
 unfolding onEvent effect
 asks-nothing z = store-stays (λ p s. effect p asks s) z refl
@@ -99,7 +88,7 @@ run-way z list place = go (record-way r place)
         ⊎ ((eventOfRecord r ≡ asks) × ((p : Plan) (s : State) → stepOf r place p s .after ≡ s))
         → (onStore (stepOf r place) z ≡ onStore (λ p s. effect p (eventOfRecord r) s) z)
         ⊎ ((eventOfRecord r ≡ asks) × (onStore (stepOf r place) z .store ≡ z))
-    go (inl h) = inl (same-step (stepOf r place) (λ p s. effect p (eventOfRecord r) s) z h)
+    go (inl h) = inl (same-call (stepOf r place) (λ p s. effect p (eventOfRecord r) s) z (h (planOf (z .plan)) (stateOf z)))
     go (inr w) = inr (w .0, store-stays (stepOf r place) z (w .1 (planOf (z .plan)) (stateOf z)))
 
 run-event : (z : Store) (list : List Step) (place : ℕ) → runOutcome z list place .store ≡ onEvent (eventOfRecord (getD list place noStep)) z .store

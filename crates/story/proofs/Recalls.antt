@@ -26,10 +26,11 @@ use Rattle.theory.specs.Events.Event.{starts, steps}
 use Rattle.theory.specs.Paper.{History, InHistory, Multicopy, SearchRecency}
 use Rattle.theory.proofs.Invariants.{in-history, history-in, held-in-line}
 use Rattle.theory.proofs.Recency.{search-recency, search-ends}
+use Rattle.trips.specs.Trips.{AllIdle}
 use Rattle.story.specs.PublicCalls.{Call, storeAfter, answerTo, Done, storeAfterAll}
 use Rattle.story.specs.PublicCalls.Call.{fresh, load}
 use Rattle.story.specs.Following.{eventOf, eventsOf, onEvent, replacement, sameStore, history}
-use Rattle.story.specs.Recent.{currentIn, AllIdle, atStart, started, atEnd, SearchRuns, StoreRecency, EndsByCall}
+use Rattle.story.specs.Recent.{currentIn, atStart, started, atEnd, SearchRuns, StoreRecency, EndsByCall}
 use Rattle.story.proofs.Follows.{
   Acts,
   acts-as,

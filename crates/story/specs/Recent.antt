@@ -6,14 +6,14 @@ use mathlib.Core.Logic.{_⊎_}
 use mathlib.Core.List.{List, [], _∷_, _++_, List·Memᴰ}
 use mathlib.Core.Option.{Option, some}
 use Prim.Native.Nat.{ℕ, suc, _≤_}
-use lib.ListN.{length, replicate}
+use lib.ListN.{length}
 use Rattle.plan.specs.Plan.{path}
 use Rattle.plan.specs.PlanTable.{planOf}
 use Rattle.store.specs.declared.Copy.{Copy}
 use Rattle.store.specs.declared.Store.{Store}
 use Rattle.store.specs.Answers.{DONE, answer}
 use Rattle.store.specs.Copies.{stampOf}
-use Rattle.store.specs.State.{slotCount, idle, current}
+use Rattle.store.specs.State.{current}
 use Rattle.store.specs.Layout.{stateOf}
 use Rattle.steps.specs.Searches.{ended}
 use Rattle.theory.specs.Events.{held, goesOn, ownSteps}
@@ -29,10 +29,6 @@ currentIn z k = current (planOf (z .plan)) (stateOf z) k
 -- The stamp of what is in reach of a node of a store.
 abbrev pub reachStamp : Store → ℕ → ℕ → ℕ
 reachStamp z n k = stampOf (ContentsInReach (planOf (z .plan)) (stateOf z) n k)
-
--- No search runs in a store.
-abbrev pub AllIdle : Store → Type 0
-AllIdle z = z .slots ≡ replicate slotCount idle
 
 -- The store at the search's start.
 abbrev pub atStart : Store → List Call → Store

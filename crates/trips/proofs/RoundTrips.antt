@@ -33,7 +33,7 @@ use Rattle.wire.proofs.Buffers.{done-front}
 use Rattle.image.specs.Image.{formatNumber, image, lastValue, Declared}
 use Rattle.image.specs.Loading.{nodesAt, loaded, nodesFrom, clockFrom, planFrom, imageAt, loadOutcome, idled}
 use Rattle.image.specs.Promises.{saveBuffer}
-use Rattle.trips.specs.Trips.{loadedAsItself, IdleAndDeclared}
+use Rattle.trips.specs.Trips.{loadedAsItself, AllIdle, IdleAndDeclared}
 use Rattle.trips.proofs.ImageParts.{Small, small-none}
 use Rattle.trips.proofs.ImageReads.{store-read, image-gives}
 use Rattle.image.proofs.LoadEnds.{finish-accepts}
@@ -191,10 +191,10 @@ reads-idle s =
     gives-bind _ _ (gives-any (nodesAt s (planOf plan) c)) λ ns d x.
     gives-got refl
 
-pub load-all-idle : (s : List ℕ) → loadOutcome s .store .slots ≡ replicate slotCount idle
+pub load-all-idle : (s : List ℕ) → AllIdle (loadOutcome s .store)
 load-all-idle s = go (load-way s)
   where
-    go : LoadWay s → loadOutcome s .store .slots ≡ replicate slotCount idle
+    go : LoadWay s → AllIdle (loadOutcome s .store)
     go (stops e r) = rw r (fresh-idle 1 .all-idle)
     go (trails r) = rw r (fresh-idle 1 .all-idle)
     go (breaks r) = rw r (fresh-idle 1 .all-idle)

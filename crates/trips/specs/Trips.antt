@@ -12,7 +12,11 @@ use Rattle.image.specs.Loading.{copiesHeld, idled}
 abbrev pub loadedAsItself : Store → Outcome
 loadedAsItself z = record { answer = answer DONE (copiesHeld (z .counts)) 0 0 0; store = idled z }
 
+-- No search runs in a store.
+abbrev pub AllIdle : Store → Type 0
+AllIdle z = z .slots ≡ replicate slotCount idle
+
 -- A store of the declared type with all slots idle.
 pub record IdleAndDeclared (z : Store) : Type 0 where
-  pub all-idle : z .slots ≡ replicate slotCount idle
+  pub all-idle : AllIdle z
   pub declared : Declared z
