@@ -13,14 +13,13 @@ use Rattle.plan.specs.declared.Edge.{Edge}
 use Rattle.plan.specs.Sizes.{mostNodes}
 use Rattle.plan.specs.Plan.{Plan, size, capacityOf, edgesOf, edgeOf}
 use Rattle.plan.specs.PlanRules.{IsEdge}
-use Rattle.plan.specs.PlanTable.{planOf}
 use Rattle.store.specs.declared.Answer.{Answer}
 use Rattle.store.specs.declared.Copy.{Copy}
 use Rattle.store.specs.declared.Store.{Store}
 use Rattle.store.specs.Answers.{DONE, NODE, EDGE, answer, bare}
 use Rattle.store.specs.Copies.{noCopy, keyOf}
 use Rattle.store.specs.State.{State, nodeAt}
-use Rattle.store.specs.Layout.{width, places, nodeIn, copyOf, countOf, nodeOf, stateOf, column}
+use Rattle.store.specs.Layout.{planOf, planOf, planOf, width, places, nodeIn, copyOf, countOf, nodeOf, stateOf, column}
 use Rattle.store.specs.StoreRules.{goodStore}
 use Rattle.store.specs.Calls.{onStore}
 use Rattle.store.specs.Workers.{numberIn, itself}
@@ -81,9 +80,9 @@ unfolding carriedOut
 out-is n e m s had held kept got left a b c f g = rw (a, b, c, f, g)
 
 -- The edge i of node n of a good store's plan.
-module _ (z : Store) (good : goodStore z ≡ true) (n i : ℕ) (d : IsEdge (planOf (z .plan)) n i) (e : Edge) (e-is : e ≡ edgeOf (planOf (z .plan)) n i) where
+module _ (z : Store) (good : goodStore z ≡ true) (n i : ℕ) (d : IsEdge (planOf z) n i) (e : Edge) (e-is : e ≡ edgeOf (planOf z) n i) where
   abbrev p : Plan
-  p = planOf (z .plan)
+  p = planOf z
 
   abbrev s : State
   s = stateOf z
@@ -99,7 +98,7 @@ module _ (z : Store) (good : goodStore z ≡ true) (n i : ℕ) (d : IsEdge (plan
   target-there = rw e-is (plan-good z good .target-greater-and-exists n i d .1)
 
   pub target-few : t < mostNodes
-  target-few = omega (arith, target-there, plan-good z good .two-to-eight-nodes)
+  target-few = omega (arith, target-there, plan-good z good .nodes-within)
 
   pub node-few : n < mostNodes
   node-few = omega (arith, target-below, target-few)
@@ -109,7 +108,7 @@ module _ (z : Store) (good : goodStore z ≡ true) (n i : ℕ) (d : IsEdge (plan
 
   module _ (capacity : ℕ) (capacity-is : capacity ≡ capacityOf p t) where
     capacity-few : capacity ≤ width
-    capacity-few = rw capacity-is (plan-good z good .capacity-1-to-64 t target-there .1)
+    capacity-few = rw capacity-is (plan-good z good .capacity-within t target-there .1)
 
     held-within : countOf z t ≤ capacity
     held-within = omega (arith, capacity-is, state-good z good .counts-within-capacity t target-there, state-count z t target-there)
@@ -298,18 +297,18 @@ module _ (z : Store) (good : goodStore z ≡ true) (n i : ℕ) (d : IsEdge (plan
 -- The refusals of a carry on a good store.
 module _ (z : Store) (good : goodStore z ≡ true) (n i : ℕ) where
   -- NODE: "plan has no such node"
-  pub no-node : size (planOf (z .plan)) ≤ n → (a : Answer) → a ≡ bare NODE → record { answer = a; store = z } ≡ onStore (carryStep n i) z
+  pub no-node : size (planOf z) ≤ n → (a : Answer) → a ≡ bare NODE → record { answer = a; store = z } ≡ onStore (carryStep n i) z
   unfolding carryStep
-  no-node h a e = rw e (on-refusal (carryStep n i) z good NODE (rw (le-ltb n (size (planOf (z .plan))) h)))
+  no-node h a e = rw e (on-refusal (carryStep n i) z good NODE (rw (le-ltb n (size (planOf z)) h)))
 
   -- EDGE: "node has no such edge"
-  pub no-edge : n < size (planOf (z .plan)) → length (edgesOf (planOf (z .plan)) n) ≤ i → (a : Answer) → a ≡ bare EDGE
+  pub no-edge : n < size (planOf z) → length (edgesOf (planOf z) n) ≤ i → (a : Answer) → a ≡ bare EDGE
       → record { answer = a; store = z } ≡ onStore (carryStep n i) z
   unfolding carryStep
   no-edge h g a e =
       rw e
       (on-refusal (carryStep n i) z good EDGE
-      (rw (lt-ltb n (size (planOf (z .plan))) h, le-ltb i (length (edgesOf (planOf (z .plan)) n)) g)))
+      (rw (lt-ltb n (size (planOf z)) h, le-ltb i (length (edgesOf (planOf z) n)) g)))
 
 -- A refusal: no place is written, and a count that is there already, so the store stays as it is.
 both-stay : (counts : List ℕ) → set (set counts 0 (getD counts 0 0)) 0 (getD counts 0 0) ≡ counts

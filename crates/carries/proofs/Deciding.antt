@@ -45,8 +45,8 @@ module _ (keys : List ℕ) (capacity : ℕ) (e : Edge) (from to start end : ℕ)
       → Going keys capacity to end stay target (record { place = from; next = start; kept = 0; got = 0 })
   start-going r s t =
       record {
-        stay-64 = s;
-        target-64 = t;
+        stay-long = s;
+        target-long = t;
         place-within = (r .node-within .0, r .node-within .1);
         next-within = (r .target-within .0, r .target-within .1);
         stays = omega (arith, r .node-within .2);
@@ -72,7 +72,7 @@ decided {keys} {capacity} e {to} {end} {stay} {target} {m} g h l l-is r target�
     (record {
       stays =
           record {
-            long = g .stay-64;
+            long = g .stay-long;
             counted = omega (arith, g .stays);
             listed = rw kept (sym (append-nil (take (m .kept) stay)));
           };

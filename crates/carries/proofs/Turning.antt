@@ -54,7 +54,7 @@ module _ (e : Edge) {keys : List ℕ} {capacity to end : ℕ} {stay target : Lis
   had-length =
       let f = g .fits in
       let w = g .few in
-      let l = g .target-64 in
+      let l = g .target-long in
       length-take-le (m .got) target (omega arith)
 
   had-low : (i : ℕ) → i < length had → key (getD had i 0) < key (m .place)
@@ -100,7 +100,7 @@ module _ (e : Edge) {keys : List ℕ} {capacity to end : ℕ} {stay target : Lis
   held-carries h t = rw h t
 
   inside : m .got < width → m .got < length target
-  inside h = omega (arith, g .target-64)
+  inside h = omega (arith, g .target-long)
 
   -- The target gets a place x, and the walk goes on.
   module _ (x place next : ℕ) (free : m .got < width) where
@@ -111,8 +111,8 @@ module _ (e : Edge) {keys : List ℕ} {capacity to end : ℕ} {stay target : Lis
         → ((j : ℕ) → place ≤ j → j < to → key x < key j) → Going keys capacity to end stay (set target (m .got) x) after
     gets p q n o f low =
         record {
-          stay-64 = g .stay-64;
-          target-64 = length-set target (m .got) x ∙ g .target-64;
+          stay-long = g .stay-long;
+          target-long = length-set target (m .got) x ∙ g .target-long;
           place-within = (q, g .place-within .1);
           next-within = (o, g .next-within .1);
           stays = omega (arith, g .stays);
@@ -219,14 +219,14 @@ module _ (e : Edge) {keys : List ℕ} {capacity to end : ℕ} {stay target : Lis
   unfolding outcome standing
   keeps t r stay′ r-is stay-is =
       let f = g .stays in
-      let l = g .stay-64 in
+      let l = g .stay-long in
       let h : m .kept < length stay = omega arith in
       rw (r-is, stay-is)
       (record {
         going =
             record {
-              stay-64 = length-set stay (m .kept) (m .place) ∙ g .stay-64;
-              target-64 = g .target-64;
+              stay-long = length-set stay (m .kept) (m .place) ∙ g .stay-long;
+              target-long = g .target-long;
               place-within = (omega arith, g .place-within .1);
               next-within = g .next-within;
               stays = omega arith;

@@ -26,8 +26,8 @@ outcome keys capacity e to end stay target m =
 
 -- A merge under way: the node's places from the next up to `to`, and the target's from its next up to `end`, are still to be walked through.
 pub record Going (keys : List ℕ) (capacity to end : ℕ) (stay target : List ℕ) (m : Merge) : Type 0 where
-  pub stay-64 : length stay ≡ width
-  pub target-64 : length target ≡ width
+  pub stay-long : length stay ≡ width
+  pub target-long : length target ≡ width
   pub place-within : (m .place ≤ to) × (to ≤ places)
   pub next-within : (m .next ≤ end) × (end ≤ places)
   -- there is room for all that may stay, and for all that the target may have

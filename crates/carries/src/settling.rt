@@ -3,7 +3,7 @@ ghost use mathlib.Core.Path.{_≡_};
 ghost use Prim.Native.Nat.{_-_, _≤_};
 ghost use lib.ListN.{length};
 ghost use Rattle.plan.specs.PlanRules.{IsEdge};
-ghost use Rattle.plan.specs.PlanTable.{planOf};
+ghost use Rattle.plan.specs.PlanTable.{planNumbered};
 ghost use Rattle.store.specs.Answers.{DONE, answer};
 ghost use Rattle.store.specs.Layout.{width};
 ghost use Rattle.store.specs.Workers.{Sized, ofParts};
@@ -73,7 +73,7 @@ fn along(
     node: u32,
     edge: u32,
 ) -> Settled
-    requires { ⌜ OfGood plan (now counts) (now keys) × IsEdge (planOf plan) node edge × (length (now stay) ≡ width) × (length (now target) ≡ width) ⌝ }
+    requires { ⌜ OfGood plan (now counts) (now keys) × IsEdge (planNumbered plan) node edge × (length (now stay) ≡ width) × (length (now target) ≡ width) ⌝ }
     ensures { λ r. ⌜ SettlesIn plan (now (counts .entry)) (now (keys .entry)) node edge (now (stay .exit)) (now (target .exit)) r ⌝ }
 {
     let e = plan::edge_at(plan, node, edge);

@@ -12,14 +12,13 @@ use lib.Seq.{set-getD}
 use borrow.Author.Tests.{lt-ltb, le-ltb}
 use Rattle.lists.proofs.Inserting.{length-put-in}
 use Rattle.plan.specs.Plan.{Plan, capacityOf}
-use Rattle.plan.specs.PlanTable.{planOf}
 use Rattle.store.specs.declared.Answer.{Answer}
 use Rattle.store.specs.declared.Copy.{Copy}
 use Rattle.store.specs.declared.Store.{Store}
 use Rattle.store.specs.Answers.{DONE, BADSTORE, CLOCK, FULL, answer, bare}
 use Rattle.store.specs.Copies.{copy, noCopy, keyOf, find}
 use Rattle.store.specs.State.{State, nodeAt, lastClock}
-use Rattle.store.specs.Layout.{width, countOf, stateOf, column}
+use Rattle.store.specs.Layout.{planOf, planOf, width, countOf, stateOf, column}
 use Rattle.store.specs.StoreRules.{goodStore}
 use Rattle.store.specs.Calls.{onStore}
 use Rattle.store.specs.Workers.{below, placeIn, RisesIn, opened}
@@ -103,7 +102,7 @@ module _ (kind k v : ℕ) (p : Plan) (s : State) where
 
 module _ (z : Store) (good : goodStore z ≡ true) where
   abbrev p : Plan
-  p = planOf (z .plan)
+  p = planOf z
 
   abbrev s : State
   s = stateOf z
@@ -129,7 +128,7 @@ module _ (z : Store) (good : goodStore z ≡ true) where
 
   -- A place that is free by the root's capacity is one of its places.
   has-place : (most : ℕ) → most ≡ capacityOf p 0 → countOf z 0 < most → countOf z 0 < width
-  has-place most e h = omega (arith, plan-good z good .capacity-1-to-64 0 (root-there z good))
+  has-place most e h = omega (arith, plan-good z good .capacity-within 0 (root-there z good))
 
   -- "CLOCK: entry at clock 4294967295"
   pub decides-late : (key : ℕ) (d : Decision) → lastClock ≤ z .clock → d ≡ refusal CLOCK (countOf z 0) (z .clock) → Decides z key d

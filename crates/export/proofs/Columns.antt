@@ -79,11 +79,11 @@ pub sized : (h : Store) → Is S.the-row h (store-val h ∷ [])
 sized h is =
     let are = LL.owed S.the-type S′.the-laws h _ is in
     record {
-      counts-8 = are .1 .1 .0 .1 .0 .1;
-      keys-512 = are .1 .1 .1 .0 .1 .0 .1;
-      kinds-512 = are .1 .1 .1 .1 .0 .1 .0 .1;
-      values-512 = are .1 .1 .1 .1 .1 .0 .1 .0 .1;
-      stamps-512 = are .1 .1 .1 .1 .1 .1 .0 .1 .0 .1;
+      counts-long = are .1 .1 .0 .1 .0 .1;
+      keys-long = are .1 .1 .1 .0 .1 .0 .1;
+      kinds-long = are .1 .1 .1 .1 .0 .1 .0 .1;
+      values-long = are .1 .1 .1 .1 .1 .0 .1 .0 .1;
+      stamps-long = are .1 .1 .1 .1 .1 .1 .0 .1 .0 .1;
     }
 
 -- Its slots lie there field by field; they are the slots.

@@ -12,7 +12,7 @@ use Rattle.lists.proofs.Running.{length-run, getD-run-0}
 use Rattle.number.specs.Number.{form}
 use Rattle.number.proofs.Forms.{form-length}
 use Rattle.plan.specs.Plan.{size}
-use Rattle.plan.specs.PlanTable.{planOf}
+use Rattle.plan.specs.PlanTable.{planNumbered}
 use Rattle.store.specs.declared.Copy.{Copy}
 use Rattle.store.specs.Copies.{RESULT}
 use Rattle.store.specs.Layout.{width, nodeIn}
@@ -131,12 +131,12 @@ image-length plan s =
     omega (arith, length-append format (number ++ (clock ++ nodes)), length-append number (clock ++ nodes), length-append clock nodes)
 
 -- The bytes of its head and of its nodes.
-module _ (plan clock : ℕ) (counts : List ℕ) (columns : Columns) {nodes a b c d : ℕ} (n : nodes ≡ size (planOf plan)) (f : a ≡ length (form formatNumber))
+module _ (plan clock : ℕ) (counts : List ℕ) (columns : Columns) {nodes a b c d : ℕ} (n : nodes ≡ size (planNumbered plan)) (f : a ≡ length (form formatNumber))
     (p : b ≡ length (form plan)) (k : c ≡ length (form clock)) (r : d ≡ length (nodesBytes (nodesIn nodes counts columns))) where
   pub image-adds : a + b + c + d ≡ length (imageIn plan clock counts columns)
   image-adds =
-      let q : d ≡ length (nodesBytes (nodesIn (size (planOf plan)) counts columns)) = rw n at r in
-      omega (arith, image-length plan (record { clock = clock; nodes = nodesIn (size (planOf plan)) counts columns; slots = [] }))
+      let q : d ≡ length (nodesBytes (nodesIn (size (planNumbered plan)) counts columns)) = rw n at r in
+      omega (arith, image-length plan (record { clock = clock; nodes = nodesIn (size (planNumbered plan)) counts columns; slots = [] }))
 
   -- They are few.
   pub image-adds-few : planNumberTest plan ≡ true → WithinPlaces counts → a + b + c + d ≤ 10295

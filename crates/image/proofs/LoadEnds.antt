@@ -10,7 +10,7 @@ use lib.Seq.{drop-cons}
 use borrow.Author.Tests.{lt-ltb, le-ltb}
 use Rattle.lists.proofs.Running.{length-run}
 use Rattle.plan.specs.Sizes.{mostNodes}
-use Rattle.plan.specs.PlanTable.{planTable, plans, planOf}
+use Rattle.plan.specs.PlanTable.{planTable, plans, planNumbered}
 use Rattle.store.specs.declared.Answer.{Answer}
 use Rattle.store.specs.declared.Copy.{Copy}
 use Rattle.store.specs.declared.Outcome.{Outcome}
@@ -112,7 +112,7 @@ empty-columns =
 
 -- ---- load_nodes
 
-module _ (s : List ℕ) (plan clock at : ℕ) {r : Num} {counts : List ℕ} {c : Columns} (l : LaysNodes (nodesAt s (planOf plan) at) r counts c) where
+module _ (s : List ℕ) (plan clock at : ℕ) {r : Num} {counts : List ℕ} {c : Columns} (l : LaysNodes (nodesAt s (planNumbered plan) at) r counts c) where
   -- A node cannot be read.
   pub nodes-refused : r .ok ≡ false → refusedLoad (r .fault) (r .at) ≡ finished s (nodesFrom s plan clock at)
   unfolding nodesFrom
@@ -137,11 +137,11 @@ module _ (s : List ℕ) (plan clock at : ℕ) {r : Num} {counts : List ℕ} {c :
         let e = ending-got _ _ (num-got _ (l .ends) h) in
         let columns-are = l .columns-are (e .0) (r .at) (e .1) in
         record {
-          counts-8 = ap length (l .counts-are (e .0) (r .at) (e .1)) ∙ length-run _ 0 mostNodes;
-          keys-512 = ap (λ (d : Columns). length (d .keys)) columns-are ∙ length-column (λ (x : Copy). x .key) (e .0);
-          kinds-512 = ap (λ (d : Columns). length (d .kinds)) columns-are ∙ length-column (λ (x : Copy). x .kind) (e .0);
-          values-512 = ap (λ (d : Columns). length (d .values)) columns-are ∙ length-column (λ (x : Copy). x .value) (e .0);
-          stamps-512 = ap (λ (d : Columns). length (d .stamps)) columns-are ∙ length-column (λ (x : Copy). x .stamp) (e .0);
+          counts-long = ap length (l .counts-are (e .0) (r .at) (e .1)) ∙ length-run _ 0 mostNodes;
+          keys-long = ap (λ (d : Columns). length (d .keys)) columns-are ∙ length-column (λ (x : Copy). x .key) (e .0);
+          kinds-long = ap (λ (d : Columns). length (d .kinds)) columns-are ∙ length-column (λ (x : Copy). x .kind) (e .0);
+          values-long = ap (λ (d : Columns). length (d .values)) columns-are ∙ length-column (λ (x : Copy). x .value) (e .0);
+          stamps-long = ap (λ (d : Columns). length (d .stamps)) columns-are ∙ length-column (λ (x : Copy). x .stamp) (e .0);
         }
 
 -- ---- load_in

@@ -12,7 +12,7 @@ use borrow.Author.Tests.{lt-ltb, le-ltb, ltb-true}
 use Rattle.lists.proofs.Truths.{both-le}
 use Rattle.plan.specs.Sizes.{mostNodes}
 use Rattle.plan.specs.Plan.{Plan, noNode, size, capacityOf}
-use Rattle.plan.specs.PlanTable.{planOf, plans}
+use Rattle.plan.specs.PlanTable.{planNumbered, plans}
 use Rattle.plan.proofs.TableLaws.{table-rules}
 use Rattle.store.specs.declared.Copy.{Copy}
 use Rattle.store.specs.Answers.{RULE}
@@ -119,16 +119,16 @@ module _ (s : List ℕ) (capacity at : ℕ) (before : Columns) (from : ℕ) (aft
 -- ---- read_nodes
 
 -- A plan's nodes are no more than a store has, and their capacities no more than their places.
-pub plan-few : (plan : ℕ) → planNumberTest plan ≡ true → size (planOf plan) ≤ mostNodes
+pub plan-few : (plan : ℕ) → planNumberTest plan ≡ true → size (planNumbered plan) ≤ mostNodes
 unfolding planNumberTest
-plan-few plan t = let b = both-le 1 plan plan plans t in table-rules plan (b .0) (b .1) .two-to-eight-nodes .1
+plan-few plan t = let b = both-le 1 plan plan plans t in table-rules plan (b .0) (b .1) .nodes-within .1
 
-pub plan-fits : (plan n : ℕ) → planNumberTest plan ≡ true → n < size (planOf plan) → (n < mostNodes) × (capacityOf (planOf plan) n ≤ width)
+pub plan-fits : (plan n : ℕ) → planNumberTest plan ≡ true → n < size (planNumbered plan) → (n < mostNodes) × (capacityOf (planNumbered plan) n ≤ width)
 unfolding planNumberTest
 plan-fits plan n t h =
     let b = both-le 1 plan plan plans t in
     let r = table-rules plan (b .0) (b .1) in
-    (omega (arith, plan-few plan t), r .capacity-1-to-64 n h .1)
+    (omega (arith, plan-few plan t), r .capacity-within n h .1)
 
 -- The nodes read so far, in their places, and what is left to read.
 pub record Sofar (s : List ℕ) (p : Plan) (at n : ℕ) (counts : List ℕ) (c : Columns) (next : ℕ) : Type 0 where

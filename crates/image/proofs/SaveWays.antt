@@ -36,7 +36,7 @@ module _ (z : Store) (good : goodStore z ≡ true) where
   -- What a good store gives the length and the writing of its image.
   pub good-plan : planNumberTest (z .plan) ≡ true
   unfolding planNumberTest
-  good-plan = let r = good-rules z good .plan-1-to-3 in le-both 1 (z .plan) (z .plan) plans (r .0) (r .1)
+  good-plan = let r = good-rules z good .plan-known in le-both 1 (z .plan) (z .plan) plans (r .0) (r .1)
 
   pub good-within : WithinPlaces (z .counts)
   good-within n = go (decLt n mostNodes)
@@ -47,7 +47,7 @@ module _ (z : Store) (good : goodStore z ≡ true) where
       go : Dec (n < mostNodes) → getD (z .counts) n 0 ≤ width
       go (yes h) = omega (arith, every-count z rules n h, node-fits (plan-good z good) (rules .state-rules) n)
       go (no h) =
-          let e : getD (z .counts) n 0 ≡ 0 = List·getD-eq-default (z .counts) 0 (omega (arith, rules .shape .counts-8)) in
+          let e : getD (z .counts) n 0 ≡ 0 = List·getD-eq-default (z .counts) 0 (omega (arith, rules .shape .counts-long)) in
           omega arith
 
   module _ (before : List ℕ) {needed : ℕ} (e : needed ≡ length (imageIn (z .plan) (z .clock) (z .counts) (columnsIn z))) where

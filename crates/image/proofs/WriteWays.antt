@@ -11,7 +11,7 @@ use Rattle.lists.proofs.Running.{length-run}
 use Rattle.lists.proofs.Standing.{wrote-nil, wrote-join, fits-left, fits-right}
 use Rattle.number.specs.Number.{form}
 use Rattle.plan.specs.Plan.{size}
-use Rattle.plan.specs.PlanTable.{planOf}
+use Rattle.plan.specs.PlanTable.{planNumbered}
 use Rattle.store.specs.declared.Copy.{Copy}
 use Rattle.store.specs.Copies.{RESULT}
 use Rattle.wire.proofs.Parts.{Writes, write-begins}
@@ -121,7 +121,7 @@ module _ (f : ℕ → Copy) (from count : ℕ) (before : List ℕ) (at : ℕ) (h
 
 module _ (plan clock : ℕ) (counts : List ℕ) (columns : Columns) (before : List ℕ) (h : length (imageIn plan clock counts columns) ≤ length before) where
   abbrev nodes : List ℕ
-  nodes = nodesBytes (nodesIn (size (planOf plan)) counts columns)
+  nodes = nodesBytes (nodesIn (size (planNumbered plan)) counts columns)
 
   whole-fits : 0 + length (form formatNumber ++ (form plan ++ (form clock ++ nodes))) ≤ length before
   unfolding imageOf
@@ -144,7 +144,7 @@ module _ (plan clock : ℕ) (counts : List ℕ) (columns : Columns) (before : Li
       pub clock-fits : b + length (form clock) ≤ length b2
       clock-fits = fits-left b (form clock) nodes after-plan
 
-      module _ {c : ℕ} {b3 : List ℕ} (w3 : Wrote b2 b (form clock) c b3) {count : ℕ} (n : count ≡ size (planOf plan)) where
+      module _ {c : ℕ} {b3 : List ℕ} (w3 : Wrote b2 b (form clock) c b3) {count : ℕ} (n : count ≡ size (planNumbered plan)) where
         pub nodes-fit : c + length (nodesBytes (nodesIn count counts columns)) ≤ length b3
         nodes-fit = rw n (fits-right (form clock) nodes after-plan w3)
 

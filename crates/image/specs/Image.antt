@@ -53,5 +53,5 @@ lastValue = 4294967295
 
 -- A store of the declared type: its keys and values have 32 bits. (Its other numbers have them by the store rules.)
 pub record Declared (z : Store) : Type 0 where
-  pub keys-32 : (i : ℕ) → getD (z .keys) i 0 ≤ lastKey
-  pub values-32 : (i : ℕ) → getD (z .values) i 0 ≤ lastValue
+  pub keys-fit : (i : ℕ) → getD (z .keys) i 0 ≤ lastKey
+  pub values-fit : (i : ℕ) → getD (z .values) i 0 ≤ lastValue

@@ -7,7 +7,7 @@ use Prim.Native.Nat.{ℕ, zero, suc, _+_}
 use lib.Dec.{ltb, eqb}
 use lib.ListN.{length, replicate}
 use Rattle.plan.specs.Plan.{Plan}
-use Rattle.plan.specs.PlanTable.{planOf}
+use Rattle.plan.specs.PlanTable.{planNumbered}
 use Rattle.store.specs.declared.Copy.{Copy}
 use Rattle.store.specs.declared.Outcome.{Outcome}
 use Rattle.store.specs.declared.Store.{Store}
@@ -63,7 +63,7 @@ loaded clock ns = record { clock = clock; nodes = ns; slots = replicate slotCoun
 
 -- After the head the nodes; they make the store.
 unfoldable pub nodesFrom : List ℕ → ℕ → ℕ → ℕ → Got Store
-nodesFrom s plan clock at = bind (nodesAt s (planOf plan) at) λ ns end. got (storeOf plan (loaded clock ns)) end
+nodesFrom s plan clock at = bind (nodesAt s (planNumbered plan) at) λ ns end. got (storeOf plan (loaded clock ns)) end
 
 -- The clock, RULE for 0, and what follows it.
 unfoldable pub clockFrom : List ℕ → ℕ → ℕ → Got Store

@@ -8,7 +8,7 @@ use lib.Seq.{sets}
 use Rattle.lists.specs.Runs.{run}
 use Rattle.plan.specs.Sizes.{mostNodes}
 use Rattle.plan.specs.Plan.{size}
-use Rattle.plan.specs.PlanTable.{planOf}
+use Rattle.plan.specs.PlanTable.{planNumbered}
 use Rattle.store.specs.declared.Copy.{Copy}
 use Rattle.store.specs.declared.Outcome.{Outcome}
 use Rattle.store.specs.declared.Slot.{Slot}
@@ -110,7 +110,7 @@ nodesIn size counts c = run 0 size (nodeIn counts (c .keys) (c .kinds) (c .value
 
 -- The image of the store with this plan, clock, counts and columns.
 abbrev pub imageIn : ℕ → ℕ → List ℕ → Columns → List ℕ
-imageIn plan clock counts c = imageOf plan (record { clock = clock; nodes = nodesIn (size (planOf plan)) counts c; slots = [] })
+imageIn plan clock counts c = imageOf plan (record { clock = clock; nodes = nodesIn (size (planNumbered plan)) counts c; slots = [] })
 
 -- No node holds more than its places.
 abbrev pub WithinPlaces : List ℕ → Type 0

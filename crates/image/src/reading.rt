@@ -5,7 +5,7 @@ ghost use mathlib.Core.List.{[]};
 ghost use Prim.Native.Nat.{_+_, _-_, _*_, _≤_, _<_};
 ghost use lib.ListN.{length};
 ghost use Rattle.plan.specs.Sizes.{mostNodes};
-ghost use Rattle.plan.specs.PlanTable.{planOf};
+ghost use Rattle.plan.specs.PlanTable.{planNumbered};
 ghost use Rattle.store.specs.Layout.{width, places};
 ghost use Rattle.store.specs.StoreRules.{planNumberTest};
 ghost use Rattle.wire.specs.Reading.{fault, numOf};
@@ -198,7 +198,7 @@ pub fn read_nodes(
     at: usize,
 ) -> Num
     requires { ⌜ (planNumberTest plan ≡ true) × (now counts ≡ countsOf []) × (columns (now keys) (now kinds) (now values) (now stamps) ≡ columnsOf []) ⌝ }
-    ensures { λ r. ⌜ LaysNodes (nodesAt (now (bytes .entry)) (planOf plan) at) r (now (counts .exit)) (columns (now (keys .exit)) (now (kinds .exit)) (now (values .exit)) (now (stamps .exit))) ⌝ }
+    ensures { λ r. ⌜ LaysNodes (nodesAt (now (bytes .entry)) (planNumbered plan) at) r (now (counts .exit)) (columns (now (keys .exit)) (now (kinds .exit)) (now (values .exit)) (now (stamps .exit))) ⌝ }
 {
     let nodes = plan::nodes(plan);
     let mut next = at;

@@ -32,7 +32,7 @@ lines-counted r = length-run (lineIn (r .analytes) (r .values) (r .stamps)) 0 (r
 -- Each column has room for all lines.
 pub record Roomy (r : Lines) : Type 0 where
   pub analytes-32 : length (r .analytes) ≡ analytes
-  pub values-32 : length (r .values) ≡ analytes
+  pub values-fit : length (r .values) ≡ analytes
   pub stamps-32 : length (r .stamps) ≡ analytes
 
 -- A line stored behind the others is one line more.
@@ -50,7 +50,7 @@ module _ (r : Lines) (analyte value stamp : ℕ) (room : Roomy r) where
   room-added =
       record {
         analytes-32 = length-set (r .analytes) (r .count) analyte ∙ room .analytes-32;
-        values-32 = length-set (r .values) (r .count) value ∙ room .values-32;
+        values-fit = length-set (r .values) (r .count) value ∙ room .values-fit;
         stamps-32 = length-set (r .stamps) (r .count) stamp ∙ room .stamps-32;
       }
 
@@ -63,7 +63,7 @@ module _ (r : Lines) (analyte value stamp : ℕ) (room : Roomy r) where
       let here : new n ≡ line analyte value stamp =
       rw (
         getD-set-same (r .analytes) n analyte 0 (omega (arith, room .analytes-32)),
-        getD-set-same (r .values) n value 0 (omega (arith, room .values-32)),
+        getD-set-same (r .values) n value 0 (omega (arith, room .values-fit)),
         getD-set-same (r .stamps) n stamp 0 (omega (arith, room .stamps-32)),
       )
       in

@@ -18,14 +18,14 @@ use Rattle.lists.proofs.Truths.{bool?}
 use Rattle.plan.specs.Sizes.{mostNodes}
 use Rattle.plan.specs.Plan.{size}
 use Rattle.plan.specs.PlanRules.{PlanRules}
-use Rattle.plan.specs.PlanTable.{planOf}
+use Rattle.plan.specs.PlanTable.{planNumbered}
 use Rattle.plan.proofs.TableLaws.{table-rules}
 use Rattle.store.specs.declared.Copy.{Copy}
 use Rattle.store.specs.declared.Store.{Store}
 use Rattle.store.specs.Copies.{noCopy, keyOf, find}
 use Rattle.store.specs.State.{line, orElse, firstOn}
 use Rattle.store.specs.StateRules.{HeldAt, OnPath}
-use Rattle.store.specs.Layout.{width, places, copyIn, copyOf, countOf, nodeIn, stateOf}
+use Rattle.store.specs.Layout.{planOf, planOf, planOf, width, places, copyIn, copyOf, countOf, nodeIn, stateOf}
 use Rattle.store.specs.StoreRules.{goodStore}
 use Rattle.store.specs.Workers.{numberIn, itself, holding}
 use Rattle.store.proofs.Seeking.{find-run}
@@ -76,7 +76,7 @@ laid-at counts keys node sample at a h =
     analytes a 0 h
 
 -- A node's line is the copy at the place that is found.
-node-line : (z : Store) (k n : ℕ) → n < size (planOf (z .plan))
+node-line : (z : Store) (k n : ℕ) → n < size (planOf z)
     → line (stateOf z) k n ≡ Option·map (copyOf z) (find (numberIn (z .keys)) (run (width * n) (countOf z n) itself) k)
 unfolding nodeIn
 node-line z k n h = line-looked z k n h ∙ find-run keyOf noCopy (copyOf z) (width * n) (countOf z n) k
@@ -87,25 +87,25 @@ module _ (plan : ℕ) (counts keys : List ℕ) (sample : ℕ) where
     pub long : length at ≡ analytes
     pub lowest : (kinds values stamps : List ℕ) (a : ℕ) → a < analytes
         → copyThere keys kinds values stamps (getD at a 0)
-        ≡ firstOn (line (stateIn plan counts keys kinds values stamps) (keyFor sample a)) (run node (size (planOf plan) - node) itself)
+        ≡ firstOn (line (stateIn plan counts keys kinds values stamps) (keyFor sample a)) (run node (size (planNumbered plan) - node) itself)
 
   -- At first no node is,
-  pub nodes-start : (node : ℕ) → node ≡ size (planOf plan) → LaidFrom node (replicate analytes places)
+  pub nodes-start : (node : ℕ) → node ≡ size (planNumbered plan) → LaidFrom node (replicate analytes places)
   unfolding firstOn
   nodes-start node e =
       record {
         long = length-replicate analytes places;
         lowest = λ kinds values stamps a h.
             ap (copyThere keys kinds values stamps) (getD-replicate analytes a places 0 h)
-            ∙ rw (run-off itself node (size (planOf plan)) (omega arith));
+            ∙ rw (run-off itself node (size (planNumbered plan)) (omega arith));
       }
 
   module _ (asked : Pageable plan counts keys) where
-    rules : PlanRules (planOf plan)
+    rules : PlanRules (planNumbered plan)
     rules = table-rules plan (asked .lookable .known .0) (asked .lookable .known .1)
 
     -- a turn lays one more,
-    pub nodes-turn : (later node : ℕ) → later ≡ suc node → node < size (planOf plan) → (at now : List ℕ)
+    pub nodes-turn : (later node : ℕ) → later ≡ suc node → node < size (planNumbered plan) → (at now : List ℕ)
         → now ≡ laidOver counts keys node sample at → LaidFrom later at → LaidFrom node now
     unfolding firstOn
     nodes-turn later node l h at now e g =
@@ -113,10 +113,10 @@ module _ (plan : ℕ) (counts keys : List ℕ) (sample : ℕ) where
       where
         turn : (kinds values stamps : List ℕ) (a : ℕ) → a < analytes
             → copyThere keys kinds values stamps (getD now a 0)
-            ≡ firstOn (line (stateIn plan counts keys kinds values stamps) (keyFor sample a)) (run node (size (planOf plan) - node) itself)
+            ≡ firstOn (line (stateIn plan counts keys kinds values stamps) (keyFor sample a)) (run node (size (planNumbered plan) - node) itself)
         turn kinds values stamps a q =
             rw (
-              run-on itself node (size (planOf plan)) h,
+              run-on itself node (size (planNumbered plan)) h,
               e,
               laid-at counts keys node sample at a q,
               node-line (holding plan 0 counts keys kinds values stamps) (keyFor sample a) node h,
@@ -127,28 +127,28 @@ module _ (plan : ℕ) (counts keys : List ℕ) (sample : ℕ) where
                 → copyThere keys kinds values stamps (placeOver (getD at a 0) o)
                 ≡ orElse (Option·map (copyIn keys kinds values stamps) o)
                 (firstOn (line (stateIn plan counts keys kinds values stamps) (keyFor sample a))
-                (run (suc node) (size (planOf plan) - suc node) itself))
+                (run (suc node) (size (planNumbered plan) - suc node) itself))
             go none d = rw l at (g .lowest kinds values stamps a q)
             go (some j) d =
                 let w = find-place (numberIn keys) (getD counts node 0) (width * node) (keyFor sample a) j d in
-                let m : node < mostNodes = omega (arith, rules .two-to-eight-nodes) in
+                let m : node < mostNodes = omega (arith, rules .nodes-within) in
                 rw (lt-ltb j places (omega (arith, w .high, asked .lookable .ordered node m .fits)))
 
     -- each line having copies on its key's path alone,
     on : (kinds values stamps : List ℕ) (k n : ℕ) (x : Copy) → line (stateIn plan counts keys kinds values stamps) k n ≡ some x
-        → (above : ℕ) × OnPath (planOf plan) k n above
+        → (above : ℕ) × OnPath (planNumbered plan) k n above
     unfolding find
-    on kinds values stamps k n x e = go (decLt n (size (planOf plan)))
+    on kinds values stamps k n x e = go (decLt n (size (planNumbered plan)))
       where
-        found : n < size (planOf plan) → (o : Option ℕ) → find (numberIn keys) (run (width * n) (getD counts n 0) itself) k ≡ o
-            → Option·map (copyIn keys kinds values stamps) o ≡ some x → (above : ℕ) × OnPath (planOf plan) k n above
+        found : n < size (planNumbered plan) → (o : Option ℕ) → find (numberIn keys) (run (width * n) (getD counts n 0) itself) k ≡ o
+            → Option·map (copyIn keys kinds values stamps) o ≡ some x → (above : ℕ) × OnPath (planNumbered plan) k n above
         found h none q r = absurd (not-none-and-some refl r)
         found h (some j) q r =
             let w = find-place (numberIn keys) (getD counts n 0) (width * n) k j q in
             let i : width * n + (j - width * n) ≡ j = omega (arith, w .low) in
             rw (i, w .key) at (asked .on-paths n (j - width * n) h (omega (arith, w .low, w .high)))
 
-        go : Dec (n < size (planOf plan)) → (above : ℕ) × OnPath (planOf plan) k n above
+        go : Dec (n < size (planNumbered plan)) → (above : ℕ) × OnPath (planNumbered plan) k n above
         go (yes h) =
             found h (find (numberIn keys) (run (width * n) (getD counts n 0) itself) k) refl
             (sym (node-line (holding plan 0 counts keys kinds values stamps) k n h) ∙ e)
@@ -160,17 +160,17 @@ module _ (plan : ℕ) (counts keys : List ℕ) (sample : ℕ) where
     -- and with the root all are.
     pub nodes-end : (at : List ℕ) → LaidFrom 0 at → CurrentAt plan counts keys sample at
     nodes-end at g kinds values stamps a h =
-        let m : size (planOf plan) - 0 ≡ size (planOf plan) = omega arith in
+        let m : size (planNumbered plan) - 0 ≡ size (planNumbered plan) = omega arith in
         let k = keyFor sample a in
         let lowest = rw m at (g .lowest kinds values stamps a h) in
-        lowest ∙ current-lowest (planOf plan) rules (stateIn plan counts keys kinds values stamps) k (on kinds values stamps k)
+        lowest ∙ current-lowest (planNumbered plan) rules (stateIn plan counts keys kinds values stamps) k (on kinds values stamps k)
 
 -- A good store's columns have what is asked for.
 pub good-pageable : (z : Store) → goodStore z ≡ true → Pageable (z .plan) (z .counts) (z .keys)
 good-pageable z good = record { lookable = good-lookable z good; on-paths = on }
   where
-    on : (n i : ℕ) → n < size (planOf (z .plan)) → i < countOf z n
-        → (above : ℕ) × OnPath (planOf (z .plan)) (numberIn (z .keys) (width * n + i)) n above
+    on : (n i : ℕ) → n < size (planOf z) → i < countOf z n
+        → (above : ℕ) × OnPath (planOf z) (numberIn (z .keys) (width * n + i)) n above
     on n i h g =
         let held : HeldAt (stateOf z) n i = omega (arith, state-count z n h) in
         rw (state-copy z n i h g) at (state-good z good .copies-on-their-paths n i held)

@@ -12,12 +12,11 @@ use borrow.Author.Tests.{le-leb, lt-leb}
 use Rattle.lists.specs.Stands.{Wrote}
 use Rattle.lists.proofs.Standing.{wrote-length}
 use Rattle.lists.proofs.Truths.{bool?, and-right}
-use Rattle.plan.specs.PlanTable.{planOf}
 use Rattle.store.specs.declared.Answer.{Answer}
 use Rattle.store.specs.declared.Store.{Store}
 use Rattle.store.specs.Answers.{DONE, BADSTORE, SMALL, SAMPLE, answer, bare}
 use Rattle.store.specs.State.{inReach}
-use Rattle.store.specs.Layout.{stateOf}
+use Rattle.store.specs.Layout.{planOf, planOf, planOf, stateOf}
 use Rattle.store.specs.StoreRules.{goodStore}
 use Rattle.store.specs.Workers.{holding}
 use Rattle.wire.proofs.Buffers.{small-answer, small-buffer, done-answer, done-front, done-wrote, wrote-end}
@@ -37,14 +36,14 @@ pub record Holds (page : List ℕ) (n : ℕ) (scratch : List ℕ) : Type 0 where
 
 -- The store of the lent columns has the same pages.
 lent-page : (z : Store) (sample : ℕ)
-    → pageOf (planOf (z .plan)) (stateOf (holding (z .plan) 0 (z .counts) (z .keys) (z .kinds) (z .values) (z .stamps))) sample ≡ pageNow z sample
+    → pageOf (planOf z) (stateOf (holding (z .plan) 0 (z .counts) (z .keys) (z .kinds) (z .values) (z .stamps))) sample ≡ pageNow z sample
 unfolding stateOf inReach
 lent-page z sample =
-    same-page (planOf (z .plan)) (stateOf z) (stateOf (holding (z .plan) 0 (z .counts) (z .keys) (z .kinds) (z .values) (z .stamps))) (λ k. refl) sample
+    same-page (planOf z) (stateOf z) (stateOf (holding (z .plan) 0 (z .counts) (z .keys) (z .kinds) (z .values) (z .stamps))) (λ k. refl) sample
 
 -- A page as it is now that was written into a scratch with room for the longest is held there.
 pub page-held : (z : Store) (sample : ℕ) {before : List ℕ} {n : ℕ} {after : List ℕ} → sample ≤ lastSample → mostPageBytes ≤ length before
-    → Wrote before 0 (pageOf (planOf (z .plan)) (stateOf (holding (z .plan) 0 (z .counts) (z .keys) (z .kinds) (z .values) (z .stamps))) sample) n after
+    → Wrote before 0 (pageOf (planOf z) (stateOf (holding (z .plan) 0 (z .counts) (z .keys) (z .kinds) (z .values) (z .stamps))) sample) n after
     → Holds (pageNow z sample) n after
 page-held z sample {before} {n} {after} small room wrote = record { long = wrote-end w; begin = front; room = omega (arith, wrote-end w, wrote-length w, fits) }
   where
@@ -52,7 +51,7 @@ page-held z sample {before} {n} {after} small room wrote = record { long = wrote
     w = rw (lent-page z sample) at wrote
 
     fits : length (pageNow z sample) ≤ length before
-    fits = omega (arith, page-length (planOf (z .plan)) (stateOf z) sample small)
+    fits = omega (arith, page-length (planOf z) (stateOf z) sample small)
 
     front : take n after ≡ pageNow z sample
     front = ap₂ (λ (m : ℕ) (l : List ℕ). take m l) (wrote-end w) (done-wrote (pageNow z sample) before fits w) ∙ done-front (pageNow z sample) before fits
@@ -123,7 +122,7 @@ module _ (z : Store) (sample : ℕ) (kept notice : RefT (List ℕ)) {n : ℕ} (t
   none-stale : n ≡ 0 → stillTrue z sample (kept .now) ≡ false
   none-stale e =
       ⊎-elim
-      (λ (f : stillTrue z sample (kept .now) ≡ true). absurd (omega (arith, e, told, length-page z sample (kept .now) f, page-some (planOf (z .plan)) (stateOf z) sample)))
+      (λ (f : stillTrue z sample (kept .now) ≡ true). absurd (omega (arith, e, told, length-page z sample (kept .now) f, page-some (planOf z) (stateOf z) sample)))
       (λ (f : stillTrue z sample (kept .now) ≡ false). f) (bool? (stillTrue z sample (kept .now)))
 
   some-true : 0 < n → stillTrue z sample (kept .now) ≡ true

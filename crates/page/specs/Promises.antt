@@ -6,18 +6,17 @@ use Prim.Native.Nat.{ℕ}
 use lib.Dec.{leb}
 use lib.ListN.{length, take}
 use denote.Ref.{RefT}
-use Rattle.plan.specs.PlanTable.{planOf}
 use Rattle.store.specs.declared.Answer.{Answer}
 use Rattle.store.specs.declared.Store.{Store}
 use Rattle.store.specs.Answers.{BADSTORE, SAMPLE, bare}
-use Rattle.store.specs.Layout.{stateOf}
+use Rattle.store.specs.Layout.{planOf, planOf, planOf, stateOf}
 use Rattle.store.specs.StoreRules.{goodStore}
 use Rattle.wire.specs.Writing.{writtenAnswer, writtenBuffer}
 use Rattle.page.specs.Page.{lastSample, pageOf, begins}
 
 -- The sample's page as the store is now.
 abbrev pub pageNow : Store → ℕ → List ℕ
-pageNow z sample = pageOf (planOf (z .plan)) (stateOf z) sample
+pageNow z sample = pageOf (planOf z) (stateOf z) sample
 
 -- BADSTORE, SAMPLE, SMALL with the bytes needed, or DONE with the bytes written.
 unfoldable pub pageAnswer : Store → ℕ → List ℕ → Answer

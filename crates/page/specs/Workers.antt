@@ -8,7 +8,7 @@ use lib.Dec.{ltb}
 use lib.ListN.{getD}
 use Rattle.lists.specs.Runs.{run}
 use Rattle.plan.specs.Plan.{size}
-use Rattle.plan.specs.PlanTable.{planOf}
+use Rattle.plan.specs.PlanTable.{planNumbered}
 use Rattle.store.specs.declared.Copy.{Copy}
 use Rattle.store.specs.Copies.{find}
 use Rattle.store.specs.State.{State, current}
@@ -24,7 +24,7 @@ use Rattle.page.specs.Page.{analytes, keyFor, Line}
 pub record Pageable (plan : ℕ) (counts keys : List ℕ) : Type 0 where
   pub lookable : Lookable plan counts keys
   pub on-paths :
-      (n i : ℕ) → n < size (planOf plan) → i < getD counts n 0 → (above : ℕ) × OnPath (planOf plan) (numberIn keys (width * n + i)) n above
+      (n i : ℕ) → n < size (planNumbered plan) → i < getD counts n 0 → (above : ℕ) × OnPath (planNumbered plan) (numberIn keys (width * n + i)) n above
 
 -- The second place, if there is one, else the first.
 abbrev pub placeOver : ℕ → Option ℕ → ℕ
@@ -49,7 +49,7 @@ abbrev pub CurrentAt : ℕ → List ℕ → List ℕ → ℕ → List ℕ → Ty
 CurrentAt plan counts keys sample at =
     (kinds values stamps : List ℕ) (a : ℕ) → a < analytes
     → copyThere keys kinds values stamps (getD at a 0)
-    ≡ current (planOf plan) (stateIn plan counts keys kinds values stamps) (keyFor sample a)
+    ≡ current (planNumbered plan) (stateIn plan counts keys kinds values stamps) (keyFor sample a)
 
 -- A line of these numbers.
 abbrev pub line : ℕ → ℕ → ℕ → Line

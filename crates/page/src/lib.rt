@@ -2,7 +2,7 @@
 ghost use Prim.Native.Nat.{_≤_};
 ghost use lib.ListN.{length};
 ghost use Rattle.lists.specs.Stands.{Wrote};
-ghost use Rattle.plan.specs.PlanTable.{planOf};
+ghost use Rattle.plan.specs.PlanTable.{planNumbered};
 ghost use Rattle.store.specs.Layout.{stateOf};
 ghost use Rattle.store.specs.Workers.{holding, Sized, ofParts};
 ghost use Rattle.page.specs.Page.{lastSample, mostPageBytes, pageOf};
@@ -33,7 +33,7 @@ fn write_now<'a>(
     sample: u32,
 ) -> usize
     requires { ⌜ Pageable plan (now counts) (now keys) × (sample ≤ lastSample) × (mostPageBytes ≤ length (now scratch)) ⌝ }
-    ensures { λ r. ⌜ Wrote (now (scratch .entry)) 0 (pageOf (planOf plan) (stateOf (holding plan 0 (now (counts .entry)) (now (keys .entry)) (now (kinds .entry)) (now (values .entry)) (now (stamps .entry)))) sample) r (now (scratch .exit)) ⌝ }
+    ensures { λ r. ⌜ Wrote (now (scratch .entry)) 0 (pageOf (planNumbered plan) (stateOf (holding plan 0 (now (counts .entry)) (now (keys .entry)) (now (kinds .entry)) (now (values .entry)) (now (stamps .entry)))) sample) r (now (scratch .exit)) ⌝ }
 {
     let lines = lines::gather(plan, counts, keys, kinds, values, stamps, sample);
     writing::write_page(scratch, sample, lines)

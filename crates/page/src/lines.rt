@@ -4,7 +4,7 @@ ghost use mathlib.Core.List.{[]};
 ghost use Prim.Native.Nat.{_<_, _≤_};
 ghost use lib.ListN.{length};
 ghost use Rattle.plan.specs.Sizes.{mostNodes};
-ghost use Rattle.plan.specs.PlanTable.{planOf};
+ghost use Rattle.plan.specs.PlanTable.{planNumbered};
 ghost use Rattle.store.specs.Layout.{stateOf};
 ghost use Rattle.store.specs.Workers.{Ordered, holding};
 ghost use Rattle.page.specs.Page.{analytes, lastSample, linesOf};
@@ -98,7 +98,7 @@ pub fn gather<'a>(
     sample: u32,
 ) -> Lines
     requires { ⌜ Pageable plan (now counts) (now keys) × (sample ≤ lastSample) ⌝ }
-    ensures { λ r. ⌜ linesIn r ≡ linesOf (planOf plan) (stateOf (holding plan 0 (now (counts .entry)) (now (keys .entry)) (now (kinds .entry)) (now (values .entry)) (now (stamps .entry)))) sample ⌝ }
+    ensures { λ r. ⌜ linesIn r ≡ linesOf (planNumbered plan) (stateOf (holding plan 0 (now (counts .entry)) (now (keys .entry)) (now (kinds .entry)) (now (values .entry)) (now (stamps .entry)))) sample ⌝ }
 {
     let current = current_places(plan, counts, keys, sample);
     let mut lines = no_lines();

@@ -152,7 +152,7 @@ module _ (p : Plan) (rules : PlanRules p) where
 
   -- The root is a node of the plan,
   pub root-in-plan : 0 < size p
-  root-in-plan = omega (arith, rules .two-to-eight-nodes)
+  root-in-plan = omega (arith, rules .nodes-within)
 
   -- and every key goes on from it.
   pub root-next : (k : ℕ) → k ≤ lastKey → (t : ℕ) × (next p 0 k ≡ To t)

@@ -170,9 +170,9 @@ module _ (p : Plan) where
   unfolding planTest nodesTest
   test-rules t =
       record {
-        two-to-eight-nodes = both-le 2 (size p) (size p) mostNodes (search (and-left, and-right) depth 8);
-        capacity-1-to-64 = test-capacities (search (and-left, and-right) depth 8);
-        up-to-four-edges = test-counts (search (and-left, and-right) depth 8);
+        nodes-within = both-le 2 (size p) (size p) mostNodes (search (and-left, and-right) depth 8);
+        capacity-within = test-capacities (search (and-left, and-right) depth 8);
+        edges-within = test-counts (search (and-left, and-right) depth 8);
         highest-is-a-key = test-keys (search (and-left, and-right) depth 8);
         lowest-not-above-highest = test-ranges (search (and-left, and-right) depth 8);
         ranges-share-no-key = test-apart (search (and-left, and-right) depth 8);
@@ -183,19 +183,19 @@ module _ (p : Plan) where
   module _ (r : PlanRules p) where
     nodes-test : nodesTest p ≡ true
     unfolding nodesTest
-    nodes-test = le-both 2 (size p) (size p) mostNodes (r .two-to-eight-nodes .0) (r .two-to-eight-nodes .1)
+    nodes-test = le-both 2 (size p) (size p) mostNodes (r .nodes-within .0) (r .nodes-within .1)
 
     capacities-test : capacitiesTest p ≡ true
     unfolding capacitiesTest
     capacities-test =
         below-all (λ m. leb 1 (capacityOf p m) && leb (capacityOf p m) mostCapacity) (size p)
-        (λ n h. le-both 1 (capacityOf p n) (capacityOf p n) mostCapacity (r .capacity-1-to-64 n h .0) (r .capacity-1-to-64 n h .1))
+        (λ n h. le-both 1 (capacityOf p n) (capacityOf p n) mostCapacity (r .capacity-within n h .0) (r .capacity-within n h .1))
 
     counts-test : edgeCountsTest p ≡ true
     unfolding edgeCountsTest
     counts-test =
         below-all (λ m. leb (length (edgesOf p m)) mostEdges) (size p)
-        (λ n h. le-leb (length (edgesOf p n)) mostEdges (r .up-to-four-edges n h))
+        (λ n h. le-leb (length (edgesOf p n)) mostEdges (r .edges-within n h))
 
     keys-test : keysTest p ≡ true
     unfolding keysTest

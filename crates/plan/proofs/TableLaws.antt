@@ -22,7 +22,7 @@ use Rattle.plan.specs.PlanRules.{
   coverTest,
   planTest,
 }
-use Rattle.plan.specs.PlanTable.{planTable, plans, planOf}
+use Rattle.plan.specs.PlanTable.{planTable, plans, planNumbered}
 use Rattle.plan.proofs.RulesLaws.{test-rules}
 
 pub plans-three : plans ≡ 3
@@ -35,14 +35,14 @@ unfolding allFrom plans planTable planTest nodesTest capacitiesTest edgeCountsTe
 table-passes = refl
 
 -- So every plan by its number meets the plan rules,
-pub table-rules : (p : ℕ) → 1 ≤ p → p ≤ plans → PlanRules (planOf p)
-unfolding planOf
+pub table-rules : (p : ℕ) → 1 ≤ p → p ≤ plans → PlanRules (planNumbered p)
+unfolding planNumbered
 table-rules zero h g = absurd (not-suc-le-zero h)
 table-rules (suc p) h g =
     test-rules (getD planTable p []) (all-below (λ i. planTest (getD planTable i [])) plans table-passes p g)
 
 -- and any other number is a plan without nodes.
-pub no-plan : (p : ℕ) → plans < p → planOf p ≡ []
-unfolding planOf plans
+pub no-plan : (p : ℕ) → plans < p → planNumbered p ≡ []
+unfolding planNumbered plans
 no-plan zero h = refl
 no-plan (suc p) h = List·getD-eq-default planTable [] (omega arith)

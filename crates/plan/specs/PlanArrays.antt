@@ -10,7 +10,7 @@ use Rattle.lists.specs.Runs.{run}
 use Rattle.plan.specs.declared.Edge.{Edge}
 use Rattle.plan.specs.Sizes.{mostNodes, mostEdges}
 use Rattle.plan.specs.Plan.{Plan, capacityOf, edgesOf, edgeOf}
-use Rattle.plan.specs.PlanTable.{planOf}
+use Rattle.plan.specs.PlanTable.{planNumbered}
 
 -- A number for each edge, by node and then by edge.
 abbrev pub Grid : Type 0
@@ -50,7 +50,7 @@ gridOf part p = run 0 mostNodes (λ n. run 0 mostEdges (λ i. part (edgeOf p n i
 
 -- Arrays that are the plan's, taken once and lent.
 pub record ArraysOf (plan : ℕ) (edges : List ℕ) (lows highs targets : Grid) : Type 0 where
-  pub edges-of : edges ≡ countsRow (planOf plan)
-  pub lows-of : lows ≡ gridOf (λ (e : Edge). e .lowest) (planOf plan)
-  pub highs-of : highs ≡ gridOf (λ (e : Edge). e .highest) (planOf plan)
-  pub targets-of : targets ≡ gridOf (λ (e : Edge). e .target) (planOf plan)
+  pub edges-of : edges ≡ countsRow (planNumbered plan)
+  pub lows-of : lows ≡ gridOf (λ (e : Edge). e .lowest) (planNumbered plan)
+  pub highs-of : highs ≡ gridOf (λ (e : Edge). e .highest) (planNumbered plan)
+  pub targets-of : targets ≡ gridOf (λ (e : Edge). e .target) (planNumbered plan)

@@ -19,11 +19,11 @@ pub record IsEdge (p : Plan) (n i : ℕ) : Type 0 where
 -- The plan rules.
 pub record PlanRules (p : Plan) : Type 0 where
   -- "2 to 8 nodes"
-  pub two-to-eight-nodes : (2 ≤ size p) × (size p ≤ mostNodes)
+  pub nodes-within : (2 ≤ size p) × (size p ≤ mostNodes)
   -- "capacity 1 to 64"
-  pub capacity-1-to-64 : (n : ℕ) → n < size p → (1 ≤ capacityOf p n) × (capacityOf p n ≤ mostCapacity)
+  pub capacity-within : (n : ℕ) → n < size p → (1 ≤ capacityOf p n) × (capacityOf p n ≤ mostCapacity)
   -- "up to four edges"
-  pub up-to-four-edges : (n : ℕ) → n < size p → length (edgesOf p n) ≤ mostEdges
+  pub edges-within : (n : ℕ) → n < size p → length (edgesOf p n) ≤ mostEdges
   -- "An edge has a lowest key, a highest key": keys of 32 bits
   pub highest-is-a-key : (n i : ℕ) → IsEdge p n i → edgeOf p n i .highest ≤ lastKey
   -- "lowest not above highest"

@@ -43,6 +43,6 @@ unfoldable pub plans : ℕ
 plans = length planTable
 
 -- The plan by its number: "plan 1 to 3"; any other number is a plan without nodes.
-unfoldable pub planOf : ℕ → Plan
-planOf zero = []
-planOf (suc p) = getD planTable p []
+unfoldable pub planNumbered : ℕ → Plan
+planNumbered zero = []
+planNumbered (suc p) = getD planTable p []

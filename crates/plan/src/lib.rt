@@ -3,7 +3,7 @@ ghost use mathlib.Core.Path.{_≡_};
 ghost use lib.ListN.{length};
 ghost use Rattle.plan.specs.Plan.{size, capacityOf, edgesOf, edgeOf};
 ghost use Rattle.plan.specs.Plan.{next as nextOf};
-ghost use Rattle.plan.specs.PlanTable.{planOf};
+ghost use Rattle.plan.specs.PlanTable.{planNumbered};
 ghost use Rattle.plan.specs.PlanArrays.{capacitiesRow, countsRow, gridOf};
 
 pub mod arrays; // arrays.rt: a plan's arrays, lent
@@ -87,7 +87,7 @@ const TARGETS: [[[u32; MOST_EDGES]; MOST_NODES]; PLANS] = [
 
 // The number of the plan's nodes; none for a number that no plan has.
 pub fn nodes(plan: u32) -> u32
-    ensures { λ r. ⌜ r ≡ size (planOf plan) ⌝ }
+    ensures { λ r. ⌜ r ≡ size (planNumbered plan) ⌝ }
 {
     match plan {
         1 => NODE_COUNTS[0],
@@ -100,7 +100,7 @@ pub fn nodes(plan: u32) -> u32
 // The plan's arrays, all zeros for a number that no plan has. A loop takes them once, and lends them to the readers of arrays.rt. A constant is
 // built anew where it is read: with the row's number written out that row alone is built, and not the table.
 pub fn capacities_of(plan: u32) -> [u32; MOST_NODES]
-    ensures { λ r. ⌜ r ≡ capacitiesRow (planOf plan) ⌝ }
+    ensures { λ r. ⌜ r ≡ capacitiesRow (planNumbered plan) ⌝ }
 {
     match plan {
         1 => CAPACITIES[0],
@@ -112,7 +112,7 @@ pub fn capacities_of(plan: u32) -> [u32; MOST_NODES]
 
 // The plan's edge counts, by node.
 pub fn edge_counts_of(plan: u32) -> [u32; MOST_NODES]
-    ensures { λ r. ⌜ r ≡ countsRow (planOf plan) ⌝ }
+    ensures { λ r. ⌜ r ≡ countsRow (planNumbered plan) ⌝ }
 {
     match plan {
         1 => EDGE_COUNTS[0],
@@ -124,7 +124,7 @@ pub fn edge_counts_of(plan: u32) -> [u32; MOST_NODES]
 
 // The edges' lowest keys, by node and then by edge.
 pub fn lowest_of(plan: u32) -> [[u32; MOST_EDGES]; MOST_NODES]
-    ensures { λ r. ⌜ r ≡ gridOf (λ e. e .lowest) (planOf plan) ⌝ }
+    ensures { λ r. ⌜ r ≡ gridOf (λ e. e .lowest) (planNumbered plan) ⌝ }
 {
     match plan {
         1 => LOWEST[0],
@@ -136,7 +136,7 @@ pub fn lowest_of(plan: u32) -> [[u32; MOST_EDGES]; MOST_NODES]
 
 // Their highest keys, likewise.
 pub fn highest_of(plan: u32) -> [[u32; MOST_EDGES]; MOST_NODES]
-    ensures { λ r. ⌜ r ≡ gridOf (λ e. e .highest) (planOf plan) ⌝ }
+    ensures { λ r. ⌜ r ≡ gridOf (λ e. e .highest) (planNumbered plan) ⌝ }
 {
     match plan {
         1 => HIGHEST[0],
@@ -148,7 +148,7 @@ pub fn highest_of(plan: u32) -> [[u32; MOST_EDGES]; MOST_NODES]
 
 // Their targets, likewise.
 pub fn targets_of(plan: u32) -> [[u32; MOST_EDGES]; MOST_NODES]
-    ensures { λ r. ⌜ r ≡ gridOf (λ e. e .target) (planOf plan) ⌝ }
+    ensures { λ r. ⌜ r ≡ gridOf (λ e. e .target) (planNumbered plan) ⌝ }
 {
     match plan {
         1 => TARGETS[0],
@@ -160,7 +160,7 @@ pub fn targets_of(plan: u32) -> [[u32; MOST_EDGES]; MOST_NODES]
 
 // The node's capacity; 0 where the plan has no such node.
 pub fn capacity(plan: u32, node: u32) -> u32
-    ensures { λ r. ⌜ r ≡ capacityOf (planOf plan) node ⌝ }
+    ensures { λ r. ⌜ r ≡ capacityOf (planNumbered plan) node ⌝ }
 {
     let capacities = capacities_of(plan);
     arrays::capacity_in(&capacities, node)
@@ -168,7 +168,7 @@ pub fn capacity(plan: u32, node: u32) -> u32
 
 // How many edges the node has; 0 where the plan has no such node.
 pub fn edge_count(plan: u32, node: u32) -> u32
-    ensures { λ r. ⌜ r ≡ length (edgesOf (planOf plan) node) ⌝ }
+    ensures { λ r. ⌜ r ≡ length (edgesOf (planNumbered plan) node) ⌝ }
 {
     let counts = edge_counts_of(plan);
     arrays::edge_count_in(&counts, node)
@@ -176,7 +176,7 @@ pub fn edge_count(plan: u32, node: u32) -> u32
 
 // The node's edge by its number, from 0; all zeros where the node has no such edge.
 pub fn edge_at(plan: u32, node: u32, edge: u32) -> Edge
-    ensures { λ r. ⌜ r ≡ edgeOf (planOf plan) node edge ⌝ }
+    ensures { λ r. ⌜ r ≡ edgeOf (planNumbered plan) node edge ⌝ }
 {
     let counts = edge_counts_of(plan);
     let lows = lowest_of(plan);
@@ -187,7 +187,7 @@ pub fn edge_at(plan: u32, node: u32, edge: u32) -> Edge
 
 // The key's next step: the target of the first edge, in edge order, whose range holds the key.
 pub fn next(plan: u32, node: u32, key: u32) -> Hop
-    ensures { λ r. ⌜ r ≡ nextOf (planOf plan) node key ⌝ }
+    ensures { λ r. ⌜ r ≡ nextOf (planNumbered plan) node key ⌝ }
 {
     let counts = edge_counts_of(plan);
     let lows = lowest_of(plan);

@@ -7,12 +7,11 @@ use Prim.Native.Nat.{ℕ, _<_, _≤_}
 use native.Mathlib.Omega.{arith}
 use lib.ListN.{length}
 use Rattle.plan.specs.Plan.{Plan, size, edgesOf}
-use Rattle.plan.specs.PlanTable.{planOf}
 use Rattle.store.specs.declared.Store.{Store}
 use Rattle.store.specs.Answers.{BADSTORE, NODE, EDGE}
 use Rattle.store.specs.Copies.{member}
 use Rattle.store.specs.State.{State}
-use Rattle.store.specs.Layout.{stateOf}
+use Rattle.store.specs.Layout.{planOf, planOf, stateOf}
 use Rattle.store.specs.StoreRules.{goodStore}
 use Rattle.store.specs.Calls.{Effect, onStore}
 use Rattle.store.proofs.Lifting.{plan-good, state-good}
@@ -44,23 +43,23 @@ step-refuses node edge p s = go (carry-way node edge p s)
 module _ (z : Store) (node edge : ℕ) where
   pub carry-badstore : (onStore (carryStep node edge) z .answer .number ≡ BADSTORE) ↔ (goodStore z ≡ false)
   unfolding member
-  carry-badstore = on-badstore (carryStep node edge) z carryAnswers (step-among node edge (planOf (z .plan)) (stateOf z)) refl
+  carry-badstore = on-badstore (carryStep node edge) z carryAnswers (step-among node edge (planOf z) (stateOf z)) refl
 
   -- "plan has no such node"
-  pub carry-node : (onStore (carryStep node edge) z .answer .number ≡ NODE) ↔ ((goodStore z ≡ true) × (size (planOf (z .plan)) ≤ node))
+  pub carry-node : (onStore (carryStep node edge) z .answer .number ≡ NODE) ↔ ((goodStore z ≡ true) × (size (planOf z) ≤ node))
   carry-node =
       on-exactly (carryStep node edge) z NODE (λ e. omega arith) λ good.
-      node-exactly (planOf (z .plan)) (plan-good z good) (stateOf z) (state-good z good) node edge
+      node-exactly (planOf z) (plan-good z good) (stateOf z) (state-good z good) node edge
 
   -- "node has no such edge"
   pub carry-edge : (onStore (carryStep node edge) z .answer .number ≡ EDGE)
-      ↔ ((goodStore z ≡ true) × ((node < size (planOf (z .plan))) × (length (edgesOf (planOf (z .plan)) node) ≤ edge)))
+      ↔ ((goodStore z ≡ true) × ((node < size (planOf z)) × (length (edgesOf (planOf z) node) ≤ edge)))
   carry-edge =
       on-exactly (carryStep node edge) z EDGE (λ e. omega arith) λ good.
-      edge-exactly (planOf (z .plan)) (plan-good z good) (stateOf z) (state-good z good) node edge
+      edge-exactly (planOf z) (plan-good z good) (stateOf z) (state-good z good) node edge
 
   pub carry-answers : Among (BADSTORE ∷ carryAnswers) (onStore (carryStep node edge) z .answer)
-  carry-answers = on-among (carryStep node edge) z carryAnswers (step-among node edge (planOf (z .plan)) (stateOf z))
+  carry-answers = on-among (carryStep node edge) z carryAnswers (step-among node edge (planOf z) (stateOf z))
 
   pub carry-refused : Refuses z (onStore (carryStep node edge) z)
-  carry-refused = on-refuses (carryStep node edge) z (step-refuses node edge (planOf (z .plan)) (stateOf z))
+  carry-refused = on-refuses (carryStep node edge) z (step-refuses node edge (planOf z) (stateOf z))

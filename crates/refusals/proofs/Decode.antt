@@ -169,12 +169,12 @@ module _ (s : List ℕ) where
           → cond (planNumberTest plan) (rest plan a) (fault PLAN 0) ≡ fault number at → ScheduleStop s number at
       in-rest plan a r (inl t) e =
           ⊎-elim
-          (λ q. in-steps (record { plan = plan; read = r; one-to-three = plan-test plan .0 t }) (steps-fault mostSteps a number at .0 q))
+          (λ q. in-steps (record { plan = plan; read = r; is-plan = plan-test plan .0 t }) (steps-fault mostSteps a number at .0 q))
           (λ k. absurd (got-or-fault refl (k .then)))
           (first-fault (stepsAt s mostSteps a) _ .0 (rw t at e))
       in-rest plan a r (inr f) e =
           let w = same-fault {A = Schedule} (rw f at e) in
-          bad-plan (record { first = sym (w .1); plan = plan; next = a; read = r; not-one-to-three = plan-test-fails plan .0 f }) (sym (w .0))
+          bad-plan (record { first = sym (w .1); plan = plan; next = a; read = r; no-such-plan = plan-test-fails plan .0 f }) (sym (w .0))
 
       there : (numberAt s 0 ≡ fault number at) ⊎ After (numberAt s 0) (λ plan a. cond (planNumberTest plan) (rest plan a) (fault PLAN 0)) number at
           → ScheduleStop s number at
@@ -185,10 +185,10 @@ module _ (s : List ℕ) where
           → bind (numberAt s 0) (λ plan a. cond (planNumberTest plan) (rest plan a) (fault PLAN 0)) ≡ fault number at
       back (no-number e) = bind-fault _ _ e
       back (bad-plan b e) =
-          bind-got _ _ (b .read) ∙ check-fails (planNumberTest (b .plan)) PLAN 0 _ (plan-test-fails (b .plan) .1 (b .not-one-to-three))
+          bind-got _ _ (b .read) ∙ check-fails (planNumberTest (b .plan)) PLAN 0 _ (plan-test-fails (b .plan) .1 (b .no-such-plan))
           ∙ sym (λ t. fault (e t) (b .first t))
       back (in-steps {from} p h) =
-          bind-got _ _ (p .read) ∙ check-holds (planNumberTest (p .plan)) PLAN 0 _ (plan-test (p .plan) .1 (p .one-to-three))
+          bind-got _ _ (p .read) ∙ check-holds (planNumberTest (p .plan)) PLAN 0 _ (plan-test (p .plan) .1 (p .is-plan))
           ∙ bind-fault _ _ (steps-fault mostSteps from number at .1 h)
 
   -- ---- the faults of a schedule are CUT, NUMBER, PLAN, OP and MANY

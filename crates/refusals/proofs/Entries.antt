@@ -6,13 +6,12 @@ use mathlib.Core.Logic.{_↔_}
 use Prim.Native.Nat.{ℕ}
 use native.Mathlib.Omega.{arith}
 use Rattle.plan.specs.Plan.{Plan}
-use Rattle.plan.specs.PlanTable.{planOf}
 use Rattle.store.specs.declared.Outcome.{Outcome}
 use Rattle.store.specs.declared.Store.{Store}
 use Rattle.store.specs.Answers.{BADSTORE, CLOCK, FULL}
 use Rattle.store.specs.Copies.{WITHDRAWN, RESULT, member}
 use Rattle.store.specs.State.{State, lastClock}
-use Rattle.store.specs.Layout.{stateOf}
+use Rattle.store.specs.Layout.{planOf, planOf, stateOf}
 use Rattle.store.specs.StoreRules.{goodStore}
 use Rattle.store.specs.Calls.{Effect, onStore}
 use Rattle.store.proofs.Lifting.{plan-good, state-good}
@@ -48,28 +47,28 @@ module _ (kind key value : ℕ) where
 
     badstore : (outcome .answer .number ≡ BADSTORE) ↔ (goodStore z ≡ false)
     unfolding member
-    badstore = on-badstore (entry kind key value) z entryAnswers (entry-among (planOf (z .plan)) (stateOf z)) refl
+    badstore = on-badstore (entry kind key value) z entryAnswers (entry-among (planOf z) (stateOf z)) refl
 
     clock : (outcome .answer .number ≡ CLOCK) ↔ ((goodStore z ≡ true) × (z .clock ≡ lastClock))
     unfolding stateOf
     clock =
         on-exactly (entry kind key value) z CLOCK (λ e. omega arith) λ good.
-        clock-exactly (planOf (z .plan)) (plan-good z good) (stateOf z) (state-good z good) kind key value
+        clock-exactly (planOf z) (plan-good z good) (stateOf z) (state-good z good) kind key value
 
     full : (outcome .answer .number ≡ FULL) ↔ ((goodStore z ≡ true) × RootFull z key)
     unfolding stateOf
     full =
         on-exactly (entry kind key value) z FULL (λ e. omega arith) λ good.
-        let f = full-exactly (planOf (z .plan)) (plan-good z good) (stateOf z) (state-good z good) kind key value in (
+        let f = full-exactly (planOf z) (plan-good z good) (stateOf z) (state-good z good) kind key value in (
           λ e. let r = f .0 e in record { clock-left = r .clock-left; lacks-key = r .lacks-key; no-place = r .no-place },
           λ r. f .1 (record { clock-left = r .clock-left; lacks-key = r .lacks-key; no-place = r .no-place }),
         )
 
     among : Among (BADSTORE ∷ entryAnswers) (outcome .answer)
-    among = on-among (entry kind key value) z entryAnswers (entry-among (planOf (z .plan)) (stateOf z))
+    among = on-among (entry kind key value) z entryAnswers (entry-among (planOf z) (stateOf z))
 
     refuses : Refuses z outcome
-    refuses = on-refuses (entry kind key value) z (entry-refuses (planOf (z .plan)) (stateOf z))
+    refuses = on-refuses (entry kind key value) z (entry-refuses (planOf z) (stateOf z))
 
 module _ (z : Store) (key value : ℕ) where
   pub enter-badstore : (onStore (enterStep key value) z .answer .number ≡ BADSTORE) ↔ (goodStore z ≡ false)

@@ -12,10 +12,10 @@ use Rattle.store.specs.Answers.{DONE, PLAN, bare}
 use Rattle.store.specs.Layout.{freshStore}
 use Rattle.store.specs.StoreRules.{planNumberTest}
 use Rattle.store.specs.Promises.{freshOutcome}
-use Rattle.refusals.specs.Given.{OneToThree}
+use Rattle.refusals.specs.Given.{IsPlan}
 
 module _ (plan : ℕ) where
-  pub plan-test : (planNumberTest plan ≡ true) ↔ OneToThree plan
+  pub plan-test : (planNumberTest plan ≡ true) ↔ IsPlan plan
   unfolding planNumberTest
   plan-test = (
     λ t. let h = both-le 1 plan plan plans t in (h .0, omega (arith, h .1, plans-three)),
@@ -23,7 +23,7 @@ module _ (plan : ℕ) where
   )
 
   -- "plan not 1 to 3"
-  pub plan-test-fails : (planNumberTest plan ≡ false) ↔ (OneToThree plan → ⊥)
+  pub plan-test-fails : (planNumberTest plan ≡ false) ↔ (IsPlan plan → ⊥)
   plan-test-fails = (λ f h. not-both (plan-test .1 h) f, λ no. refuted (planNumberTest plan) (λ t. no (plan-test .0 t)))
 
   made : planNumberTest plan ≡ true → freshOutcome plan ≡ record { answer = bare DONE; store = freshStore plan }
@@ -34,7 +34,7 @@ module _ (plan : ℕ) where
   unfolding freshOutcome
   refused t = rw t
 
-  pub fresh-plan : (freshOutcome plan .answer .number ≡ PLAN) ↔ (OneToThree plan → ⊥)
+  pub fresh-plan : (freshOutcome plan .answer .number ≡ PLAN) ↔ (IsPlan plan → ⊥)
   fresh-plan = (
     λ e. plan-test-fails .0 (refuted (planNumberTest plan) λ t.
         let d : _≡_ {A = ℕ} DONE PLAN = sym (ap (λ (o : Outcome). o .answer .number) (made t)) ∙ e in omega arith),

@@ -12,7 +12,7 @@ use borrow.Author.Tests.{eqb-true, eqb-false, ne-eqb, ltb-false, le-ltb}
 use Rattle.lists.proofs.Truths.{bool?, not-both}
 use Rattle.number.specs.Number.{moreBytes, lastByte, EndsEarly, EndsInZero, EndsAbove}
 use Rattle.plan.specs.Plan.{Plan}
-use Rattle.plan.specs.PlanTable.{planOf}
+use Rattle.plan.specs.PlanTable.{planNumbered}
 use Rattle.store.specs.declared.Copy.{Copy}
 use Rattle.store.specs.declared.Outcome.{Outcome}
 use Rattle.store.specs.declared.Store.{Store}
@@ -202,9 +202,9 @@ module _ (s : List ℕ) where
       inNodes : {format a plan b clock c : ℕ} → Passes s theFormat 0 format a → Passes s thePlan a plan b → Passes s theClock b clock c
           → nodesFrom s plan clock c ≡ fault number at → Stop
       inNodes {plan = plan} {c = c} f p k e =
-          ⊎-elim (λ q. let h = nodes-stop s (planOf plan) c q in record { own = h .own; place = itsNodes f p k (h .place); fails = h .fails })
+          ⊎-elim (λ q. let h = nodes-stop s (planNumbered plan) c q in record { own = h .own; place = itsNodes f p k (h .place); fails = h .fails })
           (λ h. absurd (got-or-fault refl (h .then)))
-          (first-fault (nodesAt s (planOf plan) c) _ .0 e)
+          (first-fault (nodesAt s (planNumbered plan) c) _ .0 e)
 
       inClock : {format a plan b : ℕ} → Passes s theFormat 0 format a → Passes s thePlan a plan b → Staged s theClock b (nodesFrom s plan) number at → Stop
       inClock f p (here h g) = record { own = theClock; place = subst (InImage s theClock) h (itsClock f p); fails = g }
@@ -225,7 +225,7 @@ module _ (s : List ℕ) where
           stage-later s theFormat 0 (λ _. planFrom s) f ∙ stage-later s thePlan a (clockFrom s) p ∙ stage-here s theClock at (nodesFrom s plan) g
       back (itsNodes {a = a} {plan} {b} {clock} {c} f p k h) g =
           stage-later s theFormat 0 (λ _. planFrom s) f ∙ stage-later s thePlan a (clockFrom s) p ∙ stage-later s theClock b (nodesFrom s plan) k
-          ∙ bind-fault _ _ (nodes-fail s (planOf plan) c h g)
+          ∙ bind-fault _ _ (nodes-fail s (planNumbered plan) c h g)
 
 -- ---- the call
 
@@ -376,7 +376,7 @@ module _ (s : List ℕ) where
       breaks itsFormat b = record { first = refl; format = b .value; next = b .next; read = b .read; not-one = eqb-false (b .value) formatNumber (b .broken) }
       breaks (itsPlan p) b = absurd (omega (arith, b .is))
       breaks (itsClock p q) b = absurd (omega (arith, b .is))
-      breaks {own} {by} (itsNodes {plan = plan} {c = c} p q k h) b = absurd (omega (arith, b .is, nodes-rule s (planOf plan) c by own h))
+      breaks {own} {by} (itsNodes {plan = plan} {c = c} p q k h) b = absurd (omega (arith, b .is, nodes-rule s (planNumbered plan) c by own h))
 
       there : LoadStop s FORMAT at → BadFormat s at
       there (atNumber h) = ⊎-elim (λ e. absurd (not-both (number-faults s at .each FORMAT at e) refl)) (λ b. breaks (h .place) b) (h .fails)
@@ -401,10 +401,10 @@ module _ (s : List ℕ) where
             plan = b .value;
             next = b .next;
             read = b .read;
-            not-one-to-three = plan-test-fails (b .value) .0 (b .broken);
+            no-such-plan = plan-test-fails (b .value) .0 (b .broken);
           }
       breaks (itsClock p q) b = absurd (omega (arith, b .is))
-      breaks {own} {by} (itsNodes {plan = plan} {c = c} p q k h) b = absurd (omega (arith, b .is, nodes-rule s (planOf plan) c by own h))
+      breaks {own} {by} (itsNodes {plan = plan} {c = c} p q k h) b = absurd (omega (arith, b .is, nodes-rule s (planNumbered plan) c by own h))
 
       there : LoadStop s PLAN at → BadPlan s at
       there (atNumber h) = ⊎-elim (λ e. absurd (not-both (number-faults s at .each PLAN at e) refl)) (λ b. breaks (h .place) b) (h .fails)
@@ -413,7 +413,7 @@ module _ (s : List ℕ) where
 
       back : BadPlan s at → LoadStop s PLAN at
       back b =
-          let w : Breaks s thePlan at PLAN = record { value = b .plan; next = b .next; read = b .read; broken = plan-test-fails (b .plan) .1 (b .not-one-to-three); is = refl } in
+          let w : Breaks s thePlan at PLAN = record { value = b .plan; next = b .next; read = b .read; broken = plan-test-fails (b .plan) .1 (b .no-such-plan); is = refl } in
           atNumber (record { own = thePlan; place = itsPlan (record { read = b .format; passed = refl }); fails = inr w })
 
   -- "TRAIL: bytes after the image"

@@ -8,14 +8,13 @@ use Prim.Native.Nat.{ℕ}
 use lib.Dec.{eqb}
 use Rattle.lists.proofs.Truths.{bool?, not-both, refuted, or-right}
 use Rattle.plan.specs.Plan.{Plan}
-use Rattle.plan.specs.PlanTable.{planOf}
 use Rattle.store.specs.declared.Answer.{Answer}
 use Rattle.store.specs.declared.Outcome.{Outcome}
 use Rattle.store.specs.declared.Store.{Store}
 use Rattle.store.specs.Answers.{BADSTORE, bare}
 use Rattle.store.specs.Copies.{member}
 use Rattle.store.specs.State.{State}
-use Rattle.store.specs.Layout.{stateOf, storeOf}
+use Rattle.store.specs.Layout.{planOf, planOf, stateOf, storeOf}
 use Rattle.store.specs.StoreRules.{StoreRules, goodStore}
 use Rattle.store.specs.Calls.{Effect, onStore, ofStore}
 use Rattle.store.proofs.Ruling.{good-rules, rules-good}
@@ -34,7 +33,7 @@ not-given numbers n among lacks e = not-both among (ap (λ (k : ℕ). member k n
 module _ (f : Plan → State → Effect) (z : Store) where
   -- What its step does.
   abbrev stepped : Effect
-  stepped = f (planOf (z .plan)) (stateOf z)
+  stepped = f (planOf z) (stateOf z)
 
   numbered-bad : goodStore z ≡ false → onStore f z .answer .number ≡ BADSTORE
   numbered-bad bad = ap (λ (o : Outcome). o .answer .number) (on-bad f z bad)
@@ -86,16 +85,16 @@ module _ (f : Plan → State → Answer) (z : Store) where
   asked-bad : goodStore z ≡ false → ofStore f z .number ≡ BADSTORE
   asked-bad bad = ap (λ (r : Answer). r .number) (of-bad f z bad)
 
-  asked-good : goodStore z ≡ true → ofStore f z .number ≡ f (planOf (z .plan)) (stateOf z) .number
+  asked-good : goodStore z ≡ true → ofStore f z .number ≡ f (planOf z) (stateOf z) .number
   asked-good good = ap (λ (r : Answer). r .number) (of-good f z good)
 
-  pub of-badstore : f (planOf (z .plan)) (stateOf z) .number ≢ BADSTORE → (ofStore f z .number ≡ BADSTORE) ↔ (goodStore z ≡ false)
+  pub of-badstore : f (planOf z) (stateOf z) .number ≢ BADSTORE → (ofStore f z .number ≡ BADSTORE) ↔ (goodStore z ≡ false)
   of-badstore other = (λ e. refuted (goodStore z) (λ good. other (sym (asked-good good) ∙ e)), asked-bad)
 
-  pub of-among : (numbers : List ℕ) → Among numbers (f (planOf (z .plan)) (stateOf z)) → Among (BADSTORE ∷ numbers) (ofStore f z)
+  pub of-among : (numbers : List ℕ) → Among numbers (f (planOf z) (stateOf z)) → Among (BADSTORE ∷ numbers) (ofStore f z)
   unfolding member
   of-among numbers among = go (bool? (goodStore z))
     where
       go : (goodStore z ≡ true) ⊎ (goodStore z ≡ false) → Among (BADSTORE ∷ numbers) (ofStore f z)
-      go (inl good) = rw (asked-good good) (or-right (eqb (f (planOf (z .plan)) (stateOf z) .number) BADSTORE) _ among)
+      go (inl good) = rw (asked-good good) (or-right (eqb (f (planOf z) (stateOf z) .number) BADSTORE) _ among)
       go (inr bad) = rw (asked-bad bad)

@@ -13,12 +13,11 @@ use borrow.Author.Tests.{le-leb, lt-leb, leb-true}
 use Rattle.lists.proofs.Truths.{bool?, not-both, refuted, and-left, and-right, and-both}
 use Rattle.number.specs.Number.{form}
 use Rattle.number.proofs.Forms.{form-some}
-use Rattle.plan.specs.PlanTable.{planOf}
 use Rattle.store.specs.declared.Answer.{Answer}
 use Rattle.store.specs.declared.Store.{Store}
 use Rattle.store.specs.Answers.{DONE, BADSTORE, SMALL, SAMPLE, answer, bare}
 use Rattle.store.specs.Copies.{member}
-use Rattle.store.specs.Layout.{stateOf}
+use Rattle.store.specs.Layout.{planOf, planOf, stateOf}
 use Rattle.store.specs.StoreRules.{goodStore}
 use Rattle.wire.proofs.Buffers.{small-answer, small-buffer, done-answer}
 use Rattle.page.specs.Page.{lastSample, linesOf, linesBytes, pageBytes, begins}
@@ -164,7 +163,7 @@ module _ (z : Store) (sample : ℕ) where
   some-bytes : 1 ≤ length (pageNow z sample)
   unfolding pageBytes
   some-bytes =
-      let ls = linesOf (planOf (z .plan)) (stateOf z) sample in
+      let ls = linesOf (planOf z) (stateOf z) sample in
       omega (arith, form-some sample, length-append (form sample) (form (length ls) ++ linesBytes ls))
 
   -- so the length 0 says exactly that the notice is due.

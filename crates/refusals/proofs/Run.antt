@@ -9,13 +9,12 @@ use native.Mathlib.Omega.{arith}
 use lib.ListN.{length, List·getD-eq-default}
 use Rattle.lists.proofs.Truths.{bool?, not-both}
 use Rattle.plan.specs.Plan.{Plan}
-use Rattle.plan.specs.PlanTable.{planOf}
 use Rattle.store.specs.declared.Outcome.{Outcome}
 use Rattle.store.specs.declared.Store.{Store}
 use Rattle.store.specs.Answers.{BADSTORE, OP, answer}
 use Rattle.store.specs.Copies.{member}
 use Rattle.store.specs.State.{State}
-use Rattle.store.specs.Layout.{stateOf}
+use Rattle.store.specs.Layout.{planOf, planOf, stateOf}
 use Rattle.store.specs.StoreRules.{goodStore}
 use Rattle.store.specs.Calls.{Effect, onStore}
 use Rattle.store.proofs.Lifting.{same-call, on-good, store-stays}
@@ -56,7 +55,7 @@ module _ (z : Store) (list : List Step) (place : ℕ) where
       n = recordAt list place .number
 
       p : Plan
-      p = planOf (z .plan)
+      p = planOf z
 
       s : State
       s = stateOf z

@@ -8,13 +8,12 @@ use Prim.Native.Nat.{ℕ, _<_, _≤_}
 use native.Mathlib.Omega.{arith}
 use lib.ListN.{getD}
 use Rattle.plan.specs.Plan.{Plan, path}
-use Rattle.plan.specs.PlanTable.{planOf}
 use Rattle.store.specs.declared.Copy.{Copy}
 use Rattle.store.specs.declared.Store.{Store}
 use Rattle.store.specs.Answers.{DONE, BADSTORE, SLOTS, SLOT, IDLE}
 use Rattle.store.specs.Copies.{member}
 use Rattle.store.specs.State.{State, slotCount, idle, line, current}
-use Rattle.store.specs.Layout.{stateOf}
+use Rattle.store.specs.Layout.{planOf, planOf, stateOf}
 use Rattle.store.specs.StoreRules.{goodStore}
 use Rattle.store.specs.Calls.{Effect, onStore, ofStore}
 use Rattle.store.proofs.Lifting.{plan-good, state-good}
@@ -48,7 +47,7 @@ start-refuses key p s = go (start-way key p s)
 module _ (z : Store) (key : ℕ) where
   pub start-badstore : (onStore (startStep key) z .answer .number ≡ BADSTORE) ↔ (goodStore z ≡ false)
   unfolding member
-  start-badstore = on-badstore (startStep key) z startAnswers (start-among key (planOf (z .plan)) (stateOf z)) refl
+  start-badstore = on-badstore (startStep key) z startAnswers (start-among key (planOf z) (stateOf z)) refl
 
   -- "all 8 running"
   pub start-slots : (onStore (startStep key) z .answer .number ≡ SLOTS)
@@ -56,13 +55,13 @@ module _ (z : Store) (key : ℕ) where
   unfolding stateOf
   start-slots =
       on-exactly (startStep key) z SLOTS (λ e. omega arith) λ good.
-      slots-exactly (planOf (z .plan)) (plan-good z good) (stateOf z) (state-good z good) key
+      slots-exactly (planOf z) (plan-good z good) (stateOf z) (state-good z good) key
 
   pub start-answers : Among (BADSTORE ∷ startAnswers) (onStore (startStep key) z .answer)
-  start-answers = on-among (startStep key) z startAnswers (start-among key (planOf (z .plan)) (stateOf z))
+  start-answers = on-among (startStep key) z startAnswers (start-among key (planOf z) (stateOf z))
 
   pub start-refused : Refuses z (onStore (startStep key) z)
-  start-refused = on-refuses (startStep key) z (start-refuses key (planOf (z .plan)) (stateOf z))
+  start-refused = on-refuses (startStep key) z (start-refuses key (planOf z) (stateOf z))
 
 -- ---- step
 
@@ -96,13 +95,13 @@ step-refuses slot p s = go (step-way slot p s)
 module _ (z : Store) (slot : ℕ) where
   pub step-badstore : (onStore (stepStep slot) z .answer .number ≡ BADSTORE) ↔ (goodStore z ≡ false)
   unfolding member
-  step-badstore = on-badstore (stepStep slot) z stepAnswers (step-among slot (planOf (z .plan)) (stateOf z)) refl
+  step-badstore = on-badstore (stepStep slot) z stepAnswers (step-among slot (planOf z) (stateOf z)) refl
 
   -- "slot above 7"
   pub step-slot : (onStore (stepStep slot) z .answer .number ≡ SLOT) ↔ ((goodStore z ≡ true) × (slotCount ≤ slot))
   step-slot =
       on-exactly (stepStep slot) z SLOT (λ e. omega arith) λ good.
-      step-slot-exactly (planOf (z .plan)) (plan-good z good) (stateOf z) (state-good z good) slot
+      step-slot-exactly (planOf z) (plan-good z good) (stateOf z) (state-good z good) slot
 
   -- "slot not running"
   pub step-idle : (onStore (stepStep slot) z .answer .number ≡ IDLE)
@@ -110,13 +109,13 @@ module _ (z : Store) (slot : ℕ) where
   unfolding stateOf
   step-idle =
       on-exactly (stepStep slot) z IDLE (λ e. omega arith) λ good.
-      step-idle-exactly (planOf (z .plan)) (plan-good z good) (stateOf z) (state-good z good) slot
+      step-idle-exactly (planOf z) (plan-good z good) (stateOf z) (state-good z good) slot
 
   pub step-answers : Among (BADSTORE ∷ stepAnswers) (onStore (stepStep slot) z .answer)
-  step-answers = on-among (stepStep slot) z stepAnswers (step-among slot (planOf (z .plan)) (stateOf z))
+  step-answers = on-among (stepStep slot) z stepAnswers (step-among slot (planOf z) (stateOf z))
 
   pub step-refused : Refuses z (onStore (stepStep slot) z)
-  step-refused = on-refuses (stepStep slot) z (step-refuses slot (planOf (z .plan)) (stateOf z))
+  step-refused = on-refuses (stepStep slot) z (step-refuses slot (planOf z) (stateOf z))
 
 -- ---- cancel
 
@@ -146,25 +145,25 @@ cancel-refuses slot p s = go (cancel-way slot p s)
 module _ (z : Store) (slot : ℕ) where
   pub cancel-badstore : (onStore (cancelStep slot) z .answer .number ≡ BADSTORE) ↔ (goodStore z ≡ false)
   unfolding member
-  cancel-badstore = on-badstore (cancelStep slot) z cancelAnswers (cancel-among slot (planOf (z .plan)) (stateOf z)) refl
+  cancel-badstore = on-badstore (cancelStep slot) z cancelAnswers (cancel-among slot (planOf z) (stateOf z)) refl
 
   pub cancel-slot : (onStore (cancelStep slot) z .answer .number ≡ SLOT) ↔ ((goodStore z ≡ true) × (slotCount ≤ slot))
   cancel-slot =
       on-exactly (cancelStep slot) z SLOT (λ e. omega arith) λ good.
-      cancel-slot-exactly (planOf (z .plan)) (plan-good z good) (stateOf z) (state-good z good) slot
+      cancel-slot-exactly (planOf z) (plan-good z good) (stateOf z) (state-good z good) slot
 
   pub cancel-idle : (onStore (cancelStep slot) z .answer .number ≡ IDLE)
       ↔ ((goodStore z ≡ true) × ((slot < slotCount) × (getD (z .slots) slot idle .running ≡ 0)))
   unfolding stateOf
   cancel-idle =
       on-exactly (cancelStep slot) z IDLE (λ e. omega arith) λ good.
-      cancel-idle-exactly (planOf (z .plan)) (plan-good z good) (stateOf z) (state-good z good) slot
+      cancel-idle-exactly (planOf z) (plan-good z good) (stateOf z) (state-good z good) slot
 
   pub cancel-answers : Among (BADSTORE ∷ cancelAnswers) (onStore (cancelStep slot) z .answer)
-  cancel-answers = on-among (cancelStep slot) z cancelAnswers (cancel-among slot (planOf (z .plan)) (stateOf z))
+  cancel-answers = on-among (cancelStep slot) z cancelAnswers (cancel-among slot (planOf z) (stateOf z))
 
   pub cancel-refused : Refuses z (onStore (cancelStep slot) z)
-  cancel-refused = on-refuses (cancelStep slot) z (cancel-refuses slot (planOf (z .plan)) (stateOf z))
+  cancel-refused = on-refuses (cancelStep slot) z (cancel-refuses slot (planOf z) (stateOf z))
 
 -- ---- look
 
@@ -178,8 +177,8 @@ look-done key p s = go (current p s key)
 
 -- A look has no store or buffer to alter.
 pub look-badstore : (z : Store) (key : ℕ) → (ofStore (lookAnswer key) z .number ≡ BADSTORE) ↔ (goodStore z ≡ false)
-look-badstore z key = of-badstore (lookAnswer key) z (λ e. omega (arith, look-done key (planOf (z .plan)) (stateOf z)))
+look-badstore z key = of-badstore (lookAnswer key) z (λ e. omega (arith, look-done key (planOf z) (stateOf z)))
 
 pub look-answers : (z : Store) (key : ℕ) → Among (BADSTORE ∷ DONE ∷ []) (ofStore (lookAnswer key) z)
 unfolding member
-look-answers z key = of-among (lookAnswer key) z (DONE ∷ []) (rw (look-done key (planOf (z .plan)) (stateOf z)))
+look-answers z key = of-among (lookAnswer key) z (DONE ∷ []) (rw (look-done key (planOf z) (stateOf z)))

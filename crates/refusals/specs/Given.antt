@@ -7,14 +7,13 @@ use mathlib.Core.Option.{none}
 use Prim.Native.Nat.{ℕ, _<_, _≤_}
 use lib.ListN.{length, getD}
 use Rattle.plan.specs.Plan.{capacityOf}
-use Rattle.plan.specs.PlanTable.{planOf}
 use Rattle.store.specs.declared.Answer.{Answer}
 use Rattle.store.specs.declared.Outcome.{Outcome}
 use Rattle.store.specs.declared.Store.{Store}
 use Rattle.store.specs.Answers.{DONE, GOING, CLOCK, FULL, NODE, EDGE, SLOTS, SLOT, IDLE, bare}
 use Rattle.store.specs.Copies.{keyOf, find, member}
 use Rattle.store.specs.State.{State, lastClock, nodeAt}
-use Rattle.store.specs.Layout.{stateOf}
+use Rattle.store.specs.Layout.{planOf, planOf, stateOf}
 use Rattle.store.specs.StoreRules.{goodStore}
 use Rattle.store.specs.Calls.{Effect}
 use Rattle.page.specs.Page.{lastSample}
@@ -56,14 +55,14 @@ abbrev pub Refuses : Store → Outcome → Type 0
 Refuses z o = 2 ≤ o .answer .number → o ≡ record { answer = bare (o .answer .number); store = z }
 
 -- "plan 1 to 3"
-abbrev pub OneToThree : ℕ → Type 0
-OneToThree plan = (1 ≤ plan) × (plan ≤ 3)
+abbrev pub IsPlan : ℕ → Type 0
+IsPlan plan = (1 ≤ plan) × (plan ≤ 3)
 
 -- FULL: "root full and lacks the key".
 pub record RootFull (z : Store) (key : ℕ) : Type 0 where
   pub clock-left : z .clock < lastClock
   pub lacks-key : find keyOf (nodeAt (stateOf z) 0) key ≡ none
-  pub no-place : length (nodeAt (stateOf z) 0) ≡ capacityOf (planOf (z .plan)) 0
+  pub no-place : length (nodeAt (stateOf z) 0) ≡ capacityOf (planOf z) 0
 
 -- The record at a place: of zeros outside the list.
 abbrev pub recordAt : List Step → ℕ → Step

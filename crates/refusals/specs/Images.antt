@@ -8,7 +8,7 @@ use Prim.Native.Nat.{ℕ, zero, suc, _<_, _≤_}
 use lib.Dec.{ltb, eqb}
 use lib.ListN.{length}
 use Rattle.plan.specs.Plan.{Plan}
-use Rattle.plan.specs.PlanTable.{planOf}
+use Rattle.plan.specs.PlanTable.{planNumbered}
 use Rattle.store.specs.declared.Copy.{Copy}
 use Rattle.store.specs.declared.Store.{Store}
 use Rattle.store.specs.Answers.{PLAN, FORMAT, RULE, TRAIL}
@@ -17,7 +17,7 @@ use Rattle.store.specs.StoreRules.{planNumberTest, goodStore}
 use Rattle.wire.specs.Reading.{got, fault, numberAt}
 use Rattle.image.specs.Image.{formatNumber}
 use Rattle.image.specs.Loading.{valueAt, copyAt, nodeAt, imageAt}
-use Rattle.refusals.specs.Given.{OneToThree}
+use Rattle.refusals.specs.Given.{IsPlan}
 
 -- What a number of an image is checked for, once it is read.
 pub data Own : Type 0 where
@@ -95,7 +95,7 @@ pub data InImage (s : List ℕ) : Own → ℕ → Type 0 where
   itsPlan : {format at : ℕ} → Passes s theFormat 0 format at → InImage s thePlan at
   itsClock : {format a plan at : ℕ} → Passes s theFormat 0 format a → Passes s thePlan a plan at → InImage s theClock at
   itsNodes : {format a plan b clock c at : ℕ} {own : Own} → Passes s theFormat 0 format a → Passes s thePlan a plan b → Passes s theClock b clock c
-      → InNodes s (planOf plan) c own at → InImage s own at
+      → InNodes s (planNumbered plan) c own at → InImage s own at
 
 -- Reading stops at one of the numbers that Place names: it is not read, or fails its check.
 pub record StopsAt (s : List ℕ) (Place : Own → ℕ → Type 0) (number at : ℕ) : Type 0 where
@@ -117,7 +117,7 @@ pub record BadPlan (s : List ℕ) (at : ℕ) : Type 0 where
   pub plan : ℕ
   pub next : ℕ
   pub read : numberAt s at ≡ got plan next
-  pub not-one-to-three : OneToThree plan → ⊥
+  pub no-such-plan : IsPlan plan → ⊥
 
 -- RULE at a number: "RULE for clock 0, count above capacity, kind above 1".
 pub data RuleAt (s : List ℕ) (at : ℕ) : Type 0 where

@@ -9,7 +9,7 @@ use Rattle.store.specs.Answers.{PLAN, CUT, NUMBER, OP, MANY}
 use Rattle.wire.specs.Reading.{got, fault, numberAt}
 use Rattle.schedule.specs.declared.Step.{Step}
 use Rattle.schedule.specs.Schedule.{mostSteps, knownStep, hasTwo, stepAt}
-use Rattle.refusals.specs.Given.{OneToThree}
+use Rattle.refusals.specs.Given.{IsPlan}
 
 -- The faults of decoding.
 abbrev pub scheduleFaults : List ℕ
@@ -44,7 +44,7 @@ pub record UnknownAt (s : List ℕ) (start at : ℕ) : Type 0 where
 pub record PlanRead (s : List ℕ) (from : ℕ) : Type 0 where
   pub plan : ℕ
   pub read : numberAt s 0 ≡ got plan from
-  pub one-to-three : OneToThree plan
+  pub is-plan : IsPlan plan
 
 -- PLAN: the plan's number is read, and is not 1 to 3.
 pub record BadSchedulePlan (s : List ℕ) (at : ℕ) : Type 0 where
@@ -52,7 +52,7 @@ pub record BadSchedulePlan (s : List ℕ) (at : ℕ) : Type 0 where
   pub plan : ℕ
   pub next : ℕ
   pub read : numberAt s 0 ≡ got plan next
-  pub not-one-to-three : OneToThree plan → ⊥
+  pub no-such-plan : IsPlan plan → ⊥
 
 -- A schedule stops: its plan's number is not read, or is no plan's, or its steps stop.
 pub data ScheduleStop (s : List ℕ) (number at : ℕ) : Type 0 where

@@ -8,12 +8,11 @@ use borrow.Author.Tests.{eq-eqb, le-leb, lt-leb}
 use Rattle.lists.specs.Runs.{allBelow}
 use Rattle.lists.proofs.Truths.{not-both, refuted, and-left, and-right, and-both}
 use Rattle.plan.specs.Sizes.{mostNodes}
-use Rattle.plan.specs.PlanTable.{planOf}
 use Rattle.plan.proofs.TableLaws.{plans-three}
 use Rattle.store.specs.declared.Store.{Store}
 use Rattle.store.specs.Copies.{different}
 use Rattle.store.specs.State.{lastClock, slotCount}
-use Rattle.store.specs.Layout.{places, stateOf}
+use Rattle.store.specs.Layout.{planOf, planOf, places, stateOf}
 use Rattle.store.specs.StoreRules.{shapeTest, planNumberTest, clockTest, unusedTest, nodeTest, stampsFrom, goodStore}
 use Rattle.store.specs.Workers.{holding, Sized, AllOrdered}
 use Rattle.rules_nodes.specs.Workers.{usedTest, tidyTest}
@@ -54,11 +53,11 @@ module _ (z : Store) where
   unfolding shapeTest
   shaped s l =
       rw (
-        eq-eqb (length (z .counts)) mostNodes (s .counts-8),
-        eq-eqb (length (z .keys)) places (s .keys-512),
-        eq-eqb (length (z .kinds)) places (s .kinds-512),
-        eq-eqb (length (z .values)) places (s .values-512),
-        eq-eqb (length (z .stamps)) places (s .stamps-512),
+        eq-eqb (length (z .counts)) mostNodes (s .counts-long),
+        eq-eqb (length (z .keys)) places (s .keys-long),
+        eq-eqb (length (z .kinds)) places (s .kinds-long),
+        eq-eqb (length (z .values)) places (s .values-long),
+        eq-eqb (length (z .stamps)) places (s .stamps-long),
         eq-eqb (length (z .slots)) slotCount l,
       )
 
@@ -67,7 +66,7 @@ module _ (z : Store) where
   unfolding tidyTest usedTest unusedTest
   no-search = refl
 
-  nodes-are : allBelow mostNodes (nodeTest (planOf (z .plan)) (stateOf z) z) ≡ (tidy && (placed z))
+  nodes-are : allBelow mostNodes (nodeTest (planOf z) (stateOf z) z) ≡ (tidy && (placed z))
   nodes-are = nodes-parts z ∙ rw (no-search, paths-keyed z)
 
   pub number-fails : planNumberTest (z .plan) ≡ false → goodStore z ≡ false
@@ -82,7 +81,7 @@ module _ (z : Store) where
   nodes-good : goodStore z ≡ true → (tidy && (placed z)) ≡ true
   unfolding goodStore
   nodes-good t =
-      let n : allBelow mostNodes (nodeTest (planOf (z .plan)) (stateOf z) z) ≡ true = search (and-left, and-right) depth 8 in
+      let n : allBelow mostNodes (nodeTest (planOf z) (stateOf z) z) ≡ true = search (and-left, and-right) depth 8 in
       sym nodes-are ∙ n
 
   slots-good : goodStore z ≡ true → (slotted z) ≡ true

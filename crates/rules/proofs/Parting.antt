@@ -7,21 +7,20 @@ use Rattle.lists.specs.Runs.{allFrom, allBelow}
 use Rattle.lists.proofs.Running.{same-all, all-and}
 use Rattle.plan.specs.Sizes.{mostNodes}
 use Rattle.plan.specs.Plan.{capacityOf, next, path}
-use Rattle.plan.specs.PlanTable.{planOf}
 use Rattle.store.specs.declared.Store.{Store}
 use Rattle.store.specs.Copies.{stampOf, member}
 use Rattle.store.specs.State.{inReach}
-use Rattle.store.specs.Layout.{width, copyOf, countOf, stateOf}
+use Rattle.store.specs.Layout.{planOf, planOf, width, copyOf, countOf, stateOf}
 use Rattle.store.specs.StoreRules.{kindTest, copyTest, placeTest, unusedTest, nodeTest}
 use Rattle.rules_nodes.specs.Workers.{markTest, keyRises, usedTest, tidyTest}
 use Rattle.rules_paths.specs.Workers.{placedTest, pathsTest}
 
 module _ (z : Store) where
   place-parts : (n i : ℕ)
-      → placeTest (planOf (z .plan)) (stateOf z) z n i ≡ (usedTest z (width * n + countOf z n) i && placedTest z n i)
+      → placeTest (planOf z) (stateOf z) z n i ≡ (usedTest z (width * n + countOf z n) i && placedTest z n i)
   unfolding placeTest copyTest usedTest markTest placedTest stateOf
   place-parts n i =
-      let p = planOf (z .plan) in
+      let p = planOf z in
       let x = copyOf z i in
       go (kindTest x && leb 1 (x .stamp) && ltb (x .stamp) (z .clock)) (member n (path p (x .key)))
       (ltb (stampOf (inReach p (stateOf z) (x .key) (next p n (x .key)))) (x .stamp)) (keyRises (z .keys) (width * n + countOf z n) i)
@@ -31,14 +30,14 @@ module _ (z : Store) where
       go true m f true = and-true (m && f)
       go true m f false = and-false (m && f)
 
-  node-parts : (n : ℕ) → nodeTest (planOf (z .plan)) (stateOf z) z n ≡ (tidyTest z n && pathsTest z n)
+  node-parts : (n : ℕ) → nodeTest (planOf z) (stateOf z) z n ≡ (tidyTest z n && pathsTest z n)
   unfolding nodeTest tidyTest pathsTest
   node-parts n =
       let end = width * n + countOf z n in
-      ap (λ (b : Bool). leb (countOf z n) (capacityOf (planOf (z .plan)) n) && b && unusedTest z end (width * n + width))
-      (same-all (placeTest (planOf (z .plan)) (stateOf z) z n) (λ i. usedTest z end i && placedTest z n i) (width * n) (countOf z n) (place-parts n)
+      ap (λ (b : Bool). leb (countOf z n) (capacityOf (planOf z) n) && b && unusedTest z end (width * n + width))
+      (same-all (placeTest (planOf z) (stateOf z) z n) (λ i. usedTest z end i && placedTest z n i) (width * n) (countOf z n) (place-parts n)
       ∙ all-and (usedTest z end) (placedTest z n) (width * n) (countOf z n))
-      ∙ go (leb (countOf z n) (capacityOf (planOf (z .plan)) n)) (allFrom (width * n) (countOf z n) (usedTest z end))
+      ∙ go (leb (countOf z n) (capacityOf (planOf z) n)) (allFrom (width * n) (countOf z n) (usedTest z end))
       (allFrom (width * n) (countOf z n) (placedTest z n)) (unusedTest z end (width * n + width))
     where
       go : (a u q o : Bool) → (a && (u && q) && o) ≡ (a && u && o && q)
@@ -48,7 +47,7 @@ module _ (z : Store) where
       go true true q false = and-false q
 
   -- The nodes pass exactly when their own numbers and the paths of their copies do.
-  pub nodes-parts : allBelow mostNodes (nodeTest (planOf (z .plan)) (stateOf z) z) ≡ (allBelow mostNodes (tidyTest z) && allBelow mostNodes (pathsTest z))
+  pub nodes-parts : allBelow mostNodes (nodeTest (planOf z) (stateOf z) z) ≡ (allBelow mostNodes (tidyTest z) && allBelow mostNodes (pathsTest z))
   nodes-parts =
-      same-all (nodeTest (planOf (z .plan)) (stateOf z) z) (λ n. tidyTest z n && pathsTest z n) 0 mostNodes node-parts
+      same-all (nodeTest (planOf z) (stateOf z) z) (λ n. tidyTest z n && pathsTest z n) 0 mostNodes node-parts
       ∙ all-and (tidyTest z) (pathsTest z) 0 mostNodes

@@ -16,9 +16,8 @@ use Rattle.lists.proofs.Running.{all-at, all-below}
 use Rattle.plan.specs.Sizes.{mostNodes}
 use Rattle.plan.specs.Plan.{Node, Plan, noNode, size, capacityOf}
 use Rattle.plan.specs.PlanRules.{PlanRules}
-use Rattle.plan.specs.PlanTable.{planOf}
 use Rattle.store.specs.declared.Store.{Store}
-use Rattle.store.specs.Layout.{width, countOf}
+use Rattle.store.specs.Layout.{planOf, planOf, width, countOf}
 use Rattle.store.specs.StoreRules.{planNumberTest, allZero, unusedTest}
 use Rattle.store.specs.Workers.{numberIn, holding, Ordered, AllOrdered}
 use Rattle.rules_nodes.specs.Workers.{usedTest, tidyTest}
@@ -43,13 +42,13 @@ pub capacity-fits : (p : Plan) → PlanRules p → (n : ℕ) → capacityOf p n 
 capacity-fits p rules n = go (decLt n (size p))
   where
     go : Dec (n < size p) → capacityOf p n ≤ width
-    go (yes h) = rules .capacity-1-to-64 n h .1
+    go (yes h) = rules .capacity-within n h .1
     go (no h) = let e : capacityOf p n ≡ 0 = ap (λ (d : Node). d .capacity) (List·getD-eq-default p noNode (omega arith)) in omega arith
 
 module _ (z : Store) (n : ℕ) where
-  pub node-over : capacityOf (planOf (z .plan)) n < countOf z n → tidyTest z n ≡ false
+  pub node-over : capacityOf (planOf z) n < countOf z n → tidyTest z n ≡ false
   unfolding tidyTest
-  node-over h = rw (lt-leb (countOf z n) (capacityOf (planOf (z .plan)) n) h)
+  node-over h = rw (lt-leb (countOf z n) (capacityOf (planOf z) n) h)
 
   -- The test of its used places reads neither the plan nor the counts.
   abbrev usedAt : ℕ → ℕ → Bool
@@ -63,19 +62,19 @@ module _ (z : Store) (n : ℕ) where
 
     pub node-used : allFrom from (end - from) (usedAt end) ≡ false → tidyTest z n ≡ false
     unfolding tidyTest
-    node-used h = rw (sym used ∙ h, and-false (leb (countOf z n) (capacityOf (planOf (z .plan)) n)))
+    node-used h = rw (sym used ∙ h, and-false (leb (countOf z n) (capacityOf (planOf z) n)))
 
-    pub node-unused : countOf z n ≤ capacityOf (planOf (z .plan)) n → allFrom from (end - from) (usedAt end) ≡ true
+    pub node-unused : countOf z n ≤ capacityOf (planOf z) n → allFrom from (end - from) (usedAt end) ≡ true
         → tidyTest z n
         ≡ (allZero (slice end (from + width) (z .keys)) && allZero (slice end (from + width) (z .kinds)) && allZero (slice end (from + width) (z .values)) && allZero (slice end (from + width) (z .stamps)))
     unfolding tidyTest unusedTest
-    node-unused h g = rw (le-leb (countOf z n) (capacityOf (planOf (z .plan)) n) h, sym used ∙ g, e, f)
+    node-unused h g = rw (le-leb (countOf z n) (capacityOf (planOf z) n) h, sym used ∙ g, e, f)
 
   -- In a node that passes a look can go by halves.
   module _ (number : planNumberTest (z .plan) ≡ true) (t : tidyTest z n ≡ true) where
-    within : countOf z n ≤ capacityOf (planOf (z .plan)) n
+    within : countOf z n ≤ capacityOf (planOf z) n
     unfolding tidyTest
-    within = leb-true (countOf z n) (capacityOf (planOf (z .plan)) n) (search (and-left, and-right) depth 8)
+    within = leb-true (countOf z n) (capacityOf (planOf z) n) (search (and-left, and-right) depth 8)
 
     place-used : (i : ℕ) → width * n ≤ i → i < width * n + countOf z n → usedTest z (width * n + countOf z n) i ≡ true
     unfolding tidyTest
@@ -91,7 +90,7 @@ module _ (z : Store) (n : ℕ) where
     pub node-ordered : Ordered (z .counts) (z .keys) n
     node-ordered =
         record {
-          fits = omega (arith, within, capacity-fits (planOf (z .plan)) (number-rules (z .plan) number) n);
+          fits = omega (arith, within, capacity-fits (planOf z) (number-rules (z .plan) number) n);
           rises = λ i h g. rising i g (place-used i h (omega arith));
         }
 

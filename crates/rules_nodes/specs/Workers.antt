@@ -5,10 +5,9 @@ use Prim.Native.Nat.{ℕ, suc, _+_, _*_}
 use lib.Dec.{leb, ltb}
 use Rattle.lists.specs.Runs.{allFrom}
 use Rattle.plan.specs.Plan.{capacityOf}
-use Rattle.plan.specs.PlanTable.{planOf}
 use Rattle.store.specs.declared.Copy.{Copy}
 use Rattle.store.specs.declared.Store.{Store}
-use Rattle.store.specs.Layout.{width, copyOf, countOf}
+use Rattle.store.specs.Layout.{planOf, planOf, width, copyOf, countOf}
 use Rattle.store.specs.StoreRules.{kindTest, unusedTest}
 use Rattle.store.specs.Workers.{numberIn}
 
@@ -27,6 +26,6 @@ usedTest z end i = keyRises (z .keys) end i && markTest (z .clock) (copyOf z i)
 -- and the count, the used places and the others of a node.
 unfoldable pub tidyTest : Store → ℕ → Bool
 tidyTest z n =
-    leb (countOf z n) (capacityOf (planOf (z .plan)) n)
+    leb (countOf z n) (capacityOf (planOf z) n)
     && allFrom (width * n) (countOf z n) (usedTest z (width * n + countOf z n))
     && unusedTest z (width * n + countOf z n) (width * n + width)

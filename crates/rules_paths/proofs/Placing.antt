@@ -13,12 +13,11 @@ use Rattle.lists.proofs.Running.{map-run, same-all}
 use Rattle.plan.specs.Sizes.{mostNodes}
 use Rattle.plan.specs.declared.Hop.{Hop}
 use Rattle.plan.specs.Plan.{size, next, walk, path}
-use Rattle.plan.specs.PlanTable.{planOf}
 use Rattle.store.specs.declared.Copy.{Copy}
 use Rattle.store.specs.declared.Store.{Store}
 use Rattle.store.specs.Copies.{copy, keyOf, find, stampOf, member}
 use Rattle.store.specs.State.{line, orElse, firstOn, inReach}
-use Rattle.store.specs.Layout.{width, copyIn, nodeIn, countOf, nodeOf, stateOf}
+use Rattle.store.specs.Layout.{planOf, planOf, planOf, width, copyIn, nodeIn, countOf, nodeOf, stateOf}
 use Rattle.store.specs.Workers.{numberIn}
 use Rattle.store.proofs.Laying.{state-node, state-past}
 use Rattle.store.proofs.Seeking.{find-map}
@@ -26,12 +25,12 @@ use Rattle.rules_paths.specs.Workers.{keyed, placedTest, pathsTest, slot
 
 -- One copy.
 module _ (z : Store) (n i : ℕ) where
-  pub placed-off : member n (path (planOf (z .plan)) (numberIn (z .keys) i)) ≡ false → placedTest z n i ≡ false
+  pub placed-off : member n (path (planOf z) (numberIn (z .keys) i)) ≡ false → placedTest z n i ≡ false
   unfolding placedTest
   placed-off h = rw h
 
-  pub placed-falls : member n (path (planOf (z .plan)) (numberIn (z .keys) i)) ≡ true → (t : ℕ)
-      → t ≡ stampOf (inReach (planOf (z .plan)) (stateOf z) (numberIn (z .keys) i) (next (planOf (z .plan)) n (numberIn (z .keys) i)))
+  pub placed-falls : member n (path (planOf z) (numberIn (z .keys) i)) ≡ true → (t : ℕ)
+      → t ≡ stampOf (inReach (planOf z) (stateOf z) (numberIn (z .keys) i) (next (planOf z) n (numberIn (z .keys) i)))
       → placedTest z n i ≡ ltb t (numberIn (z .stamps) i)
   unfolding placedTest
   placed-falls h t e = rw (h, e)
@@ -69,25 +68,25 @@ module _ (z : Store) where
   node-keyed n = sym (map-run keyedCopy (copyIn (z .keys) (z .kinds) (z .values) (z .stamps)) (width * n) (getD (z .counts) n 0))
 
   line-keyed : (k n : ℕ) → line (stateOf keyedStore) k n ≡ Option·map keyedCopy (line (stateOf z) k n)
-  line-keyed k n = go (decLt n (size (planOf (z .plan))))
+  line-keyed k n = go (decLt n (size (planOf z)))
     where
       found : (xs : List Copy) → find keyOf (map keyedCopy xs) k ≡ Option·map keyedCopy (find keyOf xs k)
       found xs = find-map keyOf keyedCopy xs k
 
-      go : Dec (n < size (planOf (z .plan))) → line (stateOf keyedStore) k n ≡ Option·map keyedCopy (line (stateOf z) k n)
+      go : Dec (n < size (planOf z)) → line (stateOf keyedStore) k n ≡ Option·map keyedCopy (line (stateOf z) k n)
       go (yes h) = rw (state-node keyedStore n h, state-node z n h, node-keyed n) (found (nodeOf z n))
       go (no h) = rw (state-past keyedStore n (omega arith), state-past z n (omega arith)) (found [])
 
   reach-keyed : (k : ℕ) (h : Hop)
-      → stampOf (inReach (planOf (z .plan)) (stateOf keyedStore) k h) ≡ stampOf (inReach (planOf (z .plan)) (stateOf z) k h)
+      → stampOf (inReach (planOf z) (stateOf keyedStore) k h) ≡ stampOf (inReach (planOf z) (stateOf z) k h)
   unfolding inReach
   reach-keyed k h =
-      let ns = walk (planOf (z .plan)) k (size (planOf (z .plan))) h in
+      let ns = walk (planOf z) k (size (planOf z)) h in
       ap stampOf (first-keyed (line (stateOf z) k) (line (stateOf keyedStore) k) (line-keyed k) ns) ∙ stamp-keyed (firstOn (line (stateOf z) k) ns)
 
   placed-keyed : (n i : ℕ) → placedTest keyedStore n i ≡ placedTest z n i
   unfolding placedTest
-  placed-keyed n i = rw (reach-keyed (numberIn (z .keys) i) (next (planOf (z .plan)) n (numberIn (z .keys) i)))
+  placed-keyed n i = rw (reach-keyed (numberIn (z .keys) i) (next (planOf z) n (numberIn (z .keys) i)))
 
   -- The test of paths needs nothing but keys and stamps.
   pub paths-keyed : allBelow mostNodes (pathsTest keyedStore) ≡ allBelow mostNodes (pathsTest z)

@@ -10,7 +10,7 @@ use Rattle.plan.specs.declared.Hop.{Hop}
 use Rattle.plan.specs.declared.Hop.the-variants.{To, Ends}
 use Rattle.plan.specs.Plan.{Plan, size, next, walk}
 use Rattle.plan.specs.PlanRules.{PlanRules}
-use Rattle.plan.specs.PlanTable.{planOf}
+use Rattle.plan.specs.PlanTable.{planNumbered}
 use Rattle.plan.proofs.NextLaws.{next-down}
 use Rattle.store.specs.declared.Copy.{Copy}
 use Rattle.store.specs.Copies.{keyOf, find, stampOf}
@@ -33,31 +33,31 @@ leads-on p rules n k h e t g = next-down p rules n k t (sym e ∙ g) .1
 module _ (plan : ℕ) (counts keys stamps : List ℕ) (k : ℕ) where
   -- The stamp in reach from a step, within so many nodes.
   abbrev pub stampOn : ℕ → Hop → ℕ
-  stampOn left hop = stampOf (firstOn (line (stateOf (keyed plan counts keys stamps)) k) (walk (planOf plan) k left hop))
+  stampOn left hop = stampOf (firstOn (line (stateOf (keyed plan counts keys stamps)) k) (walk (planNumbered plan) k left hop))
 
   -- The node's copy of the key.
   abbrev lineAt : ℕ → Option Copy
   lineAt n = find keyOf (nodeOf (keyed plan counts keys stamps) n) k
 
   module _ (left : ℕ) (hop : Hop) where
-    pub reach-starts : left ≡ size (planOf plan) → stampOf (inReach (planOf plan) (stateOf (keyed plan counts keys stamps)) k hop) ≡ stampOn left hop
+    pub reach-starts : left ≡ size (planNumbered plan) → stampOf (inReach (planNumbered plan) (stateOf (keyed plan counts keys stamps)) k hop) ≡ stampOn left hop
     unfolding inReach
     reach-starts e = rw e
 
     pub reach-out : left ≤ 0 → stampOn left hop ≡ 0
     unfolding firstOn
-    reach-out l = rw (walk-out (planOf plan) k left hop l)
+    reach-out l = rw (walk-out (planNumbered plan) k left hop l)
 
     pub reach-ends : hop ≡ Ends → stampOn left hop ≡ 0
     unfolding firstOn
-    reach-ends e = rw (walk-ends (planOf plan) k left hop e)
+    reach-ends e = rw (walk-ends (planNumbered plan) k left hop e)
 
     -- A turn, at a node in which the place of k is `at`.
-    module _ (n : ℕ) (l : 0 < left) (e : hop ≡ To n) (h : n < size (planOf plan)) (o : Ordered counts keys n) (at : ℕ)
+    module _ (n : ℕ) (l : 0 < left) (e : hop ≡ To n) (h : n < size (planNumbered plan)) (o : Ordered counts keys n) (at : ℕ)
         (q : at ≡ placeIn keys (width * n) (width * n + getD counts n 0) k) where
-      first-line : stampOn left hop ≡ stampOf (orElse (lineAt n) (firstOn (line (stateOf (keyed plan counts keys stamps)) k) (walk (planOf plan) k (left - 1) (next (planOf plan) n k))))
+      first-line : stampOn left hop ≡ stampOf (orElse (lineAt n) (firstOn (line (stateOf (keyed plan counts keys stamps)) k) (walk (planNumbered plan) k (left - 1) (next (planNumbered plan) n k))))
       unfolding firstOn
-      first-line = rw (walk-goes (planOf plan) k left hop n l e, state-node (keyed plan counts keys stamps) n h)
+      first-line = rw (walk-goes (planNumbered plan) k left hop n l e, state-node (keyed plan counts keys stamps) n h)
 
       looked : find keyOf (run (width * n) (width * n + getD counts n 0 - width * n) (copyIn keys [] [] stamps)) k ≡ lineAt n
       unfolding nodeIn
@@ -69,7 +69,7 @@ module _ (plan : ℕ) (counts keys stamps : List ℕ) (k : ℕ) where
           ∙ rw
           (sym looked ∙ found-at keys (width * n) (width * n + getD counts n 0) (omega arith) (o .rises) [] [] stamps k at a b c)
 
-      pub reach-on : (at < width * n + getD counts n 0 → numberIn keys at ≡ k → ⊥) → stampOn left hop ≡ stampOn (left - 1) (next (planOf plan) n k)
+      pub reach-on : (at < width * n + getD counts n 0 → numberIn keys at ≡ k → ⊥) → stampOn left hop ≡ stampOn (left - 1) (next (planNumbered plan) n k)
       reach-on a =
           first-line
           ∙ rw

@@ -7,7 +7,7 @@ ghost use Rattle.lists.specs.Runs.{allBelow};
 ghost use Rattle.plan.specs.Sizes.{mostNodes};
 ghost use Rattle.plan.specs.Plan.{path};
 ghost use Rattle.plan.specs.Plan.{next as nextOf};
-ghost use Rattle.plan.specs.PlanTable.{planOf};
+ghost use Rattle.plan.specs.PlanTable.{planNumbered};
 ghost use Rattle.store.specs.Copies.{stampOf, member};
 ghost use Rattle.store.specs.State.{inReach};
 ghost use Rattle.store.specs.Layout.{places, stateOf};
@@ -31,7 +31,7 @@ fn on_path<'a>(
     node: u32,
 ) -> bool
     requires { ⌜ ArraysOf plan (now edges) (now lows) (now highs) (now targets) ⌝ }
-    ensures { λ r. ⌜ r ≡ member node (path (planOf plan) key) ⌝ }
+    ensures { λ r. ⌜ r ≡ member node (path (planNumbered plan) key) ⌝ }
 {
     let mut left = plan::nodes(plan);
     let mut hop = Hop::To(0);
@@ -60,7 +60,7 @@ pub fn stands_at<'a>(
     above: u32,
 ) -> bool
     requires { ⌜ ArraysOf plan (now edges) (now lows) (now highs) (now targets) ⌝ }
-    ensures { λ r. ⌜ r ≡ standsAt node (path (planOf plan) key) above ⌝ }
+    ensures { λ r. ⌜ r ≡ standsAt node (path (planNumbered plan) key) above ⌝ }
 {
     let mut left = plan::nodes(plan);
     let mut step = Hop::To(0);
@@ -93,7 +93,7 @@ fn stamp_below<'a>(
     key: u32,
 ) -> u32
     requires { ⌜ (planNumberTest plan ≡ true) × ArraysOf plan (now edges) (now lows) (now highs) (now targets) × AllOrdered (now counts) (now keys) ⌝ }
-    ensures { λ r. ⌜ r ≡ stampOf (inReach (planOf plan) (stateOf (keyed plan (now (counts .entry)) (now (keys .entry)) (now (stamps .entry)))) key (nextOf (planOf plan) node key)) ⌝ }
+    ensures { λ r. ⌜ r ≡ stampOf (inReach (planNumbered plan) (stateOf (keyed plan (now (counts .entry)) (now (keys .entry)) (now (stamps .entry)))) key (nextOf (planNumbered plan) node key)) ⌝ }
 {
     let mut left = plan::nodes(plan);
     let mut hop = arrays::next_in(edges, lows, highs, targets, node, key);

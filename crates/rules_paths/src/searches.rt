@@ -2,7 +2,7 @@
 ghost use mathlib.Core.Path.{_≡_};
 ghost use mathlib.Core.Bool.{_&&_};
 ghost use lib.Dec.{eqb};
-ghost use Rattle.plan.specs.PlanTable.{planOf};
+ghost use Rattle.plan.specs.PlanTable.{planNumbered};
 ghost use Rattle.store.specs.StoreRules.{slotTest};
 ghost use Rattle.rules_paths.specs.Workers.{slotsTest};
 ghost use Rattle.plan.specs.PlanArrays.{ArraysOf};
@@ -33,7 +33,7 @@ fn slot_good<'a>(
     slot: Slot,
 ) -> bool
     requires { ⌜ ArraysOf plan (now edges) (now lows) (now highs) (now targets) ⌝ }
-    ensures { λ r. ⌜ r ≡ slotTest (planOf plan) slot ⌝ }
+    ensures { λ r. ⌜ r ≡ slotTest (planNumbered plan) slot ⌝ }
 {
     if slot.running == 0 {
         return rests(slot);

@@ -5,13 +5,12 @@ use mathlib.Core.List.{List}
 use Prim.Native.Nat.{ℕ}
 use lib.ListN.{getD}
 use Rattle.plan.specs.Plan.{Plan}
-use Rattle.plan.specs.PlanTable.{planOf}
 use Rattle.store.specs.declared.Answer.{Answer}
 use Rattle.store.specs.declared.Outcome.{Outcome}
 use Rattle.store.specs.declared.Store.{Store}
 use Rattle.store.specs.Answers.{BADSTORE, OP, answer, bare}
 use Rattle.store.specs.State.{State}
-use Rattle.store.specs.Layout.{stateOf, storeOf}
+use Rattle.store.specs.Layout.{planOf, planOf, planOf, stateOf, storeOf}
 use Rattle.store.specs.StoreRules.{goodStore}
 use Rattle.store.specs.Calls.{Effect, onStore}
 use Rattle.store.proofs.Lifting.{on-bad, on-way, good-back}
@@ -34,7 +33,7 @@ module _ (z : Store) (number x y place : ℕ) where
   unfolding onStore
   runs-call f same e =
       e ∙ ap (λ (w : Effect). cond (goodStore z) (record { answer = w .answer; store = storeOf (z .plan) (w .after) }) (record { answer = bare BADSTORE; store = z }))
-      (sym (same (planOf (z .plan)) (stateOf z)))
+      (sym (same (planOf z) (stateOf z)))
 
 -- An unknown step: BADSTORE,
 module _ (z : Store) (place : ℕ) where

@@ -6,13 +6,12 @@ use Prim.Native.Nat.{ℕ, _<_}
 use native.Mathlib.Omega.{arith}
 use lib.ListN.{getD}
 use Rattle.plan.specs.Plan.{Plan}
-use Rattle.plan.specs.PlanTable.{planOf}
 use Rattle.plan.proofs.PathLaws.{path-within}
 use Rattle.store.specs.declared.Store.{Store}
 use Rattle.store.specs.Answers.{BADSTORE}
 use Rattle.store.specs.State.{State, slotCount, idle}
 use Rattle.store.specs.StateRules.{OnPath}
-use Rattle.store.specs.Layout.{stateOf, storeOf}
+use Rattle.store.specs.Layout.{planOf, planOf, planOf, stateOf, storeOf}
 use Rattle.store.specs.StoreRules.{goodStore}
 use Rattle.store.specs.Calls.{Effect}
 use Rattle.store.proofs.Lifting.{plan-good, state-good, good-back, on-bad, on-way}
@@ -35,10 +34,10 @@ module _ (z : Store) (good : goodStore z ≡ true) where
   good-stands i h runs =
       let q = getD (z .slots) i idle in
       let rules = plan-good z good in
-      let o : OnPath (planOf (z .plan)) (q .key) (q .node) (q .visits) = state-good z good .running-searches-on-their-paths i h runs .1 in
+      let o : OnPath (planOf z) (q .key) (q .node) (q .visits) = state-good z good .running-searches-on-their-paths i h runs .1 in
       record {
-        node = on-path-in-plan (planOf (z .plan)) rules (q .key) (q .node) (q .visits) o;
-        visits = omega (arith, o .inside, path-within (planOf (z .plan)) rules (q .key), rules .two-to-eight-nodes);
+        node = on-path-in-plan (planOf z) rules (q .key) (q .node) (q .visits) o;
+        visits = omega (arith, o .inside, path-within (planOf z) rules (q .key), rules .nodes-within);
       }
 
   pub good-steppable : Steppable (z .plan) (z .counts) (z .keys) (z .slots)
@@ -52,15 +51,15 @@ module _ (z : Store) (good : goodStore z ≡ true) where
       ∙ ap (withSlots (t .slots)) (good-back z good)
 
   -- A step that leaves nodes and clock: its answer and slots give the call's outcome.
-  moved-out : (f : Plan → State → Effect) → Still (stateOf z) (f (planOf (z .plan)) (stateOf z) .after)
-      → (m : Moved) → m ≡ movedBy (f (planOf (z .plan)) (stateOf z)) → Moves f z m
+  moved-out : (f : Plan → State → Effect) → Still (stateOf z) (f (planOf z) (stateOf z) .after)
+      → (m : Moved) → m ≡ movedBy (f (planOf z) (stateOf z)) → Moves f z m
   moved-out f still m e =
-      let w = f (planOf (z .plan)) (stateOf z) in
+      let w = f (planOf z) (stateOf z) in
       ap (λ (n : Moved). record { answer = n .answer; store = withSlots (n .slots) z }) e
       ∙ on-way f z good (w .answer) (w .after) (withSlots (w .after .slots) z) refl (sym (still-store (w .after) still))
 
-  pub turn-out : (f : Plan → State → Effect) → Still (stateOf z) (f (planOf (z .plan)) (stateOf z) .after)
-      → (t : Turn) → t .at < slotCount → turned (z .slots) t ≡ movedBy (f (planOf (z .plan)) (stateOf z)) → Turns f z t
+  pub turn-out : (f : Plan → State → Effect) → Still (stateOf z) (f (planOf z) (stateOf z) .after)
+      → (t : Turn) → t .at < slotCount → turned (z .slots) t ≡ movedBy (f (planOf z) (stateOf z)) → Turns f z t
   turn-out f still t h e = (h, moved-out f still (turned (z .slots) t) e)
 
 -- And so do BADSTORE and the slots as they were, on a bad store.

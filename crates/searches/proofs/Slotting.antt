@@ -10,7 +10,6 @@ use lib.Dec.{lit<}
 use borrow.Author.Tests.{lt-ltb, le-ltb, eq-eqb, ne-eqb}
 use Rattle.plan.specs.declared.Hop.the-variants.{To, Ends}
 use Rattle.plan.specs.Plan.{Plan, size, next}
-use Rattle.plan.specs.PlanTable.{planOf}
 use Rattle.store.specs.declared.Answer.{Answer}
 use Rattle.store.specs.declared.Copy.{Copy}
 use Rattle.store.specs.declared.Found.the-variants.{Held, Nothing}
@@ -19,7 +18,7 @@ use Rattle.store.specs.declared.Store.{Store}
 use Rattle.store.specs.Answers.{DONE, GOING, SLOTS, SLOT, IDLE, answer, bare}
 use Rattle.store.specs.Copies.{keyOf, find, foundOf}
 use Rattle.store.specs.State.{State, slotCount, slotAt, idle}
-use Rattle.store.specs.Layout.{nodeOf, stateOf}
+use Rattle.store.specs.Layout.{planOf, planOf, planOf, nodeOf, stateOf}
 use Rattle.store.specs.Calls.{Effect}
 use Rattle.store.proofs.Halving.{found-none, found-some}
 use Rattle.steps.specs.Searches.{running, lowestIdle, startStep, ended, withRunning, stepStep, cancelStep}
@@ -81,9 +80,9 @@ module _ (p : Plan) (s : State) where
 
 -- A step of the search that runs in slot i, at a node of the plan.
 module _ (z : Store) (i : ℕ) (h : i < length (z .slots)) (runs : getD (z .slots) i idle .running ≢ 0)
-    (at : getD (z .slots) i idle .node < size (planOf (z .plan))) (visits : ℕ) (e : visits ≡ suc (getD (z .slots) i idle .visits)) where
+    (at : getD (z .slots) i idle .node < size (planOf z)) (visits : ℕ) (e : visits ≡ suc (getD (z .slots) i idle .visits)) where
   abbrev p : Plan
-  p = planOf (z .plan)
+  p = planOf z
 
   abbrev q : Slot
   q = getD (z .slots) i idle

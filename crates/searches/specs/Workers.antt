@@ -6,14 +6,14 @@ use Prim.Native.Nat.{ℕ, _<_, _≤_}
 use lib.ListN.{getD, set}
 use Rattle.plan.specs.Sizes.{mostNodes}
 use Rattle.plan.specs.Plan.{Plan, size, path}
-use Rattle.plan.specs.PlanTable.{planOf, plans}
+use Rattle.plan.specs.PlanTable.{planNumbered, plans}
 use Rattle.store.specs.declared.Copy.{Copy}
 use Rattle.store.specs.declared.Slot.{Slot}
 use Rattle.store.specs.declared.Store.{Store}
 use Rattle.store.specs.Answers.{bare}
 use Rattle.store.specs.Copies.{foundOf}
 use Rattle.store.specs.State.{State, slotCount, idle, line, current}
-use Rattle.store.specs.Layout.{stateOf}
+use Rattle.store.specs.Layout.{planOf, planOf, planOf, stateOf}
 use Rattle.store.specs.Calls.{Effect, onStore}
 use Rattle.store.specs.Workers.{Ordered, ofParts}
 use Rattle.steps.specs.Searches.{startStep, stepStep, cancelStep, visitsOn}
@@ -29,7 +29,7 @@ pub record Lookable (plan : ℕ) (counts keys : List ℕ) : Type 0 where
 -- What it sees: the line's current copy, or nothing, and the nodes visited.
 unfoldable pub seenIn : Store → ℕ → Seen
 seenIn z k =
-    record { found = foundOf (current (planOf (z .plan)) (stateOf z) k); visits = visitsOn (line (stateOf z) k) (path (planOf (z .plan)) k) }
+    record { found = foundOf (current (planOf z) (stateOf z) k); visits = visitsOn (line (stateOf z) k) (path (planOf z) k) }
 
 -- What a step answers, and the slots after it.
 abbrev pub movedBy : Effect → Moved
@@ -45,7 +45,7 @@ stays number slots = record { answer = bare number; at = 0; slot = getD slots 0 
 
 -- A slot's search stands at a node of the plan, after fewer visits than a plan may have nodes.
 pub record Stands (plan : ℕ) (q : Slot) : Type 0 where
-  pub node : q .node < size (planOf plan)
+  pub node : q .node < size (planNumbered plan)
   pub visits : q .visits < mostNodes
 
 -- What a step asks for: that it can look, and that each running search stands. A good store has both.
@@ -81,7 +81,7 @@ StepsIn plan counts keys kinds values stamps slots slot r =
     × ((clock : ℕ)
     → turned slots r
     ≡ movedBy
-    (stepStep slot (planOf plan)
+    (stepStep slot (planNumbered plan)
     (stateOf
     (ofParts plan clock counts keys kinds values stamps slots))))
 

@@ -2,7 +2,7 @@
 ghost use mathlib.Core.Path.{_≡_};
 ghost use mathlib.Core.Option.{none, some};
 ghost use Rattle.store.specs.Workers.{holding, Sized, ofParts};
-ghost use Rattle.plan.specs.PlanTable.{planOf};
+ghost use Rattle.plan.specs.PlanTable.{planNumbered};
 ghost use Rattle.store.specs.Layout.{stateOf};
 ghost use Rattle.plan.specs.PlanArrays.{ArraysOf};
 ghost use Rattle.steps.specs.Promises.{Looks};
@@ -95,7 +95,7 @@ fn looked<'a>(
     key: u32,
 ) -> Answer
     requires { ⌜ Lookable plan (now counts) (now keys) ⌝ }
-    ensures { λ r. ⌜ r ≡ lookAnswer key (planOf plan) (stateOf (holding plan 0 (now (counts .entry)) (now (keys .entry)) (now (kinds .entry)) (now (values .entry)) (now (stamps .entry)))) ⌝ }
+    ensures { λ r. ⌜ r ≡ lookAnswer key (planNumbered plan) (stateOf (holding plan 0 (now (counts .entry)) (now (keys .entry)) (now (kinds .entry)) (now (values .entry)) (now (stamps .entry)))) ⌝ }
 {
     let edges = plan::edge_counts_of(plan);
     let lows = plan::lowest_of(plan);

@@ -55,7 +55,7 @@ bit-one false e = absurd (omega arith)
 
 module _ (p : Plan) (rules : PlanRules p) (s : State) (good : StateRules p s) where
   root : 0 < length (s .nodes)
-  root = omega (arith, good .a-list-for-each-node, rules .two-to-eight-nodes)
+  root = omega (arith, good .a-list-for-each-node, rules .nodes-within)
 
   -- An entry for which there is room.
   module _ (x : Copy) (t : x .stamp ≡ s .clock) where
@@ -63,7 +63,7 @@ module _ (p : Plan) (rules : PlanRules p) (s : State) (good : StateRules p s) wh
     unfolding entered
     entered-lines fit =
         lines-kept p rules s (entered x s) (λ k. 0) (λ k. bit (eqb (x .key) k)) (λ k. entered-step p rules s good k x t)
-        (line-rules p s good) (good .clock-1-to-last .0) (λ j k a b. sym (its j a) ∙ its k b)
+        (line-rules p s good) (good .clock-within .0) (λ j k a b. sym (its j a) ∙ its k b)
         (λ k y a e.
         subst KindAndValue
         (one-some (subst (λ (z : ℕ). line (entered x s) z 0 ≡ some x) (its k a) (entered-line x s root .got)) e) fit)
@@ -88,12 +88,12 @@ module _ (p : Plan) (rules : PlanRules p) (s : State) (good : StateRules p s) wh
     unfolding carriedTo
     carried-lines =
         lines-kept p rules s (afterCarry p n i s) (carriedFrom s (afterCarry p n i s) n) (λ k. 0) (λ k. merged-line p rules s good k n i d)
-        (line-rules p s good) (good .clock-1-to-last .0) (λ j k a b. absurd (omega arith)) (λ k x a e. absurd (omega arith))
+        (line-rules p s good) (good .clock-within .0) (λ j k a b. absurd (omega arith)) (λ k x a e. absurd (omega arith))
 
     pub carried-keeps : StateRules p (afterCarry p n i s)
     carried-keeps =
         from-lines p (afterCarry p n i s) (unfold carriedTo in simp length-set (good .a-list-for-each-node))
-        (unfold carriedTo in good .clock-1-to-last)
+        (unfold carriedTo in good .clock-within)
         (every-node-carried n t m s (down .0) exists (λ j xs. j < size p → length xs ≤ capacityOf p j)
         (λ g. omega (arith, good .counts-within-capacity n g, stay-short keyOf (capacityOf p t) e along))
         (λ g. target-fits keyOf (capacityOf p t) e along (rising-nodes p s good t) (good .counts-within-capacity t g))
@@ -159,15 +159,15 @@ slot-keeps : (p : Plan) (s : State) → StateRules p s → (i : ℕ) (q : Slot) 
 slot-keeps p s good i q h f =
     record {
       a-list-for-each-node = good .a-list-for-each-node;
-      clock-1-to-last = good .clock-1-to-last;
+      clock-within = good .clock-within;
       counts-within-capacity = good .counts-within-capacity;
       keys-strictly-rise = good .keys-strictly-rise;
       kinds-and-values = good .kinds-and-values;
       copies-on-their-paths = good .copies-on-their-paths;
-      stamps-1-to-clock-less-1 = good .stamps-1-to-clock-less-1;
+      stamps-below-the-clock = good .stamps-below-the-clock;
       stamps-all-different = good .stamps-all-different;
       stamps-fall-down-a-path = good .stamps-fall-down-a-path;
-      eight-slots = simp length-set (good .eight-slots);
+      slots-within = simp length-set (good .slots-within);
       idle-slots-all-zero = λ j g. at j g .idle-zero;
       running-searches-on-their-paths = λ j g. at j g .on-path;
     }
@@ -202,7 +202,7 @@ step-keeps i p rules s good = running-keeps (Visit i p s) p s i good (λ e. go) 
     go h f (finds x g) = slot-keeps p s good i idle h (idle-fits p)
     go h f (never g c) = slot-keeps p s good i idle h (idle-fits p)
     go h f (goes g t c) =
-        let o = good .running-searches-on-their-paths i (omega (arith, good .eight-slots)) f .1 in
+        let o = good .running-searches-on-their-paths i (omega (arith, good .slots-within)) f .1 in
         slot-keeps p s good i (running (slotAt s i .key) t (suc (slotAt s i .visits))) h
         (search-fits p (slotAt s i .key) t (suc (slotAt s i .visits))
         (next-on-path p rules (slotAt s i .key) (slotAt s i .node) t (slotAt s i .visits) o c))

@@ -217,7 +217,7 @@ module _ (p : Plan) (rules : PlanRules p) (s : State) (good : StateRules p s) (k
   entered-step x t = go (ℕ-discrete (x .key) k)
     where
       root : 0 < length (s .nodes)
-      root = omega (arith, good .a-list-for-each-node, rules .two-to-eight-nodes)
+      root = omega (arith, good .a-list-for-each-node, rules .nodes-within)
 
       go : Dec (x .key ≡ k)
           → LineStep (λ m. next p m k) (s .clock) (suc (s .clock)) (line s k) (line (entered x s) k) 0 (bit (eqb (x .key) k))

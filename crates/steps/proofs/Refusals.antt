@@ -38,7 +38,7 @@ module _ (p : Plan) (rules : PlanRules p) (s : State) (good : StateRules p s) wh
     clock-exactly = go (entry-way kind k v p s)
       where
         go : {o : Effect} → EntryWay kind k v p s o → (o .answer .number ≡ CLOCK) ↔ (s .clock ≡ lastClock)
-        go (at-last-clock h) = (λ e. omega (arith, good .clock-1-to-last), λ e. refl)
+        go (at-last-clock h) = (λ e. omega (arith, good .clock-within), λ e. refl)
         go (root-full h f g) = (λ e. absurd (omega arith), λ e. absurd (omega arith))
         go (enters h f) = (λ e. absurd (omega arith), λ e. absurd (omega arith))
 
@@ -105,8 +105,8 @@ module _ (p : Plan) (rules : PlanRules p) (s : State) (good : StateRules p s) wh
     slots-exactly = go (start-way k p s)
       where
         go : {o : Effect} → StartWay k s o → (o .answer .number ≡ SLOTS) ↔ ((i : ℕ) → i < slotCount → slotAt s i .running ≢ 0)
-        go (all-running h) = (λ e i g. h i (omega (arith, good .eight-slots)), λ f. refl)
-        go (starts i h f g) = (λ e. absurd (omega arith), λ all. absurd (all i (omega (arith, good .eight-slots)) f))
+        go (all-running h) = (λ e i g. h i (omega (arith, good .slots-within)), λ f. refl)
+        go (starts i h f g) = (λ e. absurd (omega arith), λ all. absurd (all i (omega (arith, good .slots-within)) f))
 
     -- The slot that a start takes was idle, and every lower one runs.
     pub record LowestIdle (i : ℕ) : Type 0 where
@@ -119,7 +119,7 @@ module _ (p : Plan) (rules : PlanRules p) (s : State) (good : StateRules p s) wh
       where
         go : {o : Effect} → StartWay k s o → o .answer .number ≡ DONE → LowestIdle (o .answer .a)
         go (all-running h) = λ e. absurd (omega arith)
-        go (starts i h f g) = λ e. record { is-slot = omega (arith, good .eight-slots); is-idle = f; lower-run = g }
+        go (starts i h f g) = λ e. record { is-slot = omega (arith, good .slots-within); is-idle = f; lower-run = g }
 
     pub start-unaltered : Unaltered s (startStep k p s)
     start-unaltered = go (start-way k p s)
@@ -131,13 +131,13 @@ module _ (p : Plan) (rules : PlanRules p) (s : State) (good : StateRules p s) wh
   -- What is done with a slot, and is no refusal when it is done.
   module _ (Done : Effect → Type 0) (i : ℕ) (accepted : (o : Effect) → Done o → o .answer .number ≤ GOING) where
     running-slot : {o : Effect} → RunningWay Done i s o → (o .answer .number ≡ SLOT) ↔ (slotCount ≤ i)
-    running-slot (no-slot h) = (λ e. omega (arith, good .eight-slots), λ g. refl)
-    running-slot (slot-idle h f) = (λ e. absurd (omega arith), λ g. absurd (omega (arith, good .eight-slots)))
-    running-slot (slot-runs {e = o} h f d) = (λ e. absurd (omega (arith, accepted o d)), λ g. absurd (omega (arith, good .eight-slots)))
+    running-slot (no-slot h) = (λ e. omega (arith, good .slots-within), λ g. refl)
+    running-slot (slot-idle h f) = (λ e. absurd (omega arith), λ g. absurd (omega (arith, good .slots-within)))
+    running-slot (slot-runs {e = o} h f d) = (λ e. absurd (omega (arith, accepted o d)), λ g. absurd (omega (arith, good .slots-within)))
 
     running-idle : {o : Effect} → RunningWay Done i s o → (o .answer .number ≡ IDLE) ↔ ((i < slotCount) × (slotAt s i .running ≡ 0))
-    running-idle (no-slot h) = (λ e. absurd (omega arith), λ g. absurd (omega (arith, good .eight-slots, g .0)))
-    running-idle (slot-idle h f) = (λ e. (omega (arith, good .eight-slots), f), λ g. refl)
+    running-idle (no-slot h) = (λ e. absurd (omega arith), λ g. absurd (omega (arith, good .slots-within, g .0)))
+    running-idle (slot-idle h f) = (λ e. (omega (arith, good .slots-within), f), λ g. refl)
     running-idle (slot-runs {e = o} h f d) = (λ e. absurd (omega (arith, accepted o d)), λ g. absurd (f (g .1)))
 
     running-unaltered : {o : Effect} → RunningWay Done i s o → Unaltered s o

@@ -62,7 +62,7 @@ module _ (p : Plan) (s : State) where
         stamps =
             λ k n x e.
             let w = line-held k n x e in
-            subst (λ (z : Copy). (1 ≤ z .stamp) × (z .stamp < s .clock)) (w .2) (good .stamps-1-to-clock-less-1 n (w .0) (w .1));
+            subst (λ (z : Copy). (1 ≤ z .stamp) × (z .stamp < s .clock)) (w .2) (good .stamps-below-the-clock n (w .0) (w .1));
         apart = apart;
         fall = fall;
       }
@@ -94,7 +94,7 @@ module _ (p : Plan) (s : State) where
 
   pub slot-rules : StateRules p s → SlotRules p (s .slots)
   slot-rules good =
-      record { eight = good .eight-slots; idle-zero = good .idle-slots-all-zero; on-paths = good .running-searches-on-their-paths }
+      record { eight = good .slots-within; idle-zero = good .idle-slots-all-zero; on-paths = good .running-searches-on-their-paths }
 
   -- The rules by line, with those on nodes and slots, give the state rules.
   pub from-lines : length (s .nodes) ≡ size p → (1 ≤ s .clock) × (s .clock ≤ lastClock)
@@ -103,15 +103,15 @@ module _ (p : Plan) (s : State) where
   from-lines lists clock fits rise l q =
       record {
         a-list-for-each-node = lists;
-        clock-1-to-last = clock;
+        clock-within = clock;
         counts-within-capacity = fits;
         keys-strictly-rise = λ n i h. rising-neighbours keyOf (rise n) noCopy i h;
         kinds-and-values = λ n i h. l .kinds (copyAt s n i .key) n (copyAt s n i) (at n i h);
         copies-on-their-paths = λ n i h. l .paths (copyAt s n i .key) n (copyAt s n i) (at n i h);
-        stamps-1-to-clock-less-1 = λ n i h. l .stamps (copyAt s n i .key) n (copyAt s n i) (at n i h);
+        stamps-below-the-clock = λ n i h. l .stamps (copyAt s n i .key) n (copyAt s n i) (at n i h);
         stamps-all-different = different;
         stamps-fall-down-a-path = fall;
-        eight-slots = q .eight;
+        slots-within = q .eight;
         idle-slots-all-zero = q .idle-zero;
         running-searches-on-their-paths = q .on-paths;
       }

@@ -11,7 +11,7 @@ use Rattle.lists.proofs.Truths.{both-le}
 use Rattle.plan.specs.Sizes.{mostNodes}
 use Rattle.plan.specs.Plan.{size}
 use Rattle.plan.specs.PlanRules.{PlanRules}
-use Rattle.plan.specs.PlanTable.{planOf, plans}
+use Rattle.plan.specs.PlanTable.{planNumbered, plans}
 use Rattle.plan.proofs.TableLaws.{table-rules}
 use Rattle.store.specs.declared.Answer.{Answer}
 use Rattle.store.specs.declared.Store.{Store}
@@ -36,7 +36,7 @@ pub fresh-store-is : (plan : ℕ)
       slots = replicate slotCount idle;
     }
 unfolding freshStore fresh
-fresh-store-is plan = sym (blank-store plan (fresh (planOf plan)) (λ n. getD-same (size (planOf plan)) n []))
+fresh-store-is plan = sym (blank-store plan (fresh (planNumbered plan)) (λ n. getD-same (size (planNumbered plan)) n []))
 
 -- A plan's number is from 1 to the number of plans.
 module _ (plan : ℕ) where
@@ -49,7 +49,7 @@ module _ (plan : ℕ) where
   plan-number-1 h = rw (le-leb 1 plan h)
 
 -- A plan by its number meets the plan rules.
-pub number-rules : (plan : ℕ) → planNumberTest plan ≡ true → PlanRules (planOf plan)
+pub number-rules : (plan : ℕ) → planNumberTest plan ≡ true → PlanRules (planNumbered plan)
 unfolding planNumberTest
 number-rules plan t = let w = both-le 1 plan plan plans t in table-rules plan (w .0) (w .1)
 

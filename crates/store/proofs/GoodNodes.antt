@@ -7,12 +7,11 @@ use lib.ListN.{length}
 use Rattle.lists.specs.Runs.{run}
 use Rattle.plan.specs.Sizes.{mostNodes}
 use Rattle.plan.specs.Plan.{size}
-use Rattle.plan.specs.PlanTable.{planOf}
 use Rattle.store.specs.declared.Copy.{Copy}
 use Rattle.store.specs.declared.Store.{Store}
 use Rattle.store.specs.Copies.{keyOf}
 use Rattle.store.specs.State.{nodeAt}
-use Rattle.store.specs.Layout.{width, nodeIn, nodeOf, countOf, stateOf, column, storeOf}
+use Rattle.store.specs.Layout.{planOf, planOf, width, nodeIn, nodeOf, countOf, stateOf, column, storeOf}
 use Rattle.store.specs.StoreRules.{goodStore}
 use Rattle.store.specs.Workers.{below, placeIn, RisesIn}
 use Rattle.store.proofs.Lifting.{plan-good, good-ordered, good-back}
@@ -28,8 +27,8 @@ node-place z n from end k f e =
 
 module _ (z : Store) (good : goodStore z ≡ true) where
   -- The root is a node of its plan.
-  pub root-there : 0 < size (planOf (z .plan))
-  root-there = omega (arith, plan-good z good .two-to-eight-nodes)
+  pub root-there : 0 < size (planOf z)
+  root-there = omega (arith, plan-good z good .nodes-within)
 
   -- A node's copies have places,
   pub count-fits : (n : ℕ) → n < mostNodes → countOf z n ≤ width

@@ -13,13 +13,13 @@ use Rattle.lists.proofs.Storing.{sets-below, sets-past, sets-inside, set-run, g
 use Rattle.plan.specs.Sizes.{mostNodes}
 use Rattle.plan.specs.Plan.{Plan, size}
 use Rattle.plan.specs.PlanRules.{PlanRules}
-use Rattle.plan.specs.PlanTable.{planOf, plans}
+use Rattle.plan.specs.PlanTable.{planNumbered, plans}
 use Rattle.plan.proofs.TableLaws.{table-rules}
 use Rattle.store.specs.declared.Copy.{Copy}
 use Rattle.store.specs.declared.Store.{Store}
 use Rattle.store.specs.Copies.{noCopy, keyOf, find, foundOf}
 use Rattle.store.specs.State.{State, nodeAt, copyAt, slotCount}
-use Rattle.store.specs.Layout.{width, places, copyIn, nodeIn, copyOf, countOf, nodeOf, stateOf, placeOf, column, storeOf, Shape}
+use Rattle.store.specs.Layout.{planOf, planOf, width, places, copyIn, nodeIn, copyOf, countOf, nodeOf, stateOf, placeOf, column, storeOf, Shape}
 use Rattle.store.specs.StateRules.{StateRules}
 use Rattle.store.specs.StoreRules.{StoreRules}
 
@@ -51,15 +51,15 @@ module _ (z : Store) where
   pub node-copy : (n i : ℕ) → i < countOf z n → getD (nodeOf z n) i noCopy ≡ copyOf z (width * n + i)
   node-copy n i h = node-in-copy (z .counts) (z .keys) (z .kinds) (z .values) (z .stamps) n i h
 
-  pub length-nodes : length (stateOf z .nodes) ≡ size (planOf (z .plan))
+  pub length-nodes : length (stateOf z .nodes) ≡ size (planOf z)
   unfolding stateOf
-  length-nodes = length-run (nodeOf z) 0 (size (planOf (z .plan)))
+  length-nodes = length-run (nodeOf z) 0 (size (planOf z))
 
-  pub state-node : (n : ℕ) → n < size (planOf (z .plan)) → nodeAt (stateOf z) n ≡ nodeOf z n
+  pub state-node : (n : ℕ) → n < size (planOf z) → nodeAt (stateOf z) n ≡ nodeOf z n
   unfolding stateOf
-  state-node n h = getD-run-0 (nodeOf z) (size (planOf (z .plan))) n [] h
+  state-node n h = getD-run-0 (nodeOf z) (size (planOf z)) n [] h
 
-  pub state-past : (n : ℕ) → size (planOf (z .plan)) ≤ n → nodeAt (stateOf z) n ≡ []
+  pub state-past : (n : ℕ) → size (planOf z) ≤ n → nodeAt (stateOf z) n ≡ []
   state-past n h = List·getD-eq-default (stateOf z .nodes) [] (omega (arith, length-nodes))
 
   pub state-clock : stateOf z .clock ≡ z .clock
@@ -70,10 +70,10 @@ module _ (z : Store) where
   unfolding stateOf
   state-slots = refl
 
-  pub state-count : (n : ℕ) → n < size (planOf (z .plan)) → length (nodeAt (stateOf z) n) ≡ countOf z n
+  pub state-count : (n : ℕ) → n < size (planOf z) → length (nodeAt (stateOf z) n) ≡ countOf z n
   state-count n h = ap length (state-node n h) ∙ length-node n
 
-  pub state-copy : (n i : ℕ) → n < size (planOf (z .plan)) → i < countOf z n → copyAt (stateOf z) n i ≡ copyOf z (width * n + i)
+  pub state-copy : (n i : ℕ) → n < size (planOf z) → i < countOf z n → copyAt (stateOf z) n i ≡ copyOf z (width * n + i)
   state-copy n i h g = ap (λ (xs : List Copy). getD xs i noCopy) (state-node n h) ∙ node-copy n i g
 
 -- A column: its length, its places, and when a list is one.
@@ -274,41 +274,41 @@ module _ (plan : ℕ) (s : State) where
   unfolding storeOf
   stored-shape slots =
       record {
-        counts-8 = length-run (λ n. length (nodeAt s n)) 0 mostNodes;
-        keys-512 = length-column (λ (x : Copy). x .key) (s .nodes);
-        kinds-512 = length-column (λ (x : Copy). x .kind) (s .nodes);
-        values-512 = length-column (λ (x : Copy). x .value) (s .nodes);
-        stamps-512 = length-column (λ (x : Copy). x .stamp) (s .nodes);
-        slots-8 = slots;
+        counts-long = length-run (λ n. length (nodeAt s n)) 0 mostNodes;
+        keys-long = length-column (λ (x : Copy). x .key) (s .nodes);
+        kinds-long = length-column (λ (x : Copy). x .kind) (s .nodes);
+        values-long = length-column (λ (x : Copy). x .value) (s .nodes);
+        stamps-long = length-column (λ (x : Copy). x .stamp) (s .nodes);
+        slots-long = slots;
       }
 
   -- A state with a list for each node of the plan, none longer than a node's places, comes back.
-  pub state-back : length (s .nodes) ≡ size (planOf plan) → size (planOf plan) ≤ mostNodes → ((n : ℕ) → length (nodeAt s n) ≤ width)
+  pub state-back : length (s .nodes) ≡ size (planNumbered plan) → size (planNumbered plan) ≤ mostNodes → ((n : ℕ) → length (nodeAt s n) ≤ width)
       → stateOf (storeOf plan s) ≡ s
   unfolding stateOf storeOf
   state-back long few fits = λ t. record { clock = s .clock; nodes = nodes t; slots = s .slots }
     where
-      nodes : run 0 (size (planOf plan)) (nodeOf (storeOf plan s)) ≡ s .nodes
+      nodes : run 0 (size (planNumbered plan)) (nodeOf (storeOf plan s)) ≡ s .nodes
       nodes =
           sym
-          (as-run (nodeOf (storeOf plan s)) (s .nodes) 0 (size (planOf plan)) [] long
+          (as-run (nodeOf (storeOf plan s)) (s .nodes) 0 (size (planNumbered plan)) [] long
           (λ n h. rw zero-add (sym (stored-node n (omega arith) (fits n)))))
 
 -- A store that keeps the rules is the store of its state.
 module _ (z : Store) (rules : StoreRules z) where
   -- Each node's list in the state is as long as its count, also where the plan has no node.
   pub every-count : (n : ℕ) → n < mostNodes → length (nodeAt (stateOf z) n) ≡ countOf z n
-  every-count n h = go (decLt n (size (planOf (z .plan))))
+  every-count n h = go (decLt n (size (planOf z)))
     where
-      go : Dec (n < size (planOf (z .plan))) → length (nodeAt (stateOf z) n) ≡ countOf z n
+      go : Dec (n < size (planOf z)) → length (nodeAt (stateOf z) n) ≡ countOf z n
       go (yes l) = state-count z n l
       go (no l) = ap length (state-past z n (omega arith)) ∙ sym (rules .unused-counts-zero n (omega arith) h)
 
   -- Each place of each node is its place in the node's list, unused places too.
   pub every-copy : (n i : ℕ) → n < mostNodes → i < width → copyAt (stateOf z) n i ≡ copyOf z (width * n + i)
-  every-copy n i h g = go (decLt i (countOf z n)) (decLt n (size (planOf (z .plan))))
+  every-copy n i h g = go (decLt i (countOf z n)) (decLt n (size (planOf z)))
     where
-      go : Dec (i < countOf z n) → Dec (n < size (planOf (z .plan))) → copyAt (stateOf z) n i ≡ copyOf z (width * n + i)
+      go : Dec (i < countOf z n) → Dec (n < size (planOf z)) → copyAt (stateOf z) n i ≡ copyOf z (width * n + i)
       go (yes u) (yes l) = state-copy z n i l u
       go (yes u) (no l) = absurd (omega (arith, rules .unused-counts-zero n (omega arith) h))
       go (no u) l =
@@ -319,15 +319,15 @@ module _ (z : Store) (rules : StoreRules z) where
   store-back =
       sym
       (store-is (z .plan) (stateOf z) z refl (sym (state-clock z)) counts
-      (back (λ (x : Copy). x .key) (z .keys) (rules .shape .keys-512) (λ j. refl))
-      (back (λ (x : Copy). x .kind) (z .kinds) (rules .shape .kinds-512) (λ j. refl))
-      (back (λ (x : Copy). x .value) (z .values) (rules .shape .values-512) (λ j. refl))
-      (back (λ (x : Copy). x .stamp) (z .stamps) (rules .shape .stamps-512) (λ j. refl))
+      (back (λ (x : Copy). x .key) (z .keys) (rules .shape .keys-long) (λ j. refl))
+      (back (λ (x : Copy). x .kind) (z .kinds) (rules .shape .kinds-long) (λ j. refl))
+      (back (λ (x : Copy). x .value) (z .values) (rules .shape .values-long) (λ j. refl))
+      (back (λ (x : Copy). x .stamp) (z .stamps) (rules .shape .stamps-long) (λ j. refl))
       (sym (state-slots z)))
     where
       counts : z .counts ≡ run 0 mostNodes (λ n. length (nodeAt (stateOf z) n))
       counts =
-          as-run (λ n. length (nodeAt (stateOf z) n)) (z .counts) 0 mostNodes 0 (rules .shape .counts-8) (λ n h. rw zero-add (sym (every-count n h)))
+          as-run (λ n. length (nodeAt (stateOf z) n)) (z .counts) 0 mostNodes 0 (rules .shape .counts-long) (λ n h. rw zero-add (sym (every-count n h)))
 
       back : (part : Copy → ℕ) (c : List ℕ) → length c ≡ places → ((j : ℕ) → getD c j 0 ≡ part (copyOf z j)) → c ≡ column part (stateOf z .nodes)
       back part c long of =
@@ -341,25 +341,25 @@ pub node-fits : {p : Plan} → PlanRules p → {s : State} → StateRules p s �
 node-fits {p} plan {s} rules n = go (decLt n (size p))
   where
     go : Dec (n < size p) → length (nodeAt s n) ≤ width
-    go (yes h) = omega (arith, rules .counts-within-capacity n h, plan .capacity-1-to-64 n h .1)
+    go (yes h) = omega (arith, rules .counts-within-capacity n h, plan .capacity-within n h .1)
     go (no h) = rw (nothing-past rules n (omega arith)) (omega arith)
 
 -- A state that keeps the rules comes back, and its store keeps them.
-module _ (plan : ℕ) (low : 1 ≤ plan) (high : plan ≤ plans) {s : State} (rules : StateRules (planOf plan) s) where
+module _ (plan : ℕ) (low : 1 ≤ plan) (high : plan ≤ plans) {s : State} (rules : StateRules (planNumbered plan) s) where
   pub rules-back : stateOf (storeOf plan s) ≡ s
   rules-back =
       let p = table-rules plan low high in
-      state-back plan s (rules .a-list-for-each-node) (p .two-to-eight-nodes .1) (node-fits p rules)
+      state-back plan s (rules .a-list-for-each-node) (p .nodes-within .1) (node-fits p rules)
 
   pub rules-store : StoreRules (storeOf plan s)
   unfolding storeOf
   rules-store =
       record {
-        shape = stored-shape plan s (rules .eight-slots);
-        plan-1-to-3 = (low, high);
+        shape = stored-shape plan s (rules .slots-within);
+        plan-known = (low, high);
         unused-places-all-zero =
             λ n i h u g. stored-copy plan s n i h g ∙ List·getD-eq-default (nodeAt s n) noCopy (omega (arith, stored-count plan s n h));
         unused-counts-zero =
             λ n past h. stored-count plan s n h ∙ ap length (nothing-past rules n past);
-        state-rules = subst (λ (t : State). StateRules (planOf plan) t) (sym rules-back) rules;
+        state-rules = subst (λ (t : State). StateRules (planNumbered plan) t) (sym rules-back) rules;
       }

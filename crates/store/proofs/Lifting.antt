@@ -11,7 +11,7 @@ use Rattle.lists.proofs.Storing.{getD-same}
 use Rattle.plan.specs.Sizes.{mostNodes}
 use Rattle.plan.specs.Plan.{Plan, size}
 use Rattle.plan.specs.PlanRules.{PlanRules}
-use Rattle.plan.specs.PlanTable.{planOf, plans}
+use Rattle.plan.specs.PlanTable.{planNumbered, plans}
 use Rattle.plan.proofs.TableLaws.{table-rules}
 use Rattle.store.specs.declared.Answer.{Answer}
 use Rattle.store.specs.declared.Outcome.{Outcome}
@@ -20,7 +20,7 @@ use Rattle.store.specs.declared.Store.{Store}
 use Rattle.store.specs.Answers.{BADSTORE, bare}
 use Rattle.store.specs.State.{State, nodeAt, slotAt, slotCount, idle, fresh}
 use Rattle.store.specs.StateRules.{StateRules, HeldAt}
-use Rattle.store.specs.Layout.{width, countOf, stateOf, storeOf, freshStore}
+use Rattle.store.specs.Layout.{planOf, planOf, width, countOf, stateOf, storeOf, freshStore}
 use Rattle.store.specs.StoreRules.{StoreRules, goodStore}
 use Rattle.store.specs.Workers.{RisesIn, Ordered}
 use Rattle.store.specs.Calls.{Effect, onStore, ofStore}
@@ -28,7 +28,7 @@ use Rattle.store.proofs.Laying.{every-count, every-copy, store-back, no
 use Rattle.store.proofs.Ruling.{good-rules, rules-good}
 
 -- Two steps that do the same to a store's state are the same call.
-pub same-call : (f g : Plan → State → Effect) (z : Store) → f (planOf (z .plan)) (stateOf z) ≡ g (planOf (z .plan)) (stateOf z)
+pub same-call : (f g : Plan → State → Effect) (z : Store) → f (planOf z) (stateOf z) ≡ g (planOf z) (stateOf z)
     → onStore f z ≡ onStore g z
 unfolding onStore
 same-call f g z e =
@@ -45,8 +45,8 @@ module _ (f : Plan → State → Effect) (z : Store) where
 
   pub on-good : goodStore z ≡ true
       → onStore f z ≡ record {
-        answer = f (planOf (z .plan)) (stateOf z) .answer;
-        store = storeOf (z .plan) (f (planOf (z .plan)) (stateOf z) .after);
+        answer = f (planOf z) (stateOf z) .answer;
+        store = storeOf (z .plan) (f (planOf z) (stateOf z) .after);
       }
   unfolding onStore
   on-good good = rw good
@@ -65,7 +65,7 @@ module _ (f : Plan → State → Answer) (z : Store) where
   unfolding ofStore
   of-bad bad = rw bad
 
-  pub of-good : goodStore z ≡ true → ofStore f z ≡ f (planOf (z .plan)) (stateOf z)
+  pub of-good : goodStore z ≡ true → ofStore f z ≡ f (planOf z) (stateOf z)
   unfolding ofStore
   of-good good = rw good
 
@@ -91,32 +91,32 @@ module _ (p : Plan) where
   fresh-rules =
       record {
         a-list-for-each-node = length-replicate (size p) [];
-        clock-1-to-last = omega arith;
+        clock-within = omega arith;
         counts-within-capacity = λ n h. omega (arith, ap length (fresh-node n));
         keys-strictly-rise = λ n i h. absurd (nothing-held n (suc i) h);
         kinds-and-values = λ n i h. absurd (nothing-held n i h);
         copies-on-their-paths = λ n i h. absurd (nothing-held n i h);
-        stamps-1-to-clock-less-1 = λ n i h. absurd (nothing-held n i h);
+        stamps-below-the-clock = λ n i h. absurd (nothing-held n i h);
         stamps-all-different = λ n i m j h g e. absurd (nothing-held n i h);
         stamps-fall-down-a-path = λ n i m j h g e d. absurd (nothing-held n i h);
-        eight-slots = length-replicate slotCount idle;
+        slots-within = length-replicate slotCount idle;
         idle-slots-all-zero = λ i h e. fresh-slot i;
         running-searches-on-their-paths = λ i h runs. absurd (runs (ap (λ (q : Slot). q .running) (fresh-slot i)));
       }
 
-pub fresh-back : (plan : ℕ) → 1 ≤ plan → plan ≤ plans → stateOf (freshStore plan) ≡ fresh (planOf plan)
+pub fresh-back : (plan : ℕ) → 1 ≤ plan → plan ≤ plans → stateOf (freshStore plan) ≡ fresh (planNumbered plan)
 unfolding freshStore
-fresh-back plan low high = rules-back plan low high (fresh-rules (planOf plan))
+fresh-back plan low high = rules-back plan low high (fresh-rules (planNumbered plan))
 
 pub fresh-good : (plan : ℕ) → 1 ≤ plan → plan ≤ plans → goodStore (freshStore plan) ≡ true
 unfolding freshStore
-fresh-good plan low high = rules-good (storeOf plan (fresh (planOf plan))) (rules-store plan low high (fresh-rules (planOf plan)))
+fresh-good plan low high = rules-good (storeOf plan (fresh (planNumbered plan))) (rules-store plan low high (fresh-rules (planNumbered plan)))
 
 -- A good store's plan and state keep the rules, and so does what a step that keeps them leaves.
-pub plan-good : (z : Store) → goodStore z ≡ true → PlanRules (planOf (z .plan))
-plan-good z good = let r = good-rules z good in table-rules (z .plan) (r .plan-1-to-3 .0) (r .plan-1-to-3 .1)
+pub plan-good : (z : Store) → goodStore z ≡ true → PlanRules (planOf z)
+plan-good z good = let r = good-rules z good in table-rules (z .plan) (r .plan-known .0) (r .plan-known .1)
 
-pub state-good : (z : Store) → goodStore z ≡ true → StateRules (planOf (z .plan)) (stateOf z)
+pub state-good : (z : Store) → goodStore z ≡ true → StateRules (planOf z) (stateOf z)
 state-good z good = good-rules z good .state-rules
 
 -- Its nodes are in order: a look goes by halves in each.
@@ -144,7 +144,7 @@ good-back z good = store-back z (good-rules z good)
 
 module _ (f : Plan → State → Effect) (z : Store) where
   -- A step that leaves the state leaves the store, of any z.
-  pub store-stays : f (planOf (z .plan)) (stateOf z) .after ≡ stateOf z → onStore f z .store ≡ z
+  pub store-stays : f (planOf z) (stateOf z) .after ≡ stateOf z → onStore f z .store ≡ z
   store-stays stays = go (bool? (goodStore z))
     where
       go : (goodStore z ≡ true) ⊎ (goodStore z ≡ false) → onStore f z .store ≡ z
@@ -152,18 +152,18 @@ module _ (f : Plan → State → Effect) (z : Store) where
       go (inr bad) = ap (λ (o : Outcome). o .store) (on-bad f z bad)
 
   module _ (keeps : Keeps f) (good : goodStore z ≡ true) where
-    after-good : StateRules (planOf (z .plan)) (f (planOf (z .plan)) (stateOf z) .after)
-    after-good = keeps (planOf (z .plan)) (plan-good z good) (stateOf z) (state-good z good)
+    after-good : StateRules (planOf z) (f (planOf z) (stateOf z) .after)
+    after-good = keeps (planOf z) (plan-good z good) (stateOf z) (state-good z good)
 
     pub on-keeps : goodStore (onStore f z .store) ≡ true
     on-keeps =
-        let r = good-rules z good .plan-1-to-3 in
+        let r = good-rules z good .plan-known in
         let e = ap (λ (o : Outcome). goodStore (o .store)) (on-good f z good) in
-        e ∙ rules-good (storeOf (z .plan) (f (planOf (z .plan)) (stateOf z) .after)) (rules-store (z .plan) (r .0) (r .1) after-good)
+        e ∙ rules-good (storeOf (z .plan) (f (planOf z) (stateOf z) .after)) (rules-store (z .plan) (r .0) (r .1) after-good)
 
-    pub state-agrees : stateOf (onStore f z .store) ≡ f (planOf (z .plan)) (stateOf z) .after
+    pub state-agrees : stateOf (onStore f z .store) ≡ f (planOf z) (stateOf z) .after
     state-agrees =
-        let r = good-rules z good .plan-1-to-3 in
+        let r = good-rules z good .plan-known in
         ap (λ (o : Outcome). stateOf (o .store)) (on-good f z good) ∙ rules-back (z .plan) (r .0) (r .1) after-good
 
 -- A call's outcome on a bad store.
@@ -173,13 +173,13 @@ on-broken f z bad a e = rw e (sym (on-bad f z bad))
 
 -- A call's outcome on a good store, by the way out of its step: the answer and a store of the state after it,
 module _ (f : Plan → State → Effect) (z : Store) (good : goodStore z ≡ true) where
-  pub on-way : (a : Answer) (t : State) (r : Store) → f (planOf (z .plan)) (stateOf z) ≡ record { answer = a; after = t }
+  pub on-way : (a : Answer) (t : State) (r : Store) → f (planOf z) (stateOf z) ≡ record { answer = a; after = t }
       → r ≡ storeOf (z .plan) t → record { answer = a; store = r } ≡ onStore f z
   on-way a t r e q =
       ap (λ (y : Store). record { answer = a; store = y }) q
       ∙ sym (on-good f z good ∙ ap (λ (w : Effect). record { answer = w .answer; store = storeOf (z .plan) (w .after) }) e)
 
   -- or a refusal, and the store as it was.
-  pub on-refusal : (number : ℕ) → f (planOf (z .plan)) (stateOf z) ≡ record { answer = bare number; after = stateOf z }
+  pub on-refusal : (number : ℕ) → f (planOf z) (stateOf z) ≡ record { answer = bare number; after = stateOf z }
       → record { answer = bare number; store = z } ≡ onStore f z
   on-refusal number e = on-way (bare number) (stateOf z) z e (sym (good-back z good))

@@ -11,13 +11,13 @@ use Rattle.lists.proofs.Running.{all-at, at-all, all-below, below-all}
 use Rattle.plan.specs.Sizes.{mostNodes}
 use Rattle.plan.specs.Plan.{Node, Plan, noNode, size, capacityOf}
 use Rattle.plan.specs.PlanRules.{PlanRules}
-use Rattle.plan.specs.PlanTable.{planOf, plans}
+use Rattle.plan.specs.PlanTable.{plans}
 use Rattle.plan.proofs.TableLaws.{table-rules}
 use Rattle.store.specs.declared.Store.{Store}
 use Rattle.store.specs.Copies.{noCopy, different}
 use Rattle.store.specs.State.{State, copyAt, slotAt, idle, lastClock, slotCount}
 use Rattle.store.specs.StateRules.{HeldAt, StateRules}
-use Rattle.store.specs.Layout.{width, places, copyOf, countOf, stateOf, Shape}
+use Rattle.store.specs.Layout.{planOf, planOf, width, places, copyOf, countOf, stateOf, Shape}
 use Rattle.store.specs.StoreRules.{StoreRules, shapeTest, planNumberTest, clockTest, placeTest, nodeTest, stampsFrom, slotTest, goodStore}
 use Rattle.store.proofs.Laying.{length-nodes, state-clock, state-slots, state-count, state-copy}
 use Rattle.store.proofs.RulingParts.{held-placed, placed-held, CopyRules, copy-rules, rules-copy, order-rule, rule-order, slot-idle, slot-runs, rules-slot, unused-rule, rule-unused}
@@ -26,7 +26,7 @@ use Rattle.store.proofs.RulingStamps.{Counted, different-apart, apart-d
 
 module _ (z : Store) where
   abbrev p : Plan
-  p = planOf (z .plan)
+  p = planOf z
 
   abbrev s : State
   s = stateOf z
@@ -40,12 +40,12 @@ module _ (z : Store) where
     unfolding goodStore shapeTest
     test-shape =
         record {
-          counts-8 = eqb-true (length (z .counts)) mostNodes (search (and-left, and-right) depth 12);
-          keys-512 = eqb-true (length (z .keys)) places (search (and-left, and-right) depth 12);
-          kinds-512 = eqb-true (length (z .kinds)) places (search (and-left, and-right) depth 12);
-          values-512 = eqb-true (length (z .values)) places (search (and-left, and-right) depth 12);
-          stamps-512 = eqb-true (length (z .stamps)) places (search (and-left, and-right) depth 12);
-          slots-8 = eqb-true (length (z .slots)) slotCount (search (and-left, and-right) depth 12);
+          counts-long = eqb-true (length (z .counts)) mostNodes (search (and-left, and-right) depth 12);
+          keys-long = eqb-true (length (z .keys)) places (search (and-left, and-right) depth 12);
+          kinds-long = eqb-true (length (z .kinds)) places (search (and-left, and-right) depth 12);
+          values-long = eqb-true (length (z .values)) places (search (and-left, and-right) depth 12);
+          stamps-long = eqb-true (length (z .stamps)) places (search (and-left, and-right) depth 12);
+          slots-long = eqb-true (length (z .slots)) slotCount (search (and-left, and-right) depth 12);
         }
 
     test-plan : (1 ≤ z .plan) × (z .plan ≤ plans)
@@ -94,7 +94,7 @@ module _ (z : Store) where
     unfolding placeTest
     test-copy n i h =
         let w = held-placed z n i h in
-        let t = test-place n i (omega (arith, w .node, plan-rules .two-to-eight-nodes)) (w .place) in
+        let t = test-place n i (omega (arith, w .node, plan-rules .nodes-within)) (w .place) in
         rw (w .copy) (copy-rules p s n (copyOf z (width * n + i)) (search and-left))
 
     test-rise : (n i : ℕ) → HeldAt s n (suc i) → copyAt s n i .key < copyAt s n (suc i) .key
@@ -102,7 +102,7 @@ module _ (z : Store) where
     test-rise n i h =
         let w = held-placed z n (suc i) h in
         let v = held-placed z n i (omega arith) in
-        let t = test-place n i (omega (arith, w .node, plan-rules .two-to-eight-nodes)) (v .place) in
+        let t = test-place n i (omega (arith, w .node, plan-rules .nodes-within)) (v .place) in
         let e : width * n + suc i ≡ suc (width * n + i) = omega arith in
         rw (v .copy, w .copy, e)
         (order-rule (width * n + countOf z n) (suc (width * n + i)) (key (width * n + i)) (key (suc (width * n + i))) (search and-right)
@@ -114,7 +114,7 @@ module _ (z : Store) where
     test-different n i m j h g e =
         let v = held-placed z n i h in
         let w = held-placed z m j g in
-        let few = plan-rules .two-to-eight-nodes in
+        let few = plan-rules .nodes-within in
         different-apart (z .counts) (z .stamps) 0 mostNodes (search (and-left, and-right) depth 8) n i m j
         (record { from = omega arith; before = omega (arith, v .node); place = v .place })
         (record { from = omega arith; before = omega (arith, w .node); place = w .place })
@@ -129,17 +129,17 @@ module _ (z : Store) where
     test-state =
         record {
           a-list-for-each-node = length-nodes z;
-          clock-1-to-last = rw (state-clock z) test-clock;
+          clock-within = rw (state-clock z) test-clock;
           counts-within-capacity =
-              λ n h. omega (arith, state-count z n h, test-count n (omega (arith, plan-rules .two-to-eight-nodes)));
+              λ n h. omega (arith, state-count z n h, test-count n (omega (arith, plan-rules .nodes-within)));
           keys-strictly-rise = test-rise;
           kinds-and-values = λ n i h. test-copy n i h .kind;
           copies-on-their-paths = λ n i h. test-copy n i h .on;
-          stamps-1-to-clock-less-1 = λ n i h. (test-copy n i h .late, test-copy n i h .early);
+          stamps-below-the-clock = λ n i h. (test-copy n i h .late, test-copy n i h .early);
           stamps-all-different = test-different;
           stamps-fall-down-a-path =
               falls-by-reach p plan-rules s test-rise (λ n i h. test-copy n i h .on) (λ n i h. test-copy n i h .reach);
-          eight-slots = rw (state-slots z) (test-shape .slots-8);
+          slots-within = rw (state-slots z) (test-shape .slots-long);
           idle-slots-all-zero = λ i h. slot-idle p (slotAt s i) (test-slot i h);
           running-searches-on-their-paths = λ i h. slot-runs p (slotAt s i) (test-slot i h);
         }
@@ -148,7 +148,7 @@ module _ (z : Store) where
     good-rules =
         record {
           shape = test-shape;
-          plan-1-to-3 = test-plan;
+          plan-known = test-plan;
           unused-places-all-zero = test-unused;
           unused-counts-zero = test-past;
           state-rules = test-state;
@@ -163,36 +163,36 @@ module _ (z : Store) where
     unfolding shapeTest
     shape-test =
         rw (
-          eq-eqb (length (z .counts)) mostNodes (r .shape .counts-8),
-          eq-eqb (length (z .keys)) places (r .shape .keys-512),
-          eq-eqb (length (z .kinds)) places (r .shape .kinds-512),
-          eq-eqb (length (z .values)) places (r .shape .values-512),
-          eq-eqb (length (z .stamps)) places (r .shape .stamps-512),
-          eq-eqb (length (z .slots)) slotCount (r .shape .slots-8),
+          eq-eqb (length (z .counts)) mostNodes (r .shape .counts-long),
+          eq-eqb (length (z .keys)) places (r .shape .keys-long),
+          eq-eqb (length (z .kinds)) places (r .shape .kinds-long),
+          eq-eqb (length (z .values)) places (r .shape .values-long),
+          eq-eqb (length (z .stamps)) places (r .shape .stamps-long),
+          eq-eqb (length (z .slots)) slotCount (r .shape .slots-long),
         )
 
     number-test : planNumberTest (z .plan) ≡ true
     unfolding planNumberTest
-    number-test = le-both 1 (z .plan) (z .plan) plans (r .plan-1-to-3 .0) (r .plan-1-to-3 .1)
+    number-test = le-both 1 (z .plan) (z .plan) plans (r .plan-known .0) (r .plan-known .1)
 
     clock-test : clockTest (z .clock) ≡ true
     unfolding clockTest
     clock-test =
-        let c = rw (state-clock z) at (rules .clock-1-to-last) in
+        let c = rw (state-clock z) at (rules .clock-within) in
         le-both 1 (z .clock) (z .clock) lastClock (c .0) (c .1)
 
     plan-meets : PlanRules p
-    plan-meets = table-rules (z .plan) (r .plan-1-to-3 .0) (r .plan-1-to-3 .1)
+    plan-meets = table-rules (z .plan) (r .plan-known .0) (r .plan-known .1)
 
     held-rules : (n i : ℕ) → HeldAt s n i → CopyRules p s n (copyAt s n i)
     held-rules n i h =
         record {
           kind = rules .kinds-and-values n i h;
-          late = rules .stamps-1-to-clock-less-1 n i h .0;
-          early = rules .stamps-1-to-clock-less-1 n i h .1;
+          late = rules .stamps-below-the-clock n i h .0;
+          early = rules .stamps-below-the-clock n i h .1;
           on = rules .copies-on-their-paths n i h;
           reach =
-              reach-by-falls p plan-meets s (rules .keys-strictly-rise) (λ m j g. rules .stamps-1-to-clock-less-1 m j g .0)
+              reach-by-falls p plan-meets s (rules .keys-strictly-rise) (λ m j g. rules .stamps-below-the-clock m j g .0)
               (rules .stamps-fall-down-a-path) n i h;
         }
 

@@ -10,35 +10,34 @@ use lib.ListN.{length}
 use borrow.Author.Tests.{eqb-true, eq-eqb, ne-eqb, leb-true, le-leb, ltb-true, lt-ltb}
 use Rattle.lists.proofs.Truths.{and-left, and-right, and-both, or-cases, or-left, or-right}
 use Rattle.plan.specs.Plan.{Plan, size, next, path}
-use Rattle.plan.specs.PlanTable.{planOf}
 use Rattle.store.specs.declared.Copy.{Copy}
 use Rattle.store.specs.declared.Slot.{Slot}
 use Rattle.store.specs.declared.Store.{Store}
 use Rattle.store.specs.Copies.{WITHDRAWN, RESULT, noCopy, stampOf, member}
 use Rattle.store.specs.State.{State, copyAt, idle, inReach}
 use Rattle.store.specs.StateRules.{HeldAt, KindAndValue, OnPath}
-use Rattle.store.specs.Layout.{width, copyOf, countOf, stateOf}
+use Rattle.store.specs.Layout.{planOf, planOf, width, copyOf, countOf, stateOf}
 use Rattle.store.specs.StoreRules.{kindTest, copyTest, unusedTest, slotTest}
 use Rattle.store.proofs.Laying.{state-past, state-count, state-copy}
 use Rattle.store.proofs.RulingLists.{member-at, at-member, stands-at, at-stands, zeros-between, between-zeros}
 
 -- A place of node n that the state holds, and where the store has it.
 pub record Placed (z : Store) (n i : ℕ) : Type 0 where
-  pub node : n < size (planOf (z .plan))
+  pub node : n < size (planOf z)
   pub place : i < countOf z n
   pub copy : copyAt (stateOf z) n i ≡ copyOf z (width * n + i)
 
 module _ (z : Store) where
   pub held-placed : (n i : ℕ) → HeldAt (stateOf z) n i → Placed z n i
-  held-placed n i h = go (decLt n (size (planOf (z .plan))))
+  held-placed n i h = go (decLt n (size (planOf z)))
     where
-      go : Dec (n < size (planOf (z .plan))) → Placed z n i
+      go : Dec (n < size (planOf z)) → Placed z n i
       go (yes g) =
           let l : i < countOf z n = omega (arith, state-count z n g) in
           record { node = g; place = l; copy = state-copy z n i g l }
       go (no g) = absurd (omega (arith, ap length (state-past z n (omega arith))))
 
-  pub placed-held : (n i : ℕ) → n < size (planOf (z .plan)) → i < countOf z n → HeldAt (stateOf z) n i
+  pub placed-held : (n i : ℕ) → n < size (planOf z) → i < countOf z n → HeldAt (stateOf z) n i
   placed-held n i h g = omega (arith, state-count z n h)
 
 -- Kinds and values.

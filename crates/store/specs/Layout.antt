@@ -6,8 +6,8 @@ use Prim.Native.Nat.{ℕ, _*_, _/_, _%_}
 use lib.ListN.{length, getD}
 use Rattle.lists.specs.Runs.{run}
 use Rattle.plan.specs.Sizes.{mostNodes, mostCapacity}
-use Rattle.plan.specs.Plan.{size}
-use Rattle.plan.specs.PlanTable.{planOf}
+use Rattle.plan.specs.Plan.{Plan, size}
+use Rattle.plan.specs.PlanTable.{planNumbered}
 use Rattle.store.specs.declared.Copy.{Copy}
 use Rattle.store.specs.declared.Store.{Store}
 use Rattle.store.specs.Copies.{noCopy}
@@ -17,9 +17,9 @@ use Rattle.store.specs.State.{State, slotCount, fresh}
 abbrev pub width : ℕ
 width = mostCapacity
 
--- 512 places in all.
+-- As many places in all as the nodes have.
 abbrev pub places : ℕ
-places = 512
+places = mostNodes * width
 
 -- The copy that four columns hold at a place.
 abbrev pub copyIn : List ℕ → List ℕ → List ℕ → List ℕ → ℕ → Copy
@@ -41,9 +41,13 @@ countOf z n = getD (z .counts) n 0
 abbrev pub nodeOf : Store → ℕ → List Copy
 nodeOf z n = nodeIn (z .counts) (z .keys) (z .kinds) (z .values) (z .stamps) n
 
+-- Which plan a store has: that of its number.
+abbrev pub planOf : Store → Plan
+planOf z = planNumbered (z .plan)
+
 -- The state of a store.
 unfoldable pub stateOf : Store → State
-stateOf z = record { clock = z .clock; nodes = run 0 (size (planOf (z .plan))) (nodeOf z); slots = z .slots }
+stateOf z = record { clock = z .clock; nodes = run 0 (size (planOf z)) (nodeOf z); slots = z .slots }
 
 -- What stands at a place where the nodes hold these lists: past a node's copies the empty copy.
 abbrev pub placeOf : List (List Copy) → ℕ → Copy
@@ -67,15 +71,15 @@ storeOf plan s =
       slots = s .slots;
     }
 
--- "512 places for copies (64 to each of 8 nodes), a count per node, and 8 search slots."
+-- "places for copies .., a count per node, and .. search slots"
 pub record Shape (z : Store) : Type 0 where
-  pub counts-8 : length (z .counts) ≡ mostNodes
-  pub keys-512 : length (z .keys) ≡ places
-  pub kinds-512 : length (z .kinds) ≡ places
-  pub values-512 : length (z .values) ≡ places
-  pub stamps-512 : length (z .stamps) ≡ places
-  pub slots-8 : length (z .slots) ≡ slotCount
+  pub counts-long : length (z .counts) ≡ mostNodes
+  pub keys-long : length (z .keys) ≡ places
+  pub kinds-long : length (z .kinds) ≡ places
+  pub values-long : length (z .values) ≡ places
+  pub stamps-long : length (z .stamps) ≡ places
+  pub slots-long : length (z .slots) ≡ slotCount
 
 -- The fresh store of a plan.
 unfoldable pub freshStore : ℕ → Store
-freshStore plan = storeOf plan (fresh (planOf plan))
+freshStore plan = storeOf plan (fresh (planNumbered plan))

@@ -26,7 +26,7 @@ pub record StateRules (p : Plan) (s : State) : Type 0 where
   -- each node of the plan has its list
   pub a-list-for-each-node : length (s .nodes) ≡ size p
   -- "clock 1 to 4294967295"
-  pub clock-1-to-last : (1 ≤ s .clock) × (s .clock ≤ lastClock)
+  pub clock-within : (1 ≤ s .clock) × (s .clock ≤ lastClock)
   -- "counts within capacity"
   pub counts-within-capacity : (n : ℕ) → n < size p → length (nodeAt s n) ≤ capacityOf p n
   -- "keys strictly rising in a node"
@@ -36,7 +36,7 @@ pub record StateRules (p : Plan) (s : State) : Type 0 where
   -- "each copy in a node of its key's path"
   pub copies-on-their-paths : (n i : ℕ) → HeldAt s n i → (above : ℕ) × OnPath p (copyAt s n i .key) n above
   -- "stamps from 1 to clock − 1"
-  pub stamps-1-to-clock-less-1 : (n i : ℕ) → HeldAt s n i → (1 ≤ copyAt s n i .stamp) × (copyAt s n i .stamp < s .clock)
+  pub stamps-below-the-clock : (n i : ℕ) → HeldAt s n i → (1 ≤ copyAt s n i .stamp) × (copyAt s n i .stamp < s .clock)
   -- "and all different"
   pub stamps-all-different :
       (n i m j : ℕ) → HeldAt s n i → HeldAt s m j → copyAt s n i .stamp ≡ copyAt s m j .stamp → (n ≡ m) × (i ≡ j)
@@ -44,7 +44,7 @@ pub record StateRules (p : Plan) (s : State) : Type 0 where
   pub stamps-fall-down-a-path :
       (n i m j : ℕ) → HeldAt s n i → HeldAt s m j → copyAt s n i .key ≡ copyAt s m j .key → n < m → copyAt s m j .stamp < copyAt s n i .stamp
   -- "8 search slots"
-  pub eight-slots : length (s .slots) ≡ slotCount
+  pub slots-within : length (s .slots) ≡ slotCount
   -- "idle slots all zero"
   pub idle-slots-all-zero : (i : ℕ) → i < slotCount → slotAt s i .running ≡ 0 → slotAt s i ≡ idle
   -- "a running search stands on its key's path, its visits equal to the path nodes above it"

@@ -9,27 +9,27 @@ use lib.Seq.{slice}
 use Rattle.lists.specs.Runs.{run, allFrom, allBelow}
 use Rattle.plan.specs.Sizes.{mostNodes}
 use Rattle.plan.specs.Plan.{Plan, size, capacityOf, next, path}
-use Rattle.plan.specs.PlanTable.{planOf, plans}
+use Rattle.plan.specs.PlanTable.{plans}
 use Rattle.store.specs.declared.Copy.{Copy}
 use Rattle.store.specs.declared.Slot.{Slot}
 use Rattle.store.specs.declared.Store.{Store}
 use Rattle.store.specs.Copies.{WITHDRAWN, RESULT, noCopy, stampOf, member, different}
 use Rattle.store.specs.State.{State, lastClock, slotCount, idle, inReach}
 use Rattle.store.specs.StateRules.{StateRules}
-use Rattle.store.specs.Layout.{width, places, copyOf, countOf, stateOf, Shape}
+use Rattle.store.specs.Layout.{planOf, planOf, width, places, copyOf, countOf, stateOf, Shape}
 
 -- The store rules.
 pub record StoreRules (z : Store) : Type 0 where
   -- what a store holds
   pub shape : Shape z
   -- "plan 1 to 3"
-  pub plan-1-to-3 : (1 ≤ z .plan) × (z .plan ≤ plans)
+  pub plan-known : (1 ≤ z .plan) × (z .plan ≤ plans)
   -- "unused places .. all zero"
   pub unused-places-all-zero : (n i : ℕ) → n < mostNodes → countOf z n ≤ i → i < width → copyOf z (width * n + i) ≡ noCopy
   -- "unused nodes' counts .. zero"
-  pub unused-counts-zero : (n : ℕ) → size (planOf (z .plan)) ≤ n → n < mostNodes → countOf z n ≡ 0
+  pub unused-counts-zero : (n : ℕ) → size (planOf z) ≤ n → n < mostNodes → countOf z n ≡ 0
   -- all other rules, in StateRules
-  pub state-rules : StateRules (planOf (z .plan)) (stateOf z)
+  pub state-rules : StateRules (planOf z) (stateOf z)
 
 -- The same as a test, node by node and place by place.
 unfoldable pub shapeTest : Store → Bool
@@ -98,7 +98,7 @@ slotTest p q =
 -- The store rules as one test.
 unfoldable pub goodStore : Store → Bool
 goodStore z =
-    let p = planOf (z .plan) in
+    let p = planOf z in
     let s = stateOf z in
     shapeTest z && planNumberTest (z .plan) && clockTest (z .clock) && allBelow mostNodes (nodeTest p s z)
     && different (stampsFrom (z .counts) (z .stamps) 0 mostNodes) && allBelow slotCount (λ i. slotTest p (getD (z .slots) i idle))

@@ -48,11 +48,11 @@ AllOrdered counts keys = (n : ℕ) → n < mostNodes → Ordered counts keys n
 
 -- Columns that are as long as a store's.
 pub record Sized (counts keys kinds values stamps : List ℕ) : Type 0 where
-  pub counts-8 : length counts ≡ mostNodes
-  pub keys-512 : length keys ≡ places
-  pub kinds-512 : length kinds ≡ places
-  pub values-512 : length values ≡ places
-  pub stamps-512 : length stamps ≡ places
+  pub counts-long : length counts ≡ mostNodes
+  pub keys-long : length keys ≡ places
+  pub kinds-long : length kinds ≡ places
+  pub values-long : length values ≡ places
+  pub stamps-long : length stamps ≡ places
 
 -- The store of the parts that a worker is lent.
 abbrev pub ofParts : ℕ → ℕ → List ℕ → List ℕ → List ℕ → List ℕ → List ℕ → List Slot → Store

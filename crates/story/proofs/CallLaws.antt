@@ -9,13 +9,13 @@ use lib.ListN.{length, replicate}
 use Rattle.lists.proofs.Options.{one-some}
 use Rattle.plan.specs.Plan.{Plan, size, edgeOf, path}
 use Rattle.plan.specs.PlanRules.{IsEdge, PlanRules}
-use Rattle.plan.specs.PlanTable.{planOf}
+use Rattle.plan.specs.PlanTable.{planNumbered}
 use Rattle.store.specs.declared.Answer.{Answer}
 use Rattle.store.specs.declared.Store.{Store}
 use Rattle.store.specs.Answers.{DONE, answer}
 use Rattle.store.specs.Copies.{keyOf}
 use Rattle.store.specs.State.{State, nodeAt, line}
-use Rattle.store.specs.Layout.{countOf, nodeOf, stateOf}
+use Rattle.store.specs.Layout.{planOf, planOf, planOf, countOf, nodeOf, stateOf}
 use Rattle.store.specs.StoreRules.{goodStore}
 use Rattle.store.proofs.Laying.{state-node, state-count}
 use Rattle.store.proofs.Lifting.{of-good, plan-good, state-good}
@@ -48,28 +48,28 @@ use Rattle.story.proofs.Follows.{
 }
 
 -- Invariant 2, over calls that do not replace the store: "The contents-in-reach of every node only increases."
-pub calls-increase : (cs : List Call) (z : Store) → goodStore z ≡ true → sameStore cs ≡ true → (n k : ℕ) → n < size (planOf (z .plan))
+pub calls-increase : (cs : List Call) (z : Store) → goodStore z ≡ true → sameStore cs ≡ true → (n k : ℕ) → n < size (planOf z)
     → reachStamp z n k ≤ reachStamp (storeAfterAll cs z) n k
 calls-increase cs z good stays n k h =
     let f = follows-events cs z good stays in
-    rw (f .state, f .plan) (reach-increases-run (planOf (z .plan)) (plan-good z good) (eventsOf cs) (stateOf z) (state-good z good) n k h)
+    rw (f .state, f .plan) (reach-increases-run (planOf z) (plan-good z good) (eventsOf cs) (stateOf z) (state-good z good) n k h)
 
 -- ---- looks
 
 module _ (z : Store) (good : goodStore z ≡ true) (k : ℕ) where
-  look-is : answerTo (look k) z ≡ some (lookAnswer k (planOf (z .plan)) (stateOf z))
+  look-is : answerTo (look k) z ≡ some (lookAnswer k (planOf z) (stateOf z))
   unfolding answerTo
   look-is = ap some (of-good (lookAnswer k) z good)
 
   -- A look says the line's current result, after as many visits as there are path nodes down to the first that has a copy, or all.
   pub look-says : (visits : ℕ) × (answerTo (look k) z ≡ some (ended (currentIn z k) visits))
-      × VisitsUntil (line (stateOf z) k) (path (planOf (z .plan)) k) visits
+      × VisitsUntil (line (stateOf z) k) (path (planOf z) k) visits
   look-says =
-      let a = look-answer (planOf (z .plan)) (plan-good z good) k (stateOf z) in
+      let a = look-answer (planOf z) (plan-good z good) k (stateOf z) in
       (a .visits, look-is ∙ ap some (a .says), a .until)
 
 -- A search that is stepped with nothing else between ends by one of the steps.
-stepped-alone : (i : ℕ) (x : Answer) (p : Plan) (s : State) → SearchEnds i p s x → (z : Store) → goodStore z ≡ true → planOf (z .plan) ≡ p
+stepped-alone : (i : ℕ) (x : Answer) (p : Plan) (s : State) → SearchEnds i p s x → (z : Store) → goodStore z ≡ true → planOf z ≡ p
     → stateOf z ≡ s → (m : ℕ) × (answerTo (step i) (storeAfterAll (replicate m (step i)) z) ≡ some x)
 unfolding storeAfterAll eventOf effect
 stepped-alone i x p s (now says done) z good plan state =
@@ -78,7 +78,7 @@ stepped-alone i x p s (later goes again) z good plan state =
     let a = acts-as (step i) (steps i) refl (step-acts i) in
     let w =
     stepped-alone i x p (after p (steps i) s) again (storeAfter (step i) z) (call-keeps-good (step i) z good)
-    (ap (λ (y : Store). planOf (y .plan)) (a .leaves z) ∙ ap planOf (event-keeps-plan (steps i) z) ∙ plan)
+    (ap (λ (y : Store). planOf y) (a .leaves z) ∙ ap planNumbered (event-keeps-plan (steps i) z) ∙ plan)
     (ap stateOf (a .leaves z) ∙ event-state (steps i) z good ∙ rw (plan, state)) in
     (suc (w .0), w .1)
 
@@ -89,24 +89,24 @@ pub look-is-search : (z : Store) → goodStore z ≡ true → (c : Call) (k i : 
 unfolding effect
 look-is-search z good c k i is-start starting =
     let a = acts-as c (starts k) is-start (start-acts k) in
-    let says : answerOf (planOf (z .plan)) (starts k) (stateOf z) ≡ answer DONE i 0 0 0 =
+    let says : answerOf (planOf z) (starts k) (stateOf z) ≡ answer DONE i 0 0 0 =
     sym (event-answer (starts k) z good) ∙ one-some (a .answers z) starting in
-    let ends = search-is-look (planOf (z .plan)) (plan-good z good) (stateOf z) k (ap (λ (x : Answer). x .number) says) in
+    let ends = search-is-look (planOf z) (plan-good z good) (stateOf z) k (ap (λ (x : Answer). x .number) says) in
     let w =
-    stepped-alone i (lookAnswer k (planOf (z .plan)) (stateOf z)) (planOf (z .plan)) (after (planOf (z .plan)) (starts k) (stateOf z))
+    stepped-alone i (lookAnswer k (planOf z) (stateOf z)) (planOf z) (after (planOf z) (starts k) (stateOf z))
     (subst
     (λ (j : ℕ).
-    SearchEnds j (planOf (z .plan)) (after (planOf (z .plan)) (starts k) (stateOf z)) (lookAnswer k (planOf (z .plan)) (stateOf z)))
+    SearchEnds j (planOf z) (after (planOf z) (starts k) (stateOf z)) (lookAnswer k (planOf z) (stateOf z)))
     (ap (λ (x : Answer). x .a) says) ends)
     (storeAfter c z) (call-keeps-good c z good)
-    (ap (λ (y : Store). planOf (y .plan)) (a .leaves z) ∙ ap planOf (event-keeps-plan (starts k) z))
+    (ap (λ (y : Store). planOf y) (a .leaves z) ∙ ap planNumbered (event-keeps-plan (starts k) z))
     (ap stateOf (a .leaves z) ∙ event-state (starts k) z good) in
     (w .0, w .1 ∙ sym (look-is z good k))
 
 -- ---- carries
 
 -- A carry along an edge of the store's plan, by a record run too: its answer is of the counts before and after it.
-pub carry-counts : (c : Call) (n i : ℕ) → eventOf c ≡ carries n i → (z : Store) → goodStore z ≡ true → IsEdge (planOf (z .plan)) n i
+pub carry-counts : (c : Call) (n i : ℕ) → eventOf c ≡ carries n i → (z : Store) → goodStore z ≡ true → IsEdge (planOf z) n i
     → CarryCounts c n i z
 unfolding effect
 carry-counts c n i is z good d =
@@ -123,7 +123,7 @@ carry-counts c n i is z good d =
     y = storeAfter c z
 
     p : Plan
-    p = planOf (z .plan)
+    p = planOf z
 
     s : State
     s = stateOf z
@@ -149,7 +149,7 @@ carry-counts c n i is z good d =
     before : (m : ℕ) → m < size p → length (nodeAt s m) ≡ countOf z m
     before m h = state-count z m h
 
-    there : (m : ℕ) → m < size p → m < size (planOf (y .plan))
+    there : (m : ℕ) → m < size p → m < size (planOf y)
     there m h = rw plan-y h
 
     then : (m : ℕ) → m < size p → length (nodeAt (afterCarry p n i s) m) ≡ countOf y m

@@ -11,12 +11,12 @@ use native.Mathlib.Nat.{add-zero, mul-add}
 use Rattle.lists.proofs.Truths.{bool?, not-both, le-both}
 use Rattle.lists.proofs.Options.{option?}
 use Rattle.plan.specs.Plan.{edgesOn}
-use Rattle.plan.specs.PlanTable.{planOf, plans}
+use Rattle.plan.specs.PlanTable.{planNumbered, plans}
 use Rattle.plan.proofs.TableLaws.{table-rules}
 use Rattle.store.specs.declared.Copy.{Copy}
 use Rattle.store.specs.declared.Store.{Store}
 use Rattle.store.specs.State.{lastClock, fresh}
-use Rattle.store.specs.Layout.{stateOf, storeOf, freshStore}
+use Rattle.store.specs.Layout.{planOf, planOf, planOf, stateOf, storeOf, freshStore}
 use Rattle.store.specs.StoreRules.{planNumberTest, goodStore}
 use Rattle.store.specs.Promises.{freshOutcome}
 use Rattle.store.proofs.Lifting.{plan-good, state-good, fresh-back, fresh-good}
@@ -51,20 +51,20 @@ module _ (k : ℕ) where
   -- Of a good store the carries so far, and what its copies of the line are worth, are paid by the entries in its history; with a bad one
   -- nothing is carried.
   record Paid (z : Store) (n : ℕ) (h : List Copy) : Type 0 where
-    of-good : goodStore z ≡ true → n + worth (planOf (z .plan)) k (stateOf z) ≤ edgesOn (planOf (z .plan)) k * copiesOf k h
+    of-good : goodStore z ≡ true → n + worth (planOf z) k (stateOf z) ≤ edgesOn (planOf z) k * copiesOf k h
     of-bad : goodStore z ≡ false → n ≡ 0
 
   -- So it is at the start, and after an accepted fresh or load,
   paid-at-start : (z : Store) → Paid z 0 (held (stateOf z))
   paid-at-start z =
-      record { of-good = λ good. omega (arith, worth-held (planOf (z .plan)) (plan-good z good) k (stateOf z)); of-bad = λ bad. refl }
+      record { of-good = λ good. omega (arith, worth-held (planOf z) (plan-good z good) k (stateOf z)); of-bad = λ bad. refl }
 
   -- and an event keeps it so.
   paid-good : (e : Event) (z : Store) (n : ℕ) (h : List Copy) → Paid z n h → goodStore z ≡ true
-      → bit (carriedBy k e z) + n + worth (planOf (onEvent e z .store .plan)) k (stateOf (onEvent e z .store))
-      ≤ edgesOn (planOf (onEvent e z .store .plan)) k * copiesOf k (h ++ optionList (enteredBy e z))
+      → bit (carriedBy k e z) + n + worth (planOf (onEvent e z .store)) k (stateOf (onEvent e z .store))
+      ≤ edgesOn (planOf (onEvent e z .store)) k * copiesOf k (h ++ optionList (enteredBy e z))
   paid-good e z n h q good =
-      let p = planOf (z .plan) in
+      let p = planOf z in
       let s = stateOf z in
       rw (event-state e z good, event-keeps-plan e z, entered-same e z good, carried-same k e z good, copies-with k h (entryOf p e s))
       (omega (
@@ -112,12 +112,12 @@ module _ (k : ℕ) where
   -- Demand 3, from any store and over any sequence of public calls: since the last accepted fresh or load, or since the start, the line was
   -- carried at most as often as its path has edges times its entries, each loaded copy counting as one.
   pub calls-bound : (cs : List Call) (z : Store)
-      → carriesSince k cs z 0 ≤ edgesOn (planOf (storeAfterAll cs z .plan)) k * copiesOf k (history cs z (held (stateOf z)))
+      → carriesSince k cs z 0 ≤ edgesOn (planOf (storeAfterAll cs z)) k * copiesOf k (history cs z (held (stateOf z)))
   calls-bound cs z = go (bool? (goodStore (storeAfterAll cs z))) (calls-pay cs z 0 (held (stateOf z)) (paid-at-start z))
     where
       go : (goodStore (storeAfterAll cs z) ≡ true) ⊎ (goodStore (storeAfterAll cs z) ≡ false)
           → Paid (storeAfterAll cs z) (carriesSince k cs z 0) (history cs z (held (stateOf z)))
-          → carriesSince k cs z 0 ≤ edgesOn (planOf (storeAfterAll cs z .plan)) k * copiesOf k (history cs z (held (stateOf z)))
+          → carriesSince k cs z 0 ≤ edgesOn (planOf (storeAfterAll cs z)) k * copiesOf k (history cs z (held (stateOf z)))
       go (inl good) q = omega (arith, q .of-good good)
       go (inr bad) q = rw (q .of-bad bad) (omega arith)
 
@@ -144,11 +144,11 @@ calls-stay (e ∷ es) = rw (event-back e .1) (calls-stay es)
 
 -- From a fresh store, the events' counts are the calls'.
 from-fresh : (plan : ℕ) → 1 ≤ plan → plan ≤ plans → (k v r : ℕ) → r < lastClock
-    → (copiesOf k (history (callsOf (rounds (planOf plan) k v r)) (freshStore plan) []) ≡ r)
-    × (carriesSince k (callsOf (rounds (planOf plan) k v r)) (freshStore plan) 0 ≡ edgesOn (planOf plan) k * r)
+    → (copiesOf k (history (callsOf (rounds (planNumbered plan) k v r)) (freshStore plan) []) ≡ r)
+    × (carriesSince k (callsOf (rounds (planNumbered plan) k v r)) (freshStore plan) 0 ≡ edgesOn (planNumbered plan) k * r)
 unfolding copiesOf
 from-fresh plan low high k v r h =
-    let p = planOf plan in
+    let p = planNumbered plan in
     let es = rounds p k v r in
     let good = fresh-good plan low high in
     let w = reached p (table-rules plan low high) k v r h in
@@ -156,7 +156,7 @@ from-fresh plan low high k v r h =
       ap (copiesOf k) (same-history (callsOf es) (freshStore plan) good (calls-stay es) [])
           ∙ (rw (fresh-back plan low high, its, events-back es) (copies-entered p k es (fresh p)) ∙ w .0),
       same-carries k (callsOf es) (freshStore plan) good (calls-stay es) 0
-          ∙ (add-zero (carried (planOf (freshStore plan .plan)) k (eventsOf (callsOf es)) (stateOf (freshStore plan)))
+          ∙ (add-zero (carried (planOf (freshStore plan)) k (eventsOf (callsOf es)) (stateOf (freshStore plan)))
           ∙ rw (fresh-back plan low high, its, events-back es) (w .1)),
     )
 
@@ -169,11 +169,11 @@ fresh-replaces plan low high = rw (le-both 1 plan plan plans low high)
 -- the store was before.
 pub calls-reach : (plan : ℕ) → 1 ≤ plan → plan ≤ plans → (k v r : ℕ) → r ≤ mostEntries → (z : Store)
     → (copiesOf k (history (roundCalls plan k v r) z (held (stateOf z))) ≡ r)
-    × (carriesSince k (roundCalls plan k v r) z 0 ≡ edgesOn (planOf plan) k * r)
+    × (carriesSince k (roundCalls plan k v r) z 0 ≡ edgesOn (planNumbered plan) k * r)
 unfolding roundCalls
 calls-reach plan low high k v r h z =
     let e = fresh-replaces plan low high in
-    let cs = callsOf (rounds (planOf plan) k v r) in
+    let cs = callsOf (rounds (planNumbered plan) k v r) in
     let w = from-fresh plan low high k v r (omega arith) in (
       ap (copiesOf k)
           (replaced-history (freshCall plan) cs z (freshStore plan) (held (stateOf z)) e

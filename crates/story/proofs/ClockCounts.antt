@@ -8,12 +8,12 @@ use native.Mathlib.Omega.{arith}
 use lib.Dec.{eqb}
 use lib.ListN.{length, length-append}
 use Rattle.plan.specs.Plan.{Plan}
-use Rattle.plan.specs.PlanTable.{planOf, plans}
+use Rattle.plan.specs.PlanTable.{plans}
 use Rattle.store.specs.declared.Store.{Store}
 use Rattle.store.specs.Answers.{DONE}
 use Rattle.store.specs.Copies.{WITHDRAWN, RESULT, copy}
 use Rattle.store.specs.State.{State, fresh as freshState}
-use Rattle.store.specs.Layout.{stateOf, storeOf, freshStore}
+use Rattle.store.specs.Layout.{planOf, planOf, planOf, stateOf, storeOf, freshStore}
 use Rattle.store.specs.StoreRules.{goodStore}
 use Rattle.store.specs.Calls.{Effect}
 use Rattle.store.proofs.Lifting.{state-good, fresh-good}
@@ -110,7 +110,7 @@ pub clock-counts : (cs : List Call) (z : Store) → goodStore z ≡ true → sam
 unfolding stateOf
 clock-counts cs z good stays =
     ap (λ (s : State). s .clock) (follows-events cs z good stays .state)
-    ∙ events-count (planOf (z .plan)) (eventsOf cs) (stateOf z)
+    ∙ events-count (planOf z) (eventsOf cs) (stateOf z)
     ∙ rw (same-history cs z good stays [])
 
 -- and from a fresh store it is one more than the accepted entries, of which there are at most 4294967294.
@@ -122,4 +122,4 @@ most-entries plan low high cs stays =
     let good = fresh-good plan low high in
     let counts : storeAfterAll cs (freshStore plan) .clock ≡ suc (length (history cs (freshStore plan) [])) =
     omega (arith, clock-counts cs (freshStore plan) good stays) in
-    (counts, omega (arith, state-good (storeAfterAll cs (freshStore plan)) (calls-keep-good cs (freshStore plan) good) .clock-1-to-last .1))
+    (counts, omega (arith, state-good (storeAfterAll cs (freshStore plan)) (calls-keep-good cs (freshStore plan) good) .clock-within .1))

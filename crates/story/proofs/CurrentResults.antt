@@ -9,14 +9,13 @@ use native.Mathlib.Omega.{arith}
 use borrow.Author.Tests.{ne-eqb}
 use Rattle.lists.proofs.Truths.{bool?}
 use Rattle.lists.proofs.Options.{not-none-and-some, one-some}
-use Rattle.plan.specs.PlanTable.{planOf}
 use Rattle.store.specs.declared.Answer.{Answer}
 use Rattle.store.specs.declared.Copy.{Copy}
 use Rattle.store.specs.declared.Outcome.{Outcome}
 use Rattle.store.specs.declared.Store.{Store}
 use Rattle.store.specs.Answers.{DONE}
 use Rattle.store.specs.State.{current}
-use Rattle.store.specs.Layout.{stateOf}
+use Rattle.store.specs.Layout.{planOf, planOf, planOf, stateOf}
 use Rattle.store.specs.StoreRules.{goodStore}
 use Rattle.store.proofs.Lifting.{plan-good, state-good, store-stays}
 use Rattle.theory.specs.Events.{Event, effect, after}
@@ -51,24 +50,24 @@ module _ (e : Event) (z : Store) where
       go : (goodStore z ≡ true) ⊎ (goodStore z ≡ false) → onEvent e z .store ≡ z
       go (inl good) =
           store-stays (λ p s. effect p e s) z
-          (refused-stays (planOf (z .plan)) (plan-good z good) (stateOf z) (state-good z good) e
+          (refused-stays (planOf z) (plan-good z good) (stateOf z) (state-good z good) e
           (rw (event-answer e z good) at h))
       go (inr bad) = event-on-bad e z bad
 
   module _ (good : goodStore z ≡ true) where
     -- The current result after an event is the state's.
-    current-after : (k : ℕ) → currentIn (onEvent e z .store) k ≡ current (planOf (z .plan)) (after (planOf (z .plan)) e (stateOf z)) k
+    current-after : (k : ℕ) → currentIn (onEvent e z .store) k ≡ current (planOf z) (after (planOf z) e (stateOf z)) k
     current-after k = rw (event-state e z good, event-keeps-plan e z)
 
     event-sets : (x : Copy) → enteredBy e z ≡ some x → (k : ℕ) → currentIn (onEvent e z .store) k ≡ upserted (currentIn z) x k
     event-sets x f k =
         current-after k
-        ∙ entry-upserts (planOf (z .plan)) (plan-good z good) (stateOf z) (state-good z good) e x (sym (entered-same e z good) ∙ f) k
+        ∙ entry-upserts (planOf z) (plan-good z good) (stateOf z) (state-good z good) e x (sym (entered-same e z good) ∙ f) k
 
     event-leaves : enteredBy e z ≡ none → (k : ℕ) → currentIn (onEvent e z .store) k ≡ currentIn z k
     event-leaves f k =
         current-after k
-        ∙ current-stays (planOf (z .plan)) (plan-good z good) (stateOf z) (state-good z good) e (sym (entered-same e z good) ∙ f) k
+        ∙ current-stays (planOf z) (plan-good z good) (stateOf z) (state-good z good) e (sym (entered-same e z good) ∙ f) k
 
 -- ---- a call
 

@@ -10,14 +10,14 @@ use Rattle.lists.proofs.Truths.{bool?, and-left, and-right, and-both}
 use Rattle.lists.proofs.Options.{option?, one-some}
 use Rattle.lists.proofs.Storing.{getD-same}
 use Rattle.plan.specs.Plan.{Plan}
-use Rattle.plan.specs.PlanTable.{planOf}
+use Rattle.plan.specs.PlanTable.{planNumbered}
 use Rattle.store.specs.declared.Answer.{Answer}
 use Rattle.store.specs.declared.Slot.{Slot}
 use Rattle.store.specs.declared.Store.{Store}
 use Rattle.store.specs.Answers.{DONE, answer}
 use Rattle.store.specs.Copies.{isSome}
 use Rattle.store.specs.State.{State, slotCount, idle}
-use Rattle.store.specs.Layout.{stateOf}
+use Rattle.store.specs.Layout.{planOf, planOf, planOf, stateOf}
 use Rattle.store.specs.StoreRules.{goodStore}
 use Rattle.steps.specs.Searches.{running}
 use Rattle.theory.specs.Events.{Event, after, answerOf, run as runEvents, goesOnThrough, goesOn}
@@ -83,7 +83,7 @@ module _ (z : Store) (good : goodStore z ≡ true) (i : ℕ) where
     y = storeAfterAll cs z
 
     abbrev p : Plan
-    p = planOf (storeAfterAll cs z .plan)
+    p = planOf (storeAfterAll cs z)
 
     good-y : goodStore y ≡ true
     good-y = calls-keep-good cs z good
@@ -150,12 +150,12 @@ module _ (z : Store) (good : goodStore z ≡ true) (i : ℕ) where
             ∙ event-keeps-plan (starts (r .key)) (atStart z (r .before))
 
         through : goesOnThrough p i (eventOf c) (stateOf y) ≡ true
-            → goesOnThrough (planOf (z₁ .plan)) i (eventOf c) (runEvents (planOf (z₁ .plan)) (eventsOf (r .between)) (stateOf z₂)) ≡ true
+            → goesOnThrough (planOf z₁) i (eventOf c) (runEvents (planOf z₁) (eventsOf (r .between)) (stateOf z₂)) ≡ true
         through t =
             let f = follows in
             let plan : y .plan ≡ z₁ .plan = ap (λ (x : Store). x .plan) here ∙ f .plan ∙ plan₂ in
-            let state : stateOf y ≡ runEvents (planOf (z₁ .plan)) (eventsOf (r .between)) (stateOf z₂) =
-            ap stateOf here ∙ f .state ∙ ap (λ (n : ℕ). runEvents (planOf n) (eventsOf (r .between)) (stateOf z₂)) plan₂ in
+            let state : stateOf y ≡ runEvents (planOf z₁) (eventsOf (r .between)) (stateOf z₂) =
+            ap stateOf here ∙ f .state ∙ ap (λ (n : ℕ). runEvents (planNumbered n) (eventsOf (r .between)) (stateOf z₂)) plan₂ in
             rw (plan, state) at t
 
         go : (goesOnThrough p i (eventOf c) (stateOf y) ≡ true) ⊎ (goesOnThrough p i (eventOf c) (stateOf y) ≡ false)
@@ -176,7 +176,7 @@ module _ (z : Store) (good : goodStore z ≡ true) (i : ℕ) where
                     stays = same-more (r .between) c (r .runs .stays) e;
                     goes-on =
                         rw (events-append (r .between) c)
-                        (goes-on-more (planOf (z₁ .plan)) i (eventsOf (r .between)) (eventOf c) (stateOf z₂) (r .runs .goes-on) (through t));
+                        (goes-on-more (planOf z₁) i (eventsOf (r .between)) (eventOf c) (stateOf z₂) (r .runs .goes-on) (through t));
                   };
             })
 
@@ -205,7 +205,7 @@ module _ (z : Store) (good : goodStore z ≡ true) (i : ℕ) where
       y : Store
       y = storeAfterAll cs z
 
-      says : answerOf (planOf (y .plan)) (steps i) (stateOf y) .number ≡ DONE
+      says : answerOf (planOf y) (steps i) (stateOf y) .number ≡ DONE
       says =
           ap (λ (a : Answer). a .number)
           (sym (event-answer (steps i) y (calls-keep-good cs z good))
@@ -213,7 +213,7 @@ module _ (z : Store) (good : goodStore z ≡ true) (i : ℕ) where
           ∙ done .2
 
       go : IdleOrRuns cs → Finished z cs d i
-      go (inl w) = absurd (not-done (planOf (y .plan)) (stateOf y) i w says)
+      go (inl w) = absurd (not-done (planOf y) (stateOf y) i w says)
       go (inr r) =
           record {
             before = r .before;

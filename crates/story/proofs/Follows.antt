@@ -11,13 +11,13 @@ use lib.ListN.{getD}
 use Rattle.lists.proofs.Truths.{bool?, not-both, and-right, both-le}
 use Rattle.lists.proofs.Options.{option?, not-none-and-some, one-some}
 use Rattle.plan.specs.Plan.{Plan}
-use Rattle.plan.specs.PlanTable.{planOf, plans}
+use Rattle.plan.specs.PlanTable.{plans}
 use Rattle.plan.proofs.TableLaws.{plans-three}
 use Rattle.store.specs.declared.Outcome.{Outcome}
 use Rattle.store.specs.declared.Store.{Store}
 use Rattle.store.specs.Copies.{isSome}
 use Rattle.store.specs.State.{State}
-use Rattle.store.specs.Layout.{stateOf}
+use Rattle.store.specs.Layout.{planOf, planOf, planOf, stateOf}
 use Rattle.store.specs.StoreRules.{planNumberTest, goodStore}
 use Rattle.store.specs.Calls.{Effect, onStore}
 use Rattle.store.specs.Promises.{freshOutcome}
@@ -88,8 +88,8 @@ run-way z list place = go (record-way r place)
         ⊎ ((eventOfRecord r ≡ asks) × ((p : Plan) (s : State) → stepOf r place p s .after ≡ s))
         → (onStore (stepOf r place) z ≡ onStore (λ p s. effect p (eventOfRecord r) s) z)
         ⊎ ((eventOfRecord r ≡ asks) × (onStore (stepOf r place) z .store ≡ z))
-    go (inl h) = inl (same-call (stepOf r place) (λ p s. effect p (eventOfRecord r) s) z (h (planOf (z .plan)) (stateOf z)))
-    go (inr w) = inr (w .0, store-stays (stepOf r place) z (w .1 (planOf (z .plan)) (stateOf z)))
+    go (inl h) = inl (same-call (stepOf r place) (λ p s. effect p (eventOfRecord r) s) z (h (planOf z) (stateOf z)))
+    go (inr w) = inr (w .0, store-stays (stepOf r place) z (w .1 (planOf z) (stateOf z)))
 
 run-event : (z : Store) (list : List Step) (place : ℕ) → runOutcome z list place .store ≡ onEvent (eventOfRecord (getD list place noStep)) z .store
 run-event z list place = go (run-way z list place)
@@ -291,11 +291,11 @@ module _ (e : Event) (z : Store) where
     event-keeps-good = on-keeps (λ p s. effect p e s) z (effect-keeps e) good
 
     -- The state follows the event, and the answer is the event's.
-    pub event-state : stateOf (onEvent e z .store) ≡ after (planOf (z .plan)) e (stateOf z)
+    pub event-state : stateOf (onEvent e z .store) ≡ after (planOf z) e (stateOf z)
     unfolding onEvent
     event-state = state-agrees (λ p s. effect p e s) z (effect-keeps e) good
 
-    pub event-answer : onEvent e z .answer ≡ answerOf (planOf (z .plan)) e (stateOf z)
+    pub event-answer : onEvent e z .answer ≡ answerOf (planOf z) e (stateOf z)
     unfolding onEvent
     event-answer = ap (λ (o : Outcome). o .answer) (on-good (λ p s. effect p e s) z good)
 
@@ -330,7 +330,7 @@ after-append (c ∷ cs) ds z = after-append cs ds (storeAfter c z)
 -- Over a sequence in which the store is not replaced, its state follows the events, and its plan stays.
 pub record FollowsEvents (cs : List Call) (z : Store) : Type 0 where
   pub plan : storeAfterAll cs z .plan ≡ z .plan
-  pub state : stateOf (storeAfterAll cs z) ≡ runEvents (planOf (z .plan)) (eventsOf cs) (stateOf z)
+  pub state : stateOf (storeAfterAll cs z) ≡ runEvents (planOf z) (eventsOf cs) (stateOf z)
 
 -- The first call of such a sequence does not replace it.
 pub first-stays : (c : Call) (cs : List Call) → sameStore (c ∷ cs) ≡ true → replacement c ≡ none
@@ -351,7 +351,7 @@ follows-events [] z good t = record { plan = refl; state = refl }
 follows-events (c ∷ cs) z good t =
     let is : storeAfter c z ≡ onEvent (eventOf c) z .store = event-on c z (first-stays c cs t) in
     let plan : storeAfter c z .plan ≡ z .plan = ap (λ (y : Store). y .plan) is ∙ event-keeps-plan (eventOf c) z in
-    let state : stateOf (storeAfter c z) ≡ after (planOf (z .plan)) (eventOf c) (stateOf z) =
+    let state : stateOf (storeAfter c z) ≡ after (planOf z) (eventOf c) (stateOf z) =
     ap stateOf is ∙ event-state (eventOf c) z good in
     let again = follows-events cs (storeAfter c z) (call-keeps-good c z good) (rest-stays c cs t) in
     record {

@@ -9,11 +9,11 @@ use Prim.Native.Nat.{ℕ, _+_, _≤_}
 use native.Mathlib.Omega.{arith}
 use native.Mathlib.Nat.{zero-add}
 use Rattle.lists.proofs.Options.{option?}
-use Rattle.plan.specs.PlanTable.{planOf, plans}
+use Rattle.plan.specs.PlanTable.{planNumbered, plans}
 use Rattle.store.specs.declared.Store.{Store}
 use Rattle.store.specs.Copies.{isSome}
 use Rattle.store.specs.State.{State, line}
-use Rattle.store.specs.Layout.{stateOf, freshStore}
+use Rattle.store.specs.Layout.{planOf, planOf, planOf, stateOf, freshStore}
 use Rattle.store.specs.StoreRules.{goodStore}
 use Rattle.store.proofs.Lifting.{plan-good, state-good, fresh-back}
 use Rattle.steps.specs.Carries.{bit}
@@ -36,7 +36,7 @@ use Rattle.story.proofs.Follows.{
 }
 
 -- On a good store, what an event enters and carries is what it enters and carries of the state;
-pub entered-same : (e : Event) (z : Store) → goodStore z ≡ true → enteredBy e z ≡ entryOf (planOf (z .plan)) e (stateOf z)
+pub entered-same : (e : Event) (z : Store) → goodStore z ≡ true → enteredBy e z ≡ entryOf (planOf z) e (stateOf z)
 unfolding enteredBy entryOf stateOf
 entered-same (enters k v) z good = rw (event-answer (enters k v) z good)
 entered-same (withdraws k) z good = rw (event-answer (withdraws k) z good)
@@ -46,7 +46,7 @@ entered-same (steps i) z good = refl
 entered-same (cancels i) z good = refl
 entered-same asks z good = refl
 
-pub carried-same : (k : ℕ) (e : Event) (z : Store) → goodStore z ≡ true → carriedBy k e z ≡ carriesLine (planOf (z .plan)) k e (stateOf z)
+pub carried-same : (k : ℕ) (e : Event) (z : Store) → goodStore z ≡ true → carriedBy k e z ≡ carriesLine (planOf z) k e (stateOf z)
 unfolding carriedBy carriesLine
 carried-same k (carries n i) z good =
     ap (λ (s : State). isSome (line (stateOf z) k n) && not (isSome (line s k n))) (event-state (carries n i) z good)
@@ -76,19 +76,19 @@ nothing-carried k asks z bad = refl
 
 -- A store whose state has the paper's structure, with a history.
 abbrev pub HoldsWith : Store → History → Type 0
-HoldsWith z h = Multicopy (planOf (z .plan)) (stateOf z) h
+HoldsWith z h = Multicopy (planOf z) (stateOf z) h
 
 pub store-held : (z : Store) → goodStore z ≡ true → HoldsWith z (held (stateOf z))
-store-held z good = multicopy-held (planOf (z .plan)) (plan-good z good) (stateOf z) (state-good z good)
+store-held z good = multicopy-held (planOf z) (plan-good z good) (stateOf z) (state-good z good)
 
 -- Every public call keeps it,
 call-holds : (c : Call) (z : Store) → goodStore z ≡ true → (h : History) → HoldsWith z h
     → HoldsWith (storeAfter c z) (historyWith (replacement c) (enteredBy (eventOf c) z) h)
 call-holds c z good h m = go (option? (replacement c))
   where
-    kept : Multicopy (planOf (z .plan)) (after (planOf (z .plan)) (eventOf c) (stateOf z))
-        (h ++ optionList (entryOf (planOf (z .plan)) (eventOf c) (stateOf z)))
-    kept = multicopy-event (planOf (z .plan)) (plan-good z good) (stateOf z) (state-good z good) (eventOf c) h m
+    kept : Multicopy (planOf z) (after (planOf z) (eventOf c) (stateOf z))
+        (h ++ optionList (entryOf (planOf z) (eventOf c) (stateOf z)))
+    kept = multicopy-event (planOf z) (plan-good z good) (stateOf z) (state-good z good) (eventOf c) h m
 
     go : (replacement c ≡ none) ⊎ ((y : Store) × (replacement c ≡ some y))
         → HoldsWith (storeAfter c z) (historyWith (replacement c) (enteredBy (eventOf c) z) h)
@@ -109,34 +109,34 @@ store-story cs z good = calls-hold cs z good (held (stateOf z)) (store-held z go
 
 -- A fresh store's history is empty.
 pub fresh-history : (plan : ℕ) → 1 ≤ plan → plan ≤ plans → held (stateOf (freshStore plan)) ≡ []
-fresh-history plan low high = ap held (fresh-back plan low high) ∙ held-fresh (planOf plan)
+fresh-history plan low high = ap held (fresh-back plan low high) ∙ held-fresh (planNumbered plan)
 
 -- Where the store is not replaced, history and carries are those of the events.
 pub same-history : (cs : List Call) (z : Store) → goodStore z ≡ true → sameStore cs ≡ true → (h : History)
-    → history cs z h ≡ h ++ entered (planOf (z .plan)) (eventsOf cs) (stateOf z)
+    → history cs z h ≡ h ++ entered (planOf z) (eventsOf cs) (stateOf z)
 unfolding history entered eventsOf
 same-history [] z good t h = sym (append-nil h)
 same-history (c ∷ cs) z good t h =
     let e = first-stays c cs t in
-    let x = entryOf (planOf (z .plan)) (eventOf c) (stateOf z) in
-    let s′ = after (planOf (z .plan)) (eventOf c) (stateOf z) in
-    let again : history cs (storeAfter c z) (h ++ optionList x) ≡ (h ++ optionList x) ++ entered (planOf (z .plan)) (eventsOf cs) s′ =
+    let x = entryOf (planOf z) (eventOf c) (stateOf z) in
+    let s′ = after (planOf z) (eventOf c) (stateOf z) in
+    let again : history cs (storeAfter c z) (h ++ optionList x) ≡ (h ++ optionList x) ++ entered (planOf z) (eventsOf cs) s′ =
     same-history cs (storeAfter c z) (call-keeps-good c z good) (rest-stays c cs t) (h ++ optionList x)
-    ∙ ap (λ (y : Store). (h ++ optionList x) ++ entered (planOf (y .plan)) (eventsOf cs) (stateOf y)) (event-on c z e)
+    ∙ ap (λ (y : Store). (h ++ optionList x) ++ entered (planOf y) (eventsOf cs) (stateOf y)) (event-on c z e)
     ∙ rw (event-state (eventOf c) z good, event-keeps-plan (eventOf c) z) in
-    rw (e, entered-same (eventOf c) z good) (again ∙ append-assoc h (optionList x) (entered (planOf (z .plan)) (eventsOf cs) s′))
+    rw (e, entered-same (eventOf c) z good) (again ∙ append-assoc h (optionList x) (entered (planOf z) (eventsOf cs) s′))
 
 pub same-carries : (k : ℕ) (cs : List Call) (z : Store) → goodStore z ≡ true → sameStore cs ≡ true → (n : ℕ)
-    → carriesSince k cs z n ≡ carried (planOf (z .plan)) k (eventsOf cs) (stateOf z) + n
+    → carriesSince k cs z n ≡ carried (planOf z) k (eventsOf cs) (stateOf z) + n
 unfolding carriesSince carried eventsOf
 same-carries k [] z good t n = sym (zero-add n)
 same-carries k (c ∷ cs) z good t n =
     let e = first-stays c cs t in
-    let b = bit (carriesLine (planOf (z .plan)) k (eventOf c) (stateOf z)) in
-    let s′ = after (planOf (z .plan)) (eventOf c) (stateOf z) in
-    let again : carriesSince k cs (storeAfter c z) (b + n) ≡ carried (planOf (z .plan)) k (eventsOf cs) s′ + (b + n) =
+    let b = bit (carriesLine (planOf z) k (eventOf c) (stateOf z)) in
+    let s′ = after (planOf z) (eventOf c) (stateOf z) in
+    let again : carriesSince k cs (storeAfter c z) (b + n) ≡ carried (planOf z) k (eventsOf cs) s′ + (b + n) =
     same-carries k cs (storeAfter c z) (call-keeps-good c z good) (rest-stays c cs t) (b + n)
-    ∙ ap (λ (y : Store). carried (planOf (y .plan)) k (eventsOf cs) (stateOf y) + (b + n)) (event-on c z e)
+    ∙ ap (λ (y : Store). carried (planOf y) k (eventsOf cs) (stateOf y) + (b + n)) (event-on c z e)
     ∙ rw (event-state (eventOf c) z good, event-keeps-plan (eventOf c) z) in
     rw (e, carried-same k (eventOf c) z good) (omega (arith, again))
 

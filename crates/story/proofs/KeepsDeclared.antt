@@ -13,14 +13,13 @@ use lib.ListN.{length, take, List·getD-eq-default}
 use Rattle.lists.proofs.Truths.{bool?}
 use Rattle.lists.proofs.Options.{option?, not-none-and-some, one-some}
 use Rattle.plan.specs.Plan.{size}
-use Rattle.plan.specs.PlanTable.{planOf}
 use Rattle.store.specs.declared.Copy.{Copy}
 use Rattle.store.specs.declared.Store.{Store}
 use Rattle.store.specs.Answers.{answer}
 use Rattle.store.specs.Copies.{WITHDRAWN, RESULT, copy, noCopy}
 use Rattle.store.specs.State.{State, nodeAt, copyAt, line}
 use Rattle.store.specs.StateRules.{HeldAt}
-use Rattle.store.specs.Layout.{stateOf}
+use Rattle.store.specs.Layout.{planOf, planOf, planOf, stateOf}
 use Rattle.store.specs.StoreRules.{planNumberTest, goodStore}
 use Rattle.store.specs.Promises.{freshOutcome}
 use Rattle.store.proofs.Laying.{state-past}
@@ -58,10 +57,10 @@ module _ (z : Store) (good : goodStore z ≡ true) where
   s = stateOf z
 
   -- A node that holds a copy is one of the plan's.
-  held-inside : (n i : ℕ) → HeldAt s n i → n < size (planOf (z .plan))
-  held-inside n i h = go (decLt n (size (planOf (z .plan))))
+  held-inside : (n i : ℕ) → HeldAt s n i → n < size (planOf z)
+  held-inside n i h = go (decLt n (size (planOf z)))
     where
-      go : Dec (n < size (planOf (z .plan))) → n < size (planOf (z .plan))
+      go : Dec (n < size (planOf z)) → n < size (planOf z)
       go (yes l) = l
       go (no l) =
           absurd (omega (arith, ap length (state-past z n (omega arith))))
@@ -69,8 +68,8 @@ module _ (z : Store) (good : goodStore z ≡ true) where
   -- A good store is of the declared type exactly when the copies that it holds are small.
   pub declared-small : Declared z → SmallIn (held (stateOf z))
   declared-small d x m =
-      let v = held-in-line (planOf (z .plan)) (plan-good z good) s (state-good z good) x m in
-      let w = line-held (planOf (z .plan)) s (x .key) (v .0) x (v .1) in
+      let v = held-in-line (planOf z) (plan-good z good) s (state-good z good) x m in
+      let w = line-held (planOf z) s (x .key) (v .0) x (v .1) in
       let c = nodes-writable z (good-rules z good) d .copies (v .0) (w .0) (held-inside (v .0) (w .0) (w .1)) (w .1) in
       subst Small (w .2) (record { key = c .key; value = c .value })
 
@@ -83,8 +82,8 @@ module _ (z : Store) (good : goodStore z ≡ true) where
           go : Dec (i < length (nodeAt s n)) → Small (copyAt s n i)
           go (yes h) =
               small (copyAt s n i)
-              (line-in-held (planOf (z .plan)) (plan-good z good) s (state-good z good) (copyAt s n i .key) n (copyAt s n i)
-              (held-line (planOf (z .plan)) s (state-good z good) n i h))
+              (line-in-held (planOf z) (plan-good z good) s (state-good z good) (copyAt s n i .key) n (copyAt s n i)
+              (held-line (planOf z) s (state-good z good) n i h))
           go (no h) =
               let past : length (nodeAt s n) ≤ i = omega arith in
               subst Small (sym (List·getD-eq-default (nodeAt s n) noCopy past)) small-none
@@ -207,7 +206,7 @@ good-stays-declared : (cs : List Call) → DeclaredCalls cs → (z : Store) → 
 good-stays-declared cs ds z good d =
     small-declared y good-y
     (λ x m.
-    let v = held-in-line (planOf (y .plan)) (plan-good y good-y) (stateOf y) (state-good y good-y) x m in
+    let v = held-in-line (planOf y) (plan-good y good-y) (stateOf y) (state-good y good-y) x m in
     history-small cs ds z (held (stateOf z)) (declared-small z good d) x
     (history-in h (x .key) (line (stateOf y) (x .key) (v .0)) x (structure .invariant-3 (v .0) (x .key)) (v .1) .1))
   where
@@ -220,7 +219,7 @@ good-stays-declared cs ds z good d =
     h : History
     h = history cs z (held (stateOf z))
 
-    structure : Multicopy (planOf (y .plan)) (stateOf y) h
+    structure : Multicopy (planOf y) (stateOf y) h
     structure = store-story cs z good
 
 -- and so does any other.

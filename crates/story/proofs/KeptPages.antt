@@ -13,13 +13,12 @@ use Rattle.lists.proofs.Truths.{and-both}
 use Rattle.plan.specs.Plan.{Plan}
 use Rattle.image.specs.Image.{lastValue, Declared}
 use Rattle.plan.specs.PlanRules.{PlanRules}
-use Rattle.plan.specs.PlanTable.{planOf}
 use Rattle.store.specs.declared.Copy.{Copy}
 use Rattle.store.specs.declared.Store.{Store}
 use Rattle.store.specs.Copies.{WITHDRAWN, RESULT}
 use Rattle.store.specs.State.{State, current}
 use Rattle.store.specs.StateRules.{StateRules}
-use Rattle.store.specs.Layout.{stateOf}
+use Rattle.store.specs.Layout.{planOf, planOf, planOf, stateOf}
 use Rattle.store.specs.StoreRules.{goodStore}
 use Rattle.store.proofs.Lifting.{plan-good, state-good}
 use Rattle.page.specs.Page.{analytes, lastSample, keyFor, pageOf, begins}
@@ -46,7 +45,7 @@ bounded p s h good c small =
     record {
       values = λ k x e. small x (history-in h k (current p s k) x (c .invariant-1 k .in-history) e .1);
       stamps = λ k x e. c .h-clock x (history-in h k (current p s k) x (c .invariant-1 k .in-history) e .1);
-      clock = good .clock-1-to-last .1;
+      clock = good .clock-within .1;
     }
 
 module _ (z : Store) (good : goodStore z ≡ true) (cs : List Call) (stays : sameStore cs ≡ true) (sample : ℕ) (h : sample ≤ lastSample) where
@@ -55,7 +54,7 @@ module _ (z : Store) (good : goodStore z ≡ true) (cs : List Call) (stays : sam
   y = storeAfterAll cs z
 
   abbrev p : Plan
-  p = planOf (z .plan)
+  p = planOf z
 
   abbrev s : State
   s = stateOf z

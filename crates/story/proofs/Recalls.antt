@@ -11,14 +11,13 @@ use lib.ListN.{length, drop}
 use Rattle.lists.proofs.Truths.{and-left, and-right, and-both}
 use Rattle.lists.proofs.Options.{one-some}
 use Rattle.plan.specs.Plan.{Plan, path}
-use Rattle.plan.specs.PlanTable.{planOf}
 use Rattle.store.specs.declared.Answer.{Answer}
 use Rattle.store.specs.declared.Copy.{Copy}
 use Rattle.store.specs.declared.Store.{Store}
 use Rattle.store.specs.Answers.{DONE, answer}
 use Rattle.store.specs.Copies.{isSome}
 use Rattle.store.specs.State.{State, line, current}
-use Rattle.store.specs.Layout.{stateOf}
+use Rattle.store.specs.Layout.{planOf, planOf, planOf, stateOf}
 use Rattle.store.specs.StoreRules.{goodStore}
 use Rattle.store.proofs.Lifting.{plan-good, state-good}
 use Rattle.theory.specs.Events.{Event, after, answerOf, run as runEvents, entered, held, goesOn, ownSteps, notCancelled, EndsIn}
@@ -87,7 +86,7 @@ first-call (c ∷ cs) e rest q = (c, cs, refl, one-event (eventOf c) e (eventsOf
 module _ (z : Store) (good : goodStore z ≡ true) (c : Call) (k i : ℕ) (is-start : eventOf c ≡ starts k)
     (starting : answerTo c z ≡ some (answer DONE i 0 0 0)) where
   abbrev p : Plan
-  p = planOf (z .plan)
+  p = planOf z
 
   abbrev y : Store
   y = storeAfter c z
@@ -121,7 +120,7 @@ module _ (z : Store) (good : goodStore z ≡ true) (c : Call) (k i : ℕ) (is-st
     step-answer = event-answer (steps i) (storeAfterAll cs y) (calls-keep-good cs y good-y) ∙ rw (state-after, plan-after)
 
     -- A search that is not cancelled ends within as many own steps as its key's path has nodes, whatever is called between.
-    pub store-search-ends : notCancelled i (eventsOf cs) ≡ true → length (path (planOf (z .plan)) k) ≤ ownSteps i (eventsOf cs)
+    pub store-search-ends : notCancelled i (eventsOf cs) ≡ true → length (path (planOf z) k) ≤ ownSteps i (eventsOf cs)
         → EndsByCall (storeAfter c z) i cs
     store-search-ends alive enough =
         go (search-ends p (plan-good z good) (stateOf z) (state-good z good) k i state-starts (eventsOf cs) alive enough)
@@ -166,7 +165,7 @@ module _ (z : Store) (good : goodStore z ≡ true) (before : List Call) (c : Cal
   z₃ = atEnd z before c between
 
   abbrev q : Plan
-  q = planOf (atStart z before .plan)
+  q = planOf (atStart z before)
 
   abbrev es : List Event
   es = eventsOf between

@@ -3,18 +3,17 @@ use mathlib.Core.Path.{_≡_}
 use mathlib.Core.Option.{some}
 use Prim.Native.Nat.{ℕ, _-_, _≤_}
 use Rattle.plan.specs.Plan.{edgeOf}
-use Rattle.plan.specs.PlanTable.{planOf}
 use Rattle.store.specs.declared.Store.{Store}
 use Rattle.store.specs.Answers.{DONE, answer}
 use Rattle.store.specs.Copies.{keyOf}
 use Rattle.store.specs.State.{lastClock}
-use Rattle.store.specs.Layout.{countOf, nodeOf}
+use Rattle.store.specs.Layout.{planOf, planOf, planOf, countOf, nodeOf}
 use Rattle.steps.specs.Carries.{countHeld}
 use Rattle.story.specs.PublicCalls.{Call, storeAfter, answerTo}
 
 -- The target of edge i of node n, by the store's plan.
 abbrev pub targetOf : Store → ℕ → ℕ → ℕ
-targetOf z n i = edgeOf (planOf (z .plan)) n i .target
+targetOf z n i = edgeOf (planOf z) n i .target
 
 -- By how much a node's count falls in a call.
 abbrev pub fall : Store → Call → ℕ → ℕ
@@ -33,7 +32,7 @@ pub record CarryCounts (c : Call) (n i : ℕ) (z : Store) : Type 0 where
       answerTo c z
       ≡ some
       (answer DONE (fall z c n) (fall z c n - rise z c (targetOf z n i))
-      (countHeld keyOf (edgeOf (planOf (z .plan)) n i) (nodeOf (storeAfter c z) n)) 0)
+      (countHeld keyOf (edgeOf (planOf z) n i) (nodeOf (storeAfter c z) n)) 0)
 
 -- The clock goes from 1 to 4294967295, and each accepted entry takes one of its values below the last.
 abbrev pub mostEntries : ℕ

@@ -6,7 +6,7 @@ use mathlib.Core.Option.{Option, none, some}
 use Prim.Native.Nat.{ℕ, _+_}
 use lib.Dec.{eqb}
 use lib.ListN.{getD}
-use Rattle.plan.specs.PlanTable.{planOf}
+use Rattle.plan.specs.PlanTable.{planNumbered}
 use Rattle.store.specs.declared.Copy.{Copy}
 use Rattle.store.specs.declared.Outcome.{Outcome}
 use Rattle.store.specs.declared.Store.{Store}
@@ -146,4 +146,4 @@ callsOf (e ∷ es) = callOf e ∷ callsOf es
 
 -- The calls that reach demand 3's bound: a fresh store of the plan, then the line entered and carried down its path, so many times.
 unfoldable pub roundCalls : ℕ → ℕ → ℕ → ℕ → List Call
-roundCalls plan k v r = fresh plan ∷ callsOf (rounds (planOf plan) k v r)
+roundCalls plan k v r = fresh plan ∷ callsOf (rounds (planNumbered plan) k v r)

@@ -8,13 +8,12 @@ use mathlib.Core.Option.{Option, some}
 use Prim.Native.Nat.{ℕ, suc, _≤_}
 use lib.ListN.{length}
 use Rattle.plan.specs.Plan.{path}
-use Rattle.plan.specs.PlanTable.{planOf}
 use Rattle.store.specs.declared.Copy.{Copy}
 use Rattle.store.specs.declared.Store.{Store}
 use Rattle.store.specs.Answers.{DONE, answer}
 use Rattle.store.specs.Copies.{stampOf}
 use Rattle.store.specs.State.{current}
-use Rattle.store.specs.Layout.{stateOf}
+use Rattle.store.specs.Layout.{planOf, planOf, planOf, stateOf}
 use Rattle.steps.specs.Searches.{ended}
 use Rattle.theory.specs.Events.{held, goesOn, ownSteps}
 use Rattle.theory.specs.Events.Event.{starts, steps}
@@ -24,11 +23,11 @@ use Rattle.story.specs.Following.{eventOf, eventsOf, sameStore, history}
 
 -- A line's current result in a store.
 abbrev pub currentIn : Store → ℕ → Option Copy
-currentIn z k = current (planOf (z .plan)) (stateOf z) k
+currentIn z k = current (planOf z) (stateOf z) k
 
 -- The stamp of what is in reach of a node of a store.
 abbrev pub reachStamp : Store → ℕ → ℕ → ℕ
-reachStamp z n k = stampOf (ContentsInReach (planOf (z .plan)) (stateOf z) n k)
+reachStamp z n k = stampOf (ContentsInReach (planOf z) (stateOf z) n k)
 
 -- The store at the search's start.
 abbrev pub atStart : Store → List Call → Store
@@ -47,14 +46,14 @@ pub record SearchRuns (z : Store) (before : List Call) (c : Call) (between : Lis
   pub is-start : eventOf c ≡ starts k
   pub starting : answerTo c (atStart z before) ≡ some (answer DONE i 0 0 0)
   pub stays : sameStore between ≡ true
-  pub goes-on : goesOn (planOf (atStart z before .plan)) i (eventsOf between) (stateOf (started z before c)) ≡ true
+  pub goes-on : goesOn (planOf (atStart z before)) i (eventsOf between) (stateOf (started z before c)) ≡ true
 
 -- What is said of a search whose last step is the call d.
 pub record StoreRecency (z : Store) (before : List Call) (c : Call) (between : List Call) (d : Call) (k i : ℕ) : Type 0 where
   -- The answer is of what was found, and its visits are the search's own steps, at most as many as the key's path has nodes.
   pub found : Option Copy
   pub says : answerTo d (atEnd z before c between) ≡ some (ended found (suc (ownSteps i (eventsOf between))))
-  pub in-time : suc (ownSteps i (eventsOf between)) ≤ length (path (planOf (atStart z before .plan)) k)
+  pub in-time : suc (ownSteps i (eventsOf between)) ≤ length (path (planOf (atStart z before)) k)
   -- What was found was really entered or loaded, or is never;
   pub real : InHistory (history (before ++ c ∷ between) z (held (stateOf z))) k found
   -- it is nothing older than the line's latest at the search's start;
@@ -84,5 +83,5 @@ pub record EndsByCall (z : Store) (i : ℕ) (cs : List Call) : Type 0 where
   pub later : List Call
   pub parts : cs ≡ earlier ++ call ∷ later
   pub is-step : eventOf call ≡ steps i
-  pub until : goesOn (planOf (z .plan)) i (eventsOf earlier) (stateOf z) ≡ true
+  pub until : goesOn (planOf z) i (eventsOf earlier) (stateOf z) ≡ true
   pub done : Done call (storeAfterAll earlier z)

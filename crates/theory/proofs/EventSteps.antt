@@ -141,7 +141,7 @@ module _ (p : Plan) (rules : PlanRules p) where
     pub entry-in-root : (e : Event) (x : Copy) → entryOf p e s ≡ some x → line (after p e s) (x .key) 0 ≡ some x
     entry-in-root e x q =
         rw (enters-copy p e s x q .puts)
-        (entered-line x s (omega (arith, good .a-list-for-each-node, rules .two-to-eight-nodes)) .got)
+        (entered-line x s (omega (arith, good .a-list-for-each-node, rules .nodes-within)) .got)
 
     -- A copy that is held after an event was held before it, or is the copy that it entered.
     pub held-or-entered : (e : Event) (k m : ℕ) (y : Copy) → line (after p e s) k m ≡ some y

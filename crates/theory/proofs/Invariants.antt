@@ -270,7 +270,7 @@ module _ (p : Plan) (rules : PlanRules p) where
 
         above-never : (x : Copy) → List·Memᴰ x h ⊎ (entryOf p e s ≡ some x) → 1 ≤ x .stamp
         above-never x (inl a) = c .h-unique .above-never x a
-        above-never x (inr a) = omega (arith, entry-stamp p e s x a, good .clock-1-to-last)
+        above-never x (inr a) = omega (arith, entry-stamp p e s x a, good .clock-within)
 
         before-clock : (x : Copy) → List·Memᴰ x h ⊎ (entryOf p e s ≡ some x) → x .stamp < s′ .clock
         before-clock x (inl a) = omega (arith, c .h-clock x a, event-clock p rules s good e)

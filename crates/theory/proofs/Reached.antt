@@ -140,14 +140,14 @@ module _ (p : Plan) (rules : PlanRules p) (k : ℕ) where
       x = copy k RESULT v (s .clock)
 
       root : 0 < length (s .nodes)
-      root = omega (arith, r .good .a-list-for-each-node, rules .two-to-eight-nodes)
+      root = omega (arith, r .good .a-list-for-each-node, rules .nodes-within)
 
       was : entry RESULT k v p s ≡ record { answer = answer DONE (s .clock) 0 0 0; after = enteredInto x s }
       was =
           unfold entry in
           rw (
             lt-ltb (s .clock) lastClock h,
-            alone-room k (capacityOf p 0) (r .alone 0) (rules .capacity-1-to-64 0 (root-in-plan p rules) .0),
+            alone-room k (capacityOf p 0) (r .alone 0) (rules .capacity-within 0 (root-in-plan p rules) .0),
           )
 
       went : after p (enters k v) s ≡ enteredInto x s
@@ -205,7 +205,7 @@ module _ (p : Plan) (rules : PlanRules p) (k : ℕ) where
           unfold mergeAlong in
           rw at
           (merge-alone (capacityOf p u) (edgeOf p n i) x (nodeAt s u) (subst (λ (j : ℕ). Alone j (nodeAt s u)) (sym q) (r .alone u))
-          (subst (λ (j : ℕ). holds (edgeOf p n i) j ≡ true) (sym q) (w .held)) (rules .capacity-1-to-64 u (down .1) .0))
+          (subst (λ (j : ℕ). holds (edgeOf p n i) j ≡ true) (sym q) (w .held)) (rules .capacity-within u (down .1) .0))
 
       had : line s k n ≡ some x
       had = ap (λ (xs : List Copy). find keyOf xs k) at ∙ find-same keyOf x [] k q

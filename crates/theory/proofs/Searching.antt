@@ -157,7 +157,7 @@ module _ (p : Plan) (rules : PlanRules p) (k t₀ i : ℕ) where
     -- A running search stands on its key's path, its visits equal to the path nodes above it,
     stands : (v : ℕ) → (r : Searches p k t₀ i v s) → OnPath p k (r .node) v
     stands v r =
-        let there : i < slotCount = omega (arith, slot-there s i (runs v r), good .eight-slots) in
+        let there : i < slotCount = omega (arith, slot-there s i (runs v r), good .slots-within) in
         rw (r .at) at (good .running-searches-on-their-paths i there (runs v r) .1)
 
     -- so it has made fewer steps than the path has nodes.

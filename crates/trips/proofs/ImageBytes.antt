@@ -8,12 +8,11 @@ use lib.ListN.{length, getD}
 use Rattle.number.specs.Number.{Bytes, form}
 use Rattle.number.proofs.Meaning.{form-bytes}
 use Rattle.plan.specs.Plan.{Plan}
-use Rattle.plan.specs.PlanTable.{planOf}
 use Rattle.plan.proofs.TableLaws.{plans-three}
 use Rattle.store.specs.declared.Copy.{Copy}
 use Rattle.store.specs.declared.Store.{Store}
 use Rattle.store.specs.Copies.{RESULT, noCopy}
-use Rattle.store.specs.Layout.{stateOf}
+use Rattle.store.specs.Layout.{planOf, planOf, planOf, stateOf}
 use Rattle.store.specs.StoreRules.{StoreRules}
 use Rattle.wire.proofs.ByteStrings.{no-bytes, bytes-join}
 use Rattle.image.specs.Image.{formatNumber, valueBytes, copyBytes, copiesBytes, nodeBytes, nodesBytes, imageOf, image, Declared}
@@ -52,6 +51,6 @@ pub image-bytes : (z : Store) → StoreRules z → Declared z → Bytes (image z
 unfolding imageOf stateOf
 image-bytes z rules declared =
     bytes-join (form formatNumber) _ (form-bytes formatNumber (lit≤ tt))
-    (bytes-join (form (z .plan)) _ (form-bytes (z .plan) (omega (arith, rules .plan-1-to-3 .1, plans-three)))
-    (bytes-join (form (z .clock)) _ (form-bytes (z .clock) (rules .state-rules .clock-1-to-last .1))
-    (nodes-bytes (planOf (z .plan)) (stateOf z .nodes) (nodes-writable z rules declared))))
+    (bytes-join (form (z .plan)) _ (form-bytes (z .plan) (omega (arith, rules .plan-known .1, plans-three)))
+    (bytes-join (form (z .clock)) _ (form-bytes (z .clock) (rules .state-rules .clock-within .1))
+    (nodes-bytes (planOf z) (stateOf z .nodes) (nodes-writable z rules declared))))

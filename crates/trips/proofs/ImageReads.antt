@@ -14,14 +14,14 @@ use Rattle.lists.proofs.Truths.{both-le, le-both}
 use Rattle.number.specs.Number.{Bytes, form}
 use Rattle.plan.specs.Plan.{size}
 use Rattle.plan.specs.PlanRules.{PlanRules}
-use Rattle.plan.specs.PlanTable.{planOf, plans}
+use Rattle.plan.specs.PlanTable.{planNumbered, plans}
 use Rattle.plan.proofs.TableLaws.{plans-three, table-rules}
 use Rattle.store.specs.declared.Copy.{Copy}
 use Rattle.store.specs.declared.Store.{Store}
 use Rattle.store.specs.Answers.{PLAN, FORMAT, RULE}
 use Rattle.store.specs.Copies.{noCopy}
 use Rattle.store.specs.State.{State, lastClock, nodeAt, copyAt}
-use Rattle.store.specs.Layout.{width, copyOf, stateOf, storeOf}
+use Rattle.store.specs.Layout.{planOf, planOf, planOf, width, copyOf, stateOf, storeOf}
 use Rattle.store.specs.StoreRules.{StoreRules, planNumberTest}
 use Rattle.store.proofs.Laying.{length-nodes, state-count, state-copy, state-back, store-back}
 use Rattle.wire.specs.Reading.{got}
@@ -37,7 +37,7 @@ plan-number {plan} t = both-le 1 plan plan plans t
 -- ---- what is saved is read back
 
 pub image-back : {s : List ℕ} (plan : ℕ) (t : State) {next : ℕ} → (1 ≤ plan) × (plan ≤ plans) → (1 ≤ t .clock) × (t .clock ≤ lastClock)
-    → WritableNodes (planOf plan) (t .nodes) → Stands s 0 (imageOf plan t) next → imageAt s ≡ got (storeOf plan (loaded (t .clock) (t .nodes))) next
+    → WritableNodes (planNumbered plan) (t .nodes) → Stands s 0 (imageOf plan t) next → imageAt s ≡ got (storeOf plan (loaded (t .clock) (t .nodes))) next
 unfolding imageOf imageAt planFrom clockFrom nodesFrom planNumberTest
 image-back plan t p c w h =
     let format = form formatNumber in
@@ -51,36 +51,36 @@ image-back plan t p c w h =
     ∙ check-holds (planNumberTest plan) PLAN _ _ (le-both 1 plan plan plans (p .0) (p .1))
     ∙ bind-got _ _ (number-back (c .1) (stands-left clock nodes j))
     ∙ check-holds (ltb 0 (t .clock)) RULE _ _ (lt-ltb 0 (t .clock) (omega arith))
-    ∙ bind-got _ _ (nodes-back (planOf plan) (t .nodes) w (stands-right clock nodes j))
+    ∙ bind-got _ _ (nodes-back (planNumbered plan) (t .nodes) w (stands-right clock nodes j))
 
 -- The nodes of a store that keeps the rules can be written.
 module _ (z : Store) (rules : StoreRules z) (declared : Declared z) where
-  pub nodes-writable : WritableNodes (planOf (z .plan)) (stateOf z .nodes)
+  pub nodes-writable : WritableNodes (planOf z) (stateOf z .nodes)
   nodes-writable =
       record {
         lists = length-nodes z;
-        room = λ n h. (rules .state-rules .counts-within-capacity n h, plan .capacity-1-to-64 n h .1);
+        room = λ n h. (rules .state-rules .counts-within-capacity n h, plan .capacity-within n h .1);
         copies = λ n i h g. copies n i h g;
       }
     where
-      plan : PlanRules (planOf (z .plan))
-      plan = table-rules (z .plan) (rules .plan-1-to-3 .0) (rules .plan-1-to-3 .1)
+      plan : PlanRules (planOf z)
+      plan = table-rules (z .plan) (rules .plan-known .0) (rules .plan-known .1)
 
-      copies : (n i : ℕ) → n < size (planOf (z .plan)) → i < length (nodeAt (stateOf z) n) → Writable (copyAt (stateOf z) n i)
+      copies : (n i : ℕ) → n < size (planOf z) → i < length (nodeAt (stateOf z) n) → Writable (copyAt (stateOf z) n i)
       copies n i h g =
           let c : copyAt (stateOf z) n i ≡ copyOf z (width * n + i) = state-copy z n i h (omega (arith, state-count z n h)) in
           record {
-            key = rw c (declared .keys-32 (width * n + i));
+            key = rw c (declared .keys-fit (width * n + i));
             kind-and-value = rules .state-rules .kinds-and-values n i g;
-            value = rw c (declared .values-32 (width * n + i));
-            stamp = omega (arith, rules .state-rules .stamps-1-to-clock-less-1 n i g .1, rules .state-rules .clock-1-to-last .1);
+            value = rw c (declared .values-fit (width * n + i));
+            stamp = omega (arith, rules .state-rules .stamps-below-the-clock n i g .1, rules .state-rules .clock-within .1);
           }
 
   -- Where the image of the store stands, the store is read back with all slots idle.
   pub store-read : {s : List ℕ} {next : ℕ} → Stands s 0 (image z) next → imageAt s ≡ got (idled z) next
   unfolding idled storeOf
   store-read {next = next} h =
-      image-back (z .plan) (stateOf z) (rules .plan-1-to-3) (rules .state-rules .clock-1-to-last) nodes-writable h
+      image-back (z .plan) (stateOf z) (rules .plan-known) (rules .state-rules .clock-within) nodes-writable h
       ∙ ap (λ (y : Store). got (idled y) next) (store-back z rules)
 
 -- ---- what is read stands there
@@ -95,7 +95,7 @@ pub record ImageStands (s : List ℕ) (z : Store) (next : ℕ) : Type 0 where
   pub small : (n i : ℕ) → Small (getD (getD nodes n []) i noCopy)
 
 module _ (s : List ℕ) (plan clock : ℕ) (ns : List (List Copy)) {a b c d : ℕ} (known : (1 ≤ plan) × (plan ≤ plans)) where
-  joined : Stands s 0 (form formatNumber) a → Stands s a (form plan) b → Stands s b (form clock) c → NodesStand s (planOf plan) c ns d
+  joined : Stands s 0 (form formatNumber) a → Stands s a (form plan) b → Stands s b (form clock) c → NodesStand s (planNumbered plan) c ns d
       → ImageStands s (storeOf plan (loaded clock ns)) d
   unfolding storeOf imageOf
   joined f p k n =
@@ -108,15 +108,15 @@ module _ (s : List ℕ) (plan clock : ℕ) (ns : List (List Copy)) {a b c d : �
         small = n .small;
       }
     where
-      rules : PlanRules (planOf plan)
+      rules : PlanRules (planNumbered plan)
       rules = table-rules plan (known .0) (known .1)
 
-      fits : (m : ℕ) → Dec (m < size (planOf plan)) → length (getD ns m []) ≤ width
-      fits m (yes h) = omega (arith, n .room m, rules .capacity-1-to-64 m h .1)
+      fits : (m : ℕ) → Dec (m < size (planNumbered plan)) → length (getD ns m []) ≤ width
+      fits m (yes h) = omega (arith, n .room m, rules .capacity-within m h .1)
       fits m (no h) = let e : getD ns m [] ≡ [] = List·getD-eq-default ns [] (omega (arith, n .lists)) in rw e (omega arith)
 
       back : stateOf (storeOf plan (loaded clock ns)) ≡ loaded clock ns
-      back = state-back plan (loaded clock ns) (n .lists) (rules .two-to-eight-nodes .1) (λ m. fits m (decLt m (size (planOf plan))))
+      back = state-back plan (loaded clock ns) (n .lists) (rules .nodes-within .1) (λ m. fits m (decLt m (size (planNumbered plan))))
 
 module _ (s : List ℕ) (bytes : Bytes s) where
   pub image-gives : Gives (ImageStands s) (imageAt s)
@@ -128,5 +128,5 @@ module _ (s : List ℕ) (bytes : Bytes s) where
       gives-check (planNumberTest plan) PLAN a _ λ known.
       gives-bind _ _ (number-gives s bytes b) λ clock c k.
       gives-check (ltb 0 clock) RULE b _ λ above.
-      gives-bind _ _ (nodes-gives s bytes (planOf plan) c) λ ns d n.
+      gives-bind _ _ (nodes-gives s bytes (planNumbered plan) c) λ ns d n.
       gives-got (joined s plan clock ns (plan-number known) (rw (eqb-true format formatNumber one) at (f .stands)) (p .stands) (k .stands) n)

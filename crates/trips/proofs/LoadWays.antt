@@ -10,7 +10,7 @@ use lib.ListN.{length}
 use Rattle.lists.proofs.Truths.{bool?, not-both, or-right}
 use mathlib.Core.Logic.{_⊎_, inl, inr}
 use Rattle.plan.specs.Plan.{Plan}
-use Rattle.plan.specs.PlanTable.{planOf}
+use Rattle.plan.specs.PlanTable.{planNumbered}
 use Rattle.store.specs.declared.Outcome.{Outcome}
 use Rattle.store.specs.declared.Store.{Store}
 use Rattle.store.specs.Answers.{DONE, PLAN, CUT, NUMBER, FORMAT, RULE, TRAIL, answer}
@@ -88,7 +88,7 @@ module _ (s : List ℕ) where
       (faults-bind _ _ (number-faults a) λ plan b.
       faults-cond (planNumberTest plan) _ (fault PLAN a)
       (faults-bind _ _ (number-faults b) λ clock c.
-      rule-faults (ltb 0 clock) b _ (faults-bind _ _ (nodes-faults (planOf plan) c) λ ns d. faults-got _ d))
+      rule-faults (ltb 0 clock) b _ (faults-bind _ _ (nodes-faults (planNumbered plan) c) λ ns d. faults-got _ d))
       (faults-fault a refl))
       (faults-fault 0 refl)
 

@@ -13,7 +13,7 @@ use Rattle.lists.proofs.Storing.{getD-same}
 use Rattle.number.specs.Number.{Bytes}
 use Rattle.plan.specs.Plan.{Plan}
 use Rattle.plan.specs.Sizes.{lastKey}
-use Rattle.plan.specs.PlanTable.{planOf}
+use Rattle.plan.specs.PlanTable.{planNumbered}
 use Rattle.plan.proofs.TableLaws.{plans-three}
 use Rattle.store.specs.declared.Copy.{Copy}
 use Rattle.store.specs.declared.Outcome.{Outcome}
@@ -46,15 +46,15 @@ idle-rules : {p : Plan} {s : State} → StateRules p s → StateRules p (loaded 
 idle-rules r =
     record {
       a-list-for-each-node = r .a-list-for-each-node;
-      clock-1-to-last = r .clock-1-to-last;
+      clock-within = r .clock-within;
       counts-within-capacity = r .counts-within-capacity;
       keys-strictly-rise = r .keys-strictly-rise;
       kinds-and-values = r .kinds-and-values;
       copies-on-their-paths = r .copies-on-their-paths;
-      stamps-1-to-clock-less-1 = r .stamps-1-to-clock-less-1;
+      stamps-below-the-clock = r .stamps-below-the-clock;
       stamps-all-different = r .stamps-all-different;
       stamps-fall-down-a-path = r .stamps-fall-down-a-path;
-      eight-slots = length-replicate slotCount idle;
+      slots-within = length-replicate slotCount idle;
       idle-slots-all-zero = λ i h e. getD-same slotCount i idle;
       running-searches-on-their-paths = λ i h runs. absurd (runs (ap (λ (q : Slot). q .running) (getD-same slotCount i idle)));
     }
@@ -65,14 +65,14 @@ idled-rules z r =
     record {
       shape =
           record {
-            counts-8 = r .shape .counts-8;
-            keys-512 = r .shape .keys-512;
-            kinds-512 = r .shape .kinds-512;
-            values-512 = r .shape .values-512;
-            stamps-512 = r .shape .stamps-512;
-            slots-8 = length-replicate slotCount idle;
+            counts-long = r .shape .counts-long;
+            keys-long = r .shape .keys-long;
+            kinds-long = r .shape .kinds-long;
+            values-long = r .shape .values-long;
+            stamps-long = r .shape .stamps-long;
+            slots-long = length-replicate slotCount idle;
           };
-      plan-1-to-3 = r .plan-1-to-3;
+      plan-known = r .plan-known;
       unused-places-all-zero = r .unused-places-all-zero;
       unused-counts-zero = r .unused-counts-zero;
       state-rules = idle-rules (r .state-rules);
@@ -149,8 +149,8 @@ pub stored-declared : (plan : ℕ) (t : State) → ((n i : ℕ) → Small (copyA
 unfolding storeOf
 stored-declared plan t small =
     record {
-      keys-32 = column-small (λ (x : Copy). x .key) (t .nodes) lastKey (λ n i. small n i .key);
-      values-32 = column-small (λ (x : Copy). x .value) (t .nodes) lastValue (λ n i. small n i .value);
+      keys-fit = column-small (λ (x : Copy). x .key) (t .nodes) lastKey (λ n i. small n i .key);
+      values-fit = column-small (λ (x : Copy). x .value) (t .nodes) lastValue (λ n i. small n i .value);
     }
 
 fresh-small : (p : Plan) (n i : ℕ) → Small (copyAt (fresh p) n i)
@@ -159,7 +159,7 @@ fresh-small p n i = rw (fresh-node p n) small-none
 -- Every fresh store is declared, with all slots idle;
 pub fresh-idle : (plan : ℕ) → IdleAndDeclared (freshStore plan)
 unfolding freshStore fresh storeOf
-fresh-idle plan = record { all-idle = refl; declared = stored-declared plan (fresh (planOf plan)) (fresh-small (planOf plan)) }
+fresh-idle plan = record { all-idle = refl; declared = stored-declared plan (fresh (planNumbered plan)) (fresh-small (planNumbered plan)) }
 
 loaded-idle : (plan clock : ℕ) (ns : List (List Copy)) → ((n i : ℕ) → Small (getD (getD ns n []) i noCopy))
     → IdleAndDeclared (storeOf plan (loaded clock ns))
@@ -188,7 +188,7 @@ reads-idle s =
     gives-check (planNumberTest plan) PLAN a _ λ known.
     gives-bind _ _ (gives-any (numberAt s b)) λ clock c w.
     gives-check (ltb 0 clock) RULE b _ λ above.
-    gives-bind _ _ (gives-any (nodesAt s (planOf plan) c)) λ ns d x.
+    gives-bind _ _ (gives-any (nodesAt s (planNumbered plan) c)) λ ns d x.
     gives-got refl
 
 pub load-all-idle : (s : List ℕ) → AllIdle (loadOutcome s .store)

@@ -12,17 +12,17 @@ use Rattle.carries.proofs.carry.Tie as tie
 abbrev S : tie.Start → Store
 S c = c .args .t1
 
-keys-512 : (c : tie.Start) → length (S c .keys) ≡ places
-keys-512 c = search needs
+keys-long : (c : tie.Start) → length (S c .keys) ≡ places
+keys-long c = search needs
 
-kinds-512 : (c : tie.Start) → length (S c .kinds) ≡ places
-kinds-512 c = search needs
+kinds-long : (c : tie.Start) → length (S c .kinds) ≡ places
+kinds-long c = search needs
 
-values-512 : (c : tie.Start) → length (S c .values) ≡ places
-values-512 c = search needs
+values-long : (c : tie.Start) → length (S c .values) ≡ places
+values-long c = search needs
 
-stamps-512 : (c : tie.Start) → length (S c .stamps) ≡ places
-stamps-512 c = search needs
+stamps-long : (c : tie.Start) → length (S c .stamps) ≡ places
+stamps-long c = search needs
 
 settle-requires : tie.Need-settle-requires
 settle-requires c κs = search needs
@@ -41,16 +41,16 @@ slice-aggregate-gets c = got-long (c .before .before .before .settle .ensures)
 
 -- The columns can be written in place by the lists that are settled,
 carry-column-requires : tie.Need-carry-column-requires
-carry-column-requires c κs = let d = c .before .before .before .before in (d .settle .ensures .movable, keys-512 (d .before .before .before .before .before .before .before .before .before .before))
+carry-column-requires c κs = let d = c .before .before .before .before in (d .settle .ensures .movable, keys-long (d .before .before .before .before .before .before .before .before .before .before))
 
 carry-column-requires-2 : tie.Need-carry-column-requires-2
-carry-column-requires-2 c κs = let d = c .before .before .before .before .before .before in (d .settle .ensures .movable, kinds-512 (d .before .before .before .before .before .before .before .before .before .before))
+carry-column-requires-2 c κs = let d = c .before .before .before .before .before .before in (d .settle .ensures .movable, kinds-long (d .before .before .before .before .before .before .before .before .before .before))
 
 carry-column-requires-3 : tie.Need-carry-column-requires-3
-carry-column-requires-3 c κs = let d = c .before .before .before .before .before .before .before .before in (d .settle .ensures .movable, values-512 (d .before .before .before .before .before .before .before .before .before .before))
+carry-column-requires-3 c κs = let d = c .before .before .before .before .before .before .before .before in (d .settle .ensures .movable, values-long (d .before .before .before .before .before .before .before .before .before .before))
 
 carry-column-requires-4 : tie.Need-carry-column-requires-4
-carry-column-requires-4 c κs = let d = c .before .before .before .before .before .before .before .before .before .before in (d .settle .ensures .movable, stamps-512 (d .before .before .before .before .before .before .before .before .before .before))
+carry-column-requires-4 c κs = let d = c .before .before .before .before .before .before .before .before .before .before in (d .settle .ensures .movable, stamps-long (d .before .before .before .before .before .before .before .before .before .before))
 
 -- and the two counts are a store's.
 mul-store : tie.Need-mul-store

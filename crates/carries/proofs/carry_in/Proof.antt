@@ -25,22 +25,22 @@ slice-aggregate-gets c = got-long (c .before .before .settle .ensures)
 
 -- The columns can be written in place by the lists that are settled,
 carry-column-requires : tie.Need-carry-column-requires
-carry-column-requires c κs = let d = c .before .before .before in (d .settle .ensures .movable, start d .pre .keys-512)
+carry-column-requires c κs = let d = c .before .before .before in (d .settle .ensures .movable, start d .pre .keys-long)
 
 carry-column-requires-2 : tie.Need-carry-column-requires-2
-carry-column-requires-2 c κs = let d = c .before .before .before .before .before in (d .settle .ensures .movable, start d .pre .kinds-512)
+carry-column-requires-2 c κs = let d = c .before .before .before .before .before in (d .settle .ensures .movable, start d .pre .kinds-long)
 
 carry-column-requires-3 : tie.Need-carry-column-requires-3
-carry-column-requires-3 c κs = let d = c .before .before .before .before .before .before .before in (d .settle .ensures .movable, start d .pre .values-512)
+carry-column-requires-3 c κs = let d = c .before .before .before .before .before .before .before in (d .settle .ensures .movable, start d .pre .values-long)
 
 carry-column-requires-4 : tie.Need-carry-column-requires-4
-carry-column-requires-4 c κs = let d = c .before .before .before .before .before .before .before .before .before in (d .settle .ensures .movable, start d .pre .stamps-512)
+carry-column-requires-4 c κs = let d = c .before .before .before .before .before .before .before .before .before in (d .settle .ensures .movable, start d .pre .stamps-long)
 
 -- and the two counts are a store's.
 carry-counts-requires : tie.Need-carry-counts-requires
 carry-counts-requires c κs =
     let d = c .before .before .before .before .before .before .before .before .before .before .before in
-    (d .settle .ensures .nodes .0, d .settle .ensures .nodes .1, start d .pre .counts-8)
+    (d .settle .ensures .nodes .0, d .settle .ensures .nodes .1, start d .pre .counts-long)
 
 returns : tie.Need-returns
 returns c =

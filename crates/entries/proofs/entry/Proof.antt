@@ -16,14 +16,14 @@ abbrev begun : tie.After-decide → tie.Start
 begun d = d .before .before .before .before .before .before .before .before
 
 -- The columns have their 512 places.
-kinds-512 : (s : tie.Start) → length (S s .kinds) ≡ places
-kinds-512 s = search needs
+kinds-long : (s : tie.Start) → length (S s .kinds) ≡ places
+kinds-long s = search needs
 
-values-512 : (s : tie.Start) → length (S s .values) ≡ places
-values-512 s = search needs
+values-long : (s : tie.Start) → length (S s .values) ≡ places
+values-long s = search needs
 
-stamps-512 : (s : tie.Start) → length (S s .stamps) ≡ places
-stamps-512 s = search needs
+stamps-long : (s : tie.Start) → length (S s .stamps) ≡ places
+stamps-long s = search needs
 
 decide-requires : tie.Need-decide-requires
 decide-requires c κs = search needs
@@ -35,19 +35,19 @@ put-requires-2 : tie.Need-put-requires-2
 put-requires-2 c κs =
     let d = c .before .before .before in
     let p = d .decide .ensures .in-root in
-    (p .0, p .1, kinds-512 (begun d))
+    (p .0, p .1, kinds-long (begun d))
 
 put-requires-3 : tie.Need-put-requires-3
 put-requires-3 c κs =
     let d = c .before .before .before .before .before in
     let p = d .decide .ensures .in-root in
-    (p .0, p .1, values-512 (begun d))
+    (p .0, p .1, values-long (begun d))
 
 put-requires-4 : tie.Need-put-requires-4
 put-requires-4 c κs =
     let d = c .before .before .before .before .before .before .before in
     let p = d .decide .ensures .in-root in
-    (p .0, p .1, stamps-512 (begun d))
+    (p .0, p .1, stamps-long (begun d))
 
 element-write-store : tie.Need-element-write-store
 element-write-store c = search needs

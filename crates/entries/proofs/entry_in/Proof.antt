@@ -16,25 +16,25 @@ put-requires : tie.Need-put-requires
 put-requires c κs =
     let d = c .before in
     let p = d .decide .ensures .in-root in
-    (p .0, p .1, begun d .pre .keys-512)
+    (p .0, p .1, begun d .pre .keys-long)
 
 put-requires-2 : tie.Need-put-requires-2
 put-requires-2 c κs =
     let d = c .before .before .before in
     let p = d .decide .ensures .in-root in
-    (p .0, p .1, begun d .pre .kinds-512)
+    (p .0, p .1, begun d .pre .kinds-long)
 
 put-requires-3 : tie.Need-put-requires-3
 put-requires-3 c κs =
     let d = c .before .before .before .before .before in
     let p = d .decide .ensures .in-root in
-    (p .0, p .1, begun d .pre .values-512)
+    (p .0, p .1, begun d .pre .values-long)
 
 put-requires-4 : tie.Need-put-requires-4
 put-requires-4 c κs =
     let d = c .before .before .before .before .before .before .before in
     let p = d .decide .ensures .in-root in
-    (p .0, p .1, begun d .pre .stamps-512)
+    (p .0, p .1, begun d .pre .stamps-long)
 
 element-write-counts : tie.Need-element-write-counts
 element-write-counts c = search needs

@@ -61,7 +61,7 @@ returns-2 c =
 copies-held-requires : tie.Need-copies-held-requires
 copies-held-requires c κs =
     let z = asked (first (c .before .before)) in
-    (good-rules z (good (c .before)) .shape .counts-8, good-within z (good (c .before)))
+    (good-rules z (good (c .before)) .shape .counts-long, good-within z (good (c .before)))
 
 of-requires : tie.Need-of-requires
 of-requires c κs = search needs

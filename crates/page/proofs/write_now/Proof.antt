@@ -2,13 +2,13 @@
 use borrow.Author.Needs.{needs}
 use mathlib.Core.Path.{ap}
 use native.Mathlib.Omega.{arith}
-use Rattle.plan.specs.PlanTable.{planOf}
-use Rattle.store.specs.Layout.{stateOf}
+use Rattle.store.specs.Layout.{planOf, stateOf}
 use Rattle.store.specs.State.{State}
 use Rattle.store.specs.Workers.{holding}
 use Rattle.page.specs.Page.{pageBytes}
 use Rattle.page.proofs.PageWriting.{page-room}
 use Rattle.page.proofs.write_now.Statement.{statement}
+use Rattle.plan.specs.PlanTable.{planNumbered}
 use Rattle.page.proofs.write_now.Tie as tie
 
 -- The state of the columns lent.
@@ -21,7 +21,7 @@ gather-requires c κs = search needs
 write-page-requires : tie.Need-write-page-requires
 write-page-requires c κs =
     let s = c .before .before .before in
-    let w = page-room (planOf (s .args .plan)) (lent s) (s .args .sample) (c .before .gather .result) (c .before .gather .ensures) (s .pre .1) in
+    let w = page-room (planNumbered (s .args .plan)) (lent s) (s .args .sample) (c .before .gather .result) (c .before .gather .ensures) (s .pre .1) in
     (search needs, omega arith)
 
 same-length : tie.Need-same-length

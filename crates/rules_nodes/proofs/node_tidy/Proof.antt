@@ -4,8 +4,8 @@ use Prim.Native.Nat.{_+_, _*_}
 use native.Mathlib.Omega.{arith}
 use lib.ListN.{getD}
 use borrow.Author.Tests.{not-true, not-false}
-use Rattle.plan.specs.PlanTable.{planOf}
 use Rattle.plan.proofs.RowLaws.{capacity-of}
+use Rattle.plan.specs.PlanTable.{planNumbered}
 use Rattle.store.specs.declared.Store.{Store}
 use Rattle.store.specs.Layout.{width}
 use Rattle.store.specs.Workers.{holding}
@@ -34,7 +34,7 @@ returns c =
     let a = s .args in
     let n = a .node in
     let cap = c .before .capacity-in .ensures ∙ capacity-of (a .plan) (a .capacities .now) (s .pre .3) n in
-    let fits = capacity-fits (planOf (a .plan)) (number-rules (a .plan) (s .pre .1)) n in
+    let fits = capacity-fits (planNumbered (a .plan)) (number-rules (a .plan) (s .pre .1)) n in
     sym (node-over (lent s) n (omega arith))
 
 mul-from : tie.Need-mul-from
@@ -52,7 +52,7 @@ used-good-requires c κs =
     let a = s .args in
     let n = a .node in
     let cap = c .before .capacity-in .ensures ∙ capacity-of (a .plan) (a .capacities .now) (s .pre .3) n in
-    let fits = capacity-fits (planOf (a .plan)) (number-rules (a .plan) (s .pre .1)) n in
+    let fits = capacity-fits (planNumbered (a .plan)) (number-rules (a .plan) (s .pre .1)) n in
     omega arith
 
 returns-2 : tie.Need-returns-2
@@ -61,7 +61,7 @@ returns-2 c =
     let a = s .args in
     let n = a .node in
     let cap = c .before .before .before .capacity-in .ensures ∙ capacity-of (a .plan) (a .capacities .now) (s .pre .3) n in
-    let fits = capacity-fits (planOf (a .plan)) (number-rules (a .plan) (s .pre .1)) n in
+    let fits = capacity-fits (planNumbered (a .plan)) (number-rules (a .plan) (s .pre .1)) n in
     sym (node-used (lent s) n (width * n) (width * n + getD (a .counts .now) n 0) refl refl (sym (c .before .used-good .ensures) ∙ not-true (c .before .used-good .result) (c .if2 .taken)))
 
 add-unused-good : tie.Need-add-unused-good
@@ -73,9 +73,9 @@ unused-good-requires c κs =
     let a = s .args in
     let n = a .node in
     let cap = c .before .before .before .capacity-in .ensures ∙ capacity-of (a .plan) (a .capacities .now) (s .pre .3) n in
-    let fits = capacity-fits (planOf (a .plan)) (number-rules (a .plan) (s .pre .1)) n in
+    let fits = capacity-fits (planNumbered (a .plan)) (number-rules (a .plan) (s .pre .1)) n in
     let size = s .pre .2 in
-    (omega arith, omega arith, size .keys-512, size .kinds-512, size .values-512, size .stamps-512)
+    (omega arith, omega arith, size .keys-long, size .kinds-long, size .values-long, size .stamps-long)
 
 returns-3 : tie.Need-returns-3
 returns-3 c =
@@ -83,7 +83,7 @@ returns-3 c =
     let a = s .args in
     let n = a .node in
     let cap = c .before .before .before .before .capacity-in .ensures ∙ capacity-of (a .plan) (a .capacities .now) (s .pre .3) n in
-    let fits = capacity-fits (planOf (a .plan)) (number-rules (a .plan) (s .pre .1)) n in
+    let fits = capacity-fits (planNumbered (a .plan)) (number-rules (a .plan) (s .pre .1)) n in
     let used = c .before .before .used-good in
     c .unused-good .ensures
     ∙ sym (node-unused (lent s) n (width * n) (width * n + getD (a .counts .now) n 0) refl refl (omega arith) (sym (used .ensures) ∙ not-false (used .result) (c .before .if2 .left)))

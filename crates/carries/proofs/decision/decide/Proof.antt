@@ -43,7 +43,7 @@ loop-again c = (c .turn .ensures .going, c .turn .ensures .same ∙ c .before .b
 rest-requires : tie.Need-rest-requires Inv-loop μ-loop
 rest-requires c κs =
     let g = c .before .before .before .loop .inv .0 in
-    (g .next-within .0, omega (arith, g .fits, g .few), g .target-64)
+    (g .next-within .0, omega (arith, g .fits, g .few), g .target-long)
 
 returns : tie.Need-returns Inv-loop μ-loop
 returns c =

@@ -2,7 +2,7 @@
 use Prim.Native.Nat.{_-_, _≤_}
 use native.Mathlib.Omega.{arith}
 use borrow.Author.Tests.{not-true, not-false}
-use Rattle.plan.specs.PlanTable.{planOf}
+use Rattle.plan.specs.PlanTable.{planNumbered}
 use Rattle.image.specs.Workers.{columns}
 use Rattle.image.proofs.NodeWays.{plan-fits, Sofar, sofar-none, sofar-end, sofar-stops, sofar-turn}
 use borrow.Author.Needs.{needs}
@@ -11,7 +11,7 @@ use Rattle.image.proofs.reading.read_nodes.Tie as tie
 
 abbrev Inv-loop : tie.InvT-loop
 Inv-loop bytes plan counts₀ keys₀ kinds₀ values₀ stamps₀ at nodes next₀ n₀ counts keys kinds values stamps next n =
-    (n ≤ nodes) × Sofar bytes (planOf plan) at n counts (columns keys kinds values stamps) next
+    (n ≤ nodes) × Sofar bytes (planNumbered plan) at n counts (columns keys kinds values stamps) next
 
 abbrev μ-loop : tie.MeasureT-loop
 μ-loop bytes plan counts₀ keys₀ kinds₀ values₀ stamps₀ at nodes next₀ n₀ counts keys kinds values stamps next n = nodes - n

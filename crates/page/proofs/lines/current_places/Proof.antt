@@ -5,7 +5,7 @@ use native.Mathlib.Omega.{arith}
 use borrow.Author.Needs.{needs}
 use Rattle.plan.specs.Sizes.{mostNodes}
 use Rattle.plan.specs.Plan.{size}
-use Rattle.plan.specs.PlanTable.{planOf}
+use Rattle.plan.specs.PlanTable.{planNumbered}
 use Rattle.plan.proofs.TableLaws.{table-rules}
 use Rattle.page.proofs.NodeByNode.{LaidFrom, nodes-start, nodes-turn, nodes-end}
 use Rattle.page.proofs.lines.current_places.Statement.{statement}
@@ -13,7 +13,7 @@ use Rattle.page.proofs.lines.current_places.Tie as tie
 
 abbrev Inv-loop : tie.InvT-loop
 Inv-loop plan counts keys sample nodes current₀ laid₀ current laid =
-    (laid ≤ nodes) × (nodes ≤ mostNodes) × (nodes ≡ size (planOf plan)) × LaidFrom plan counts keys sample (nodes - laid) current
+    (laid ≤ nodes) × (nodes ≤ mostNodes) × (nodes ≡ size (planNumbered plan)) × LaidFrom plan counts keys sample (nodes - laid) current
 
 abbrev μ-loop : tie.MeasureT-loop
 μ-loop plan counts keys sample nodes current₀ laid₀ current laid = nodes - laid
@@ -28,7 +28,7 @@ loop-holds : tie.Need-loop-holds Inv-loop μ-loop
 loop-holds c =
     let a = c .before .args in
     let known = c .before .pre .0 .lookable .known in
-    let few = table-rules (a .plan) (known .0) (known .1) .two-to-eight-nodes in (
+    let few = table-rules (a .plan) (known .0) (known .1) .nodes-within in (
       search needs,
       omega (arith, few, c .nodes .ensures),
       c .nodes .ensures,

@@ -5,8 +5,8 @@ use Prim.Native.Nat.{_-_, _<_, _≤_}
 use lib.ListN.{getD}
 use borrow.Author.Needs.{needs}
 use borrow.Author.Tests.{eqb-true, eqb-false}
-use Rattle.plan.specs.PlanTable.{planOf}
-use Rattle.store.specs.Layout.{stateOf}
+use Rattle.plan.specs.PlanTable.{planNumbered}
+use Rattle.store.specs.Layout.{planOf, stateOf}
 use Rattle.store.specs.State.{State}
 use Rattle.store.specs.Workers.{holding}
 use Rattle.page.specs.Page.{analytes}
@@ -17,7 +17,7 @@ use Rattle.page.proofs.lines.gather.Tie as tie
 
 abbrev Inv-loop : tie.InvT-loop
 Inv-loop plan counts keys kinds values stamps sample current lines₀ analyte₀ lines analyte =
-    (analyte ≤ analytes) × Gathered (planOf plan) (stateOf (holding plan 0 counts keys kinds values stamps)) sample analyte lines
+    (analyte ≤ analytes) × Gathered (planNumbered plan) (stateOf (holding plan 0 counts keys kinds values stamps)) sample analyte lines
 
 abbrev μ-loop : tie.MeasureT-loop
 μ-loop plan counts keys kinds values stamps sample current lines₀ analyte₀ lines analyte = analytes - analyte
@@ -35,7 +35,7 @@ no-lines-requires c κs = search needs
 loop-holds : tie.Need-loop-holds Inv-loop μ-loop
 loop-holds c =
     let s = c .before .before in
-    (search needs, gather-starts (planOf (s .args .plan)) (lent s) (s .args .sample) (c .no-lines .result) (c .no-lines .ensures) (search needs))
+    (search needs, gather-starts (planNumbered (s .args .plan)) (lent s) (s .args .sample) (c .no-lines .result) (c .no-lines .ensures) (search needs))
 
 cast-place : tie.Need-cast-place Inv-loop μ-loop
 cast-place c = search needs
@@ -101,7 +101,7 @@ loop-again c =
     let place = getD (places .result) (l .loop .analyte) 0 in
     let e = places .ensures (a .kinds .now) (a .values .now) (a .stamps .now) (l .loop .analyte) h in (
       search needs,
-      gather-turns (planOf (a .plan)) (lent s) (a .sample) (a .keys .now) (a .kinds .now) (a .values .now) (a .stamps .now) (l .loop .analyte)
+      gather-turns (planNumbered (a .plan)) (lent s) (a .sample) (a .keys .now) (a .kinds .now) (a .values .now) (a .stamps .now) (l .loop .analyte)
           place (l .loop .lines) (c .if1 .lines) h e (l .loop .inv .1)
           (⊎-elim (λ w. result (w .0 .taken) (search (eqb-true, w .2 .taken)) (w .5))
           (λ w. ⊎-elim (λ v. other (v .0 .taken) (search (eqb-false, v .2 .left)) (w .1)) (λ v. never (v .left) (w .1)) (w .0 .came))
@@ -112,7 +112,7 @@ returns : tie.Need-returns Inv-loop μ-loop
 returns c =
     let l = c .before in
     let s = l .before .before .before in
-    gather-ends (planOf (s .args .plan)) (lent s) (s .args .sample) (l .loop .analyte) (l .loop .lines) (search needs) (l .loop .inv .1)
+    gather-ends (planNumbered (s .args .plan)) (lent s) (s .args .sample) (l .loop .analyte) (l .loop .lines) (search needs) (l .loop .inv .1)
 
 pub gather-spec : {M : Type 1} → statement M
 gather-spec =

@@ -6,7 +6,7 @@ use native.Mathlib.Omega.{arith}
 use borrow.Author.Needs.{needs}
 use Rattle.plan.specs.declared.Hop.{Hop}
 use Rattle.plan.specs.Plan.{walk, path}
-use Rattle.plan.specs.PlanTable.{planOf}
+use Rattle.plan.specs.PlanTable.{planNumbered}
 use Rattle.store.specs.Copies.{member}
 use Rattle.plan.proofs.RowLaws.{next-here}
 use Rattle.rules_paths.proofs.Walking.{path-walk, on-out, on-ends, on-here, on-later}
@@ -15,7 +15,7 @@ use Rattle.rules_paths.proofs.paths.on_path.Tie as tie
 
 abbrev Inv-loop : tie.InvT-loop
 Inv-loop plan edges lows highs targets key node left₀ hop₀ left hop =
-    member node (path (planOf plan) key) ≡ member node (walk (planOf plan) key left hop)
+    member node (path (planNumbered plan) key) ≡ member node (walk (planNumbered plan) key left hop)
 
 abbrev μ-loop : tie.MeasureT-loop
 μ-loop plan edges lows highs targets key node left₀ hop₀ left hop = left
@@ -26,7 +26,7 @@ nodes-requires c κs = search needs
 loop-holds : tie.Need-loop-holds Inv-loop μ-loop
 loop-holds c =
     let s = c .before in
-    ap (member (s .args .node)) (path-walk (planOf (s .args .plan)) (s .args .key) (c .nodes .result) (c .nodes .ensures))
+    ap (member (s .args .node)) (path-walk (planNumbered (s .args .plan)) (s .args .key) (c .nodes .result) (c .nodes .ensures))
 
 enum-known-hop : tie.Need-enum-known-hop Inv-loop μ-loop
 enum-known-hop c = search needs
@@ -38,13 +38,13 @@ returns : tie.Need-returns Inv-loop μ-loop
 returns c =
     let l = c .before .before .before in
     let s = l .before .before in
-    sym (l .loop .inv ∙ on-ends (planOf (s .args .plan)) (s .args .key) (l .loop .left) (l .loop .hop) (s .args .node) (c .enum-told .given .1))
+    sym (l .loop .inv ∙ on-ends (planNumbered (s .args .plan)) (s .args .key) (l .loop .left) (l .loop .hop) (s .args .node) (c .enum-told .given .1))
 
 returns-2 : tie.Need-returns-2 Inv-loop μ-loop
 returns-2 c =
     let l = c .before .before .before .before .before in
     let s = l .before .before in
-    sym (l .loop .inv ∙ on-here (planOf (s .args .plan)) (s .args .key) (l .loop .left) (l .loop .hop) (s .args .node) (c .before .before .hop .given .0 .0) (omega arith) (c .before .before .hop .given .1) (c .if1 .taken))
+    sym (l .loop .inv ∙ on-here (planNumbered (s .args .plan)) (s .args .key) (l .loop .left) (l .loop .hop) (s .args .node) (c .before .before .hop .given .0 .0) (omega arith) (c .before .before .hop .given .1) (c .if1 .taken))
 
 next-in-requires : tie.Need-next-in-requires Inv-loop μ-loop
 next-in-requires c κs = search needs
@@ -61,14 +61,14 @@ loop-again c =
     let s = l .before .before in
     let at = c .before .before .before .hop .given in
     l .loop .inv
-    ∙ on-later (planOf (s .args .plan)) (s .args .key) (l .loop .left) (l .loop .hop) (s .args .node) (at .0 .0) (omega arith) (at .1) (c .before .if1 .left)
-    ∙ ap (λ (h : Hop). member (s .args .node) (walk (planOf (s .args .plan)) (s .args .key) (l .loop .left - 1) h)) (sym (next-here (s .pre) (at .0 .0) (s .args .key) (c .next-in .result) (c .next-in .ensures)))
+    ∙ on-later (planNumbered (s .args .plan)) (s .args .key) (l .loop .left) (l .loop .hop) (s .args .node) (at .0 .0) (omega arith) (at .1) (c .before .if1 .left)
+    ∙ ap (λ (h : Hop). member (s .args .node) (walk (planNumbered (s .args .plan)) (s .args .key) (l .loop .left - 1) h)) (sym (next-here (s .pre) (at .0 .0) (s .args .key) (c .next-in .result) (c .next-in .ensures)))
 
 returns-3 : tie.Need-returns-3 Inv-loop μ-loop
 returns-3 c =
     let l = c .before in
     let s = l .before .before in
-    sym (l .loop .inv ∙ on-out (planOf (s .args .plan)) (s .args .key) (l .loop .left) (l .loop .hop) (s .args .node) (omega arith))
+    sym (l .loop .inv ∙ on-out (planNumbered (s .args .plan)) (s .args .key) (l .loop .left) (l .loop .hop) (s .args .node) (omega arith))
 
 pub on-path-spec : {M : Type 1} → statement M
 on-path-spec =

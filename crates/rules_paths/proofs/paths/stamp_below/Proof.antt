@@ -10,7 +10,7 @@ use borrow.Author.Tests.{eqb-true, eqb-false}
 use Rattle.plan.specs.declared.Hop.{Hop}
 use Rattle.plan.specs.Sizes.{mostNodes}
 use Rattle.plan.specs.Plan.{size, next}
-use Rattle.plan.specs.PlanTable.{planOf}
+use Rattle.plan.specs.PlanTable.{planNumbered}
 use Rattle.store.specs.Copies.{stampOf}
 use Rattle.store.specs.State.{inReach}
 use Rattle.store.specs.Layout.{width, stateOf}
@@ -25,8 +25,8 @@ use Rattle.rules_paths.proofs.paths.stamp_below.Tie as tie
 
 abbrev Inv-loop : tie.InvT-loop
 Inv-loop plan edges lows highs targets counts keys stamps node key left₀ hop₀ left hop =
-    LeadsOn (planOf plan) hop
-    × (stampOf (inReach (planOf plan) (stateOf (keyed plan counts keys stamps)) key (next (planOf plan) node key)) ≡ stampOn plan counts keys stamps key left hop)
+    LeadsOn (planNumbered plan) hop
+    × (stampOf (inReach (planNumbered plan) (stateOf (keyed plan counts keys stamps)) key (next (planNumbered plan) node key)) ≡ stampOn plan counts keys stamps key left hop)
 
 abbrev μ-loop : tie.MeasureT-loop
 μ-loop plan edges lows highs targets counts keys stamps node key left₀ hop₀ left hop = left
@@ -43,8 +43,8 @@ loop-holds c =
     let a = s .args in
     let rules = number-rules (a .plan) (s .pre .0) in
     let e = next-here (s .pre .1) (a .node) (a .key) (c .next-in .result) (c .next-in .ensures) in (
-      leads-on (planOf (a .plan)) rules (a .node) (a .key) (c .next-in .result) e,
-      ap (λ (h : Hop). stampOf (inReach (planOf (a .plan)) (stateOf (keyed (a .plan) (a .counts .now) (a .keys .now) (a .stamps .now))) (a .key) h)) (sym e)
+      leads-on (planNumbered (a .plan)) rules (a .node) (a .key) (c .next-in .result) e,
+      ap (λ (h : Hop). stampOf (inReach (planNumbered (a .plan)) (stateOf (keyed (a .plan) (a .counts .now) (a .keys .now) (a .stamps .now))) (a .key) h)) (sym e)
           ∙ reach-starts (a .plan) (a .counts .now) (a .keys .now) (a .stamps .now) (a .key) (c .before .nodes .result) (c .next-in .result) (c .before .nodes .ensures),
     )
 
@@ -62,13 +62,13 @@ returns c =
 
 -- The node at hand: one of the plan's, and so of the store's, in which a look can go by halves.
 here : (c : tie.After-known-told Inv-loop μ-loop) → let s = c .before .before .before .before .before .before .before in let n = c .before .hop .given .0 .0 in
-    (n < size (planOf (s .args .plan))) × (n < mostNodes) × Ordered (s .args .counts .now) (s .args .keys .now) n
+    (n < size (planNumbered (s .args .plan))) × (n < mostNodes) × Ordered (s .args .counts .now) (s .args .keys .now) n
 here c =
     let l = c .before .before .before .before in
     let s = l .before .before .before in
     let at = c .before .hop .given in
     let h = l .loop .inv .0 (at .0 .0) (at .1) in
-    let most = number-rules (s .args .plan) (s .pre .0) .two-to-eight-nodes in
+    let most = number-rules (s .args .plan) (s .pre .0) .nodes-within in
     let m : at .0 .0 < mostNodes = omega arith in
     (h, m, s .pre .2 (at .0 .0) m)
 
@@ -184,7 +184,7 @@ loop-again c =
     let seek = c .before .before .seek in
     let rules = number-rules (a .plan) (s .pre .0) in
     let e = next-here (s .pre .1) (at .0 .0) (a .key) (c .next-in2 .result) (c .next-in2 .ensures) in (
-      leads-on (planOf (a .plan)) rules (at .0 .0) (a .key) (c .next-in2 .result) e,
+      leads-on (planNumbered (a .plan)) rules (at .0 .0) (a .key) (c .next-in2 .result) e,
       l .loop .inv .1
           ∙ reach-on (a .plan) (a .counts .now) (a .keys .now) (a .stamps .now) (a .key) (l .loop .left) (l .loop .hop) (at .0 .0) (omega (arith, k .before .before .before .loop-test)) (at .1) (h .0) (h .2) (seek .result) (seek .ensures) (apart (c .before))
           ∙ ap (stampOn (a .plan) (a .counts .now) (a .keys .now) (a .stamps .now) (a .key) (l .loop .left - 1)) (sym e),

@@ -7,7 +7,7 @@ use native.Mathlib.Omega.{arith}
 use borrow.Author.Needs.{needs}
 use Rattle.plan.specs.declared.Hop.{Hop}
 use Rattle.plan.specs.Plan.{walk, path}
-use Rattle.plan.specs.PlanTable.{planOf}
+use Rattle.plan.specs.PlanTable.{planNumbered}
 use Rattle.store.specs.StoreRules.{standsAt}
 use Rattle.plan.proofs.RowLaws.{next-here}
 use Rattle.rules_paths.proofs.Walking.{path-walk, stands-out, stands-ends, stands-here, stands-later}
@@ -16,7 +16,7 @@ use Rattle.rules_paths.proofs.paths.stands_at.Tie as tie
 
 abbrev Inv-loop : tie.InvT-loop
 Inv-loop plan edges lows highs targets key node above left₀ step₀ over₀ left step over =
-    standsAt node (path (planOf plan) key) above ≡ standsAt node (walk (planOf plan) key left step) over
+    standsAt node (path (planNumbered plan) key) above ≡ standsAt node (walk (planNumbered plan) key left step) over
 
 abbrev μ-loop : tie.MeasureT-loop
 μ-loop plan edges lows highs targets key node above left₀ step₀ over₀ left step over = left
@@ -27,7 +27,7 @@ nodes-requires c κs = search needs
 loop-holds : tie.Need-loop-holds Inv-loop μ-loop
 loop-holds c =
     let s = c .before in
-    ap (λ (ns : List ℕ). standsAt (s .args .node) ns (s .args .above)) (path-walk (planOf (s .args .plan)) (s .args .key) (c .nodes .result) (c .nodes .ensures))
+    ap (λ (ns : List ℕ). standsAt (s .args .node) ns (s .args .above)) (path-walk (planNumbered (s .args .plan)) (s .args .key) (c .nodes .result) (c .nodes .ensures))
 
 enum-known-step : tie.Need-enum-known-step Inv-loop μ-loop
 enum-known-step c = search needs
@@ -39,13 +39,13 @@ returns : tie.Need-returns Inv-loop μ-loop
 returns c =
     let l = c .before .before .before in
     let s = l .before .before in
-    sym (l .loop .inv ∙ stands-ends (planOf (s .args .plan)) (s .args .key) (l .loop .left) (l .loop .step) (s .args .node) (l .loop .over) (c .enum-told .given .1))
+    sym (l .loop .inv ∙ stands-ends (planNumbered (s .args .plan)) (s .args .key) (l .loop .left) (l .loop .step) (s .args .node) (l .loop .over) (c .enum-told .given .1))
 
 returns-2 : tie.Need-returns-2 Inv-loop μ-loop
 returns-2 c =
     let l = c .before .before .before .before .before in
     let s = l .before .before in
-    sym (l .loop .inv ∙ stands-here (planOf (s .args .plan)) (s .args .key) (l .loop .left) (l .loop .step) (s .args .node) (l .loop .over) (c .before .before .step .given .0 .0) (omega arith) (c .before .before .step .given .1) (c .if1 .taken))
+    sym (l .loop .inv ∙ stands-here (planNumbered (s .args .plan)) (s .args .key) (l .loop .left) (l .loop .step) (s .args .node) (l .loop .over) (c .before .before .step .given .0 .0) (omega arith) (c .before .before .step .given .1) (c .if1 .taken))
 
 next-in-requires : tie.Need-next-in-requires Inv-loop μ-loop
 next-in-requires c κs = search needs
@@ -65,14 +65,14 @@ loop-again c =
     let s = l .before .before in
     let at = c .before .before .before .step .given in
     l .loop .inv
-    ∙ stands-later (planOf (s .args .plan)) (s .args .key) (l .loop .left) (l .loop .step) (s .args .node) (l .loop .over) (at .0 .0) (omega arith) (at .1) (c .before .if1 .left)
-    ∙ ap (λ (h : Hop). standsAt (s .args .node) (walk (planOf (s .args .plan)) (s .args .key) (l .loop .left - 1) h) (l .loop .over - 1)) (sym (next-here (s .pre) (at .0 .0) (s .args .key) (c .next-in .result) (c .next-in .ensures)))
+    ∙ stands-later (planNumbered (s .args .plan)) (s .args .key) (l .loop .left) (l .loop .step) (s .args .node) (l .loop .over) (at .0 .0) (omega arith) (at .1) (c .before .if1 .left)
+    ∙ ap (λ (h : Hop). standsAt (s .args .node) (walk (planNumbered (s .args .plan)) (s .args .key) (l .loop .left - 1) h) (l .loop .over - 1)) (sym (next-here (s .pre) (at .0 .0) (s .args .key) (c .next-in .result) (c .next-in .ensures)))
 
 returns-3 : tie.Need-returns-3 Inv-loop μ-loop
 returns-3 c =
     let l = c .before in
     let s = l .before .before in
-    sym (l .loop .inv ∙ stands-out (planOf (s .args .plan)) (s .args .key) (l .loop .left) (l .loop .step) (s .args .node) (l .loop .over) (omega arith))
+    sym (l .loop .inv ∙ stands-out (planNumbered (s .args .plan)) (s .args .key) (l .loop .left) (l .loop .step) (s .args .node) (l .loop .over) (omega arith))
 
 pub stands-at-spec : {M : Type 1} → statement M
 stands-at-spec =

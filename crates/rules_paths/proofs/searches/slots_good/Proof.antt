@@ -10,7 +10,7 @@ use borrow.Author.Needs.{needs}
 use borrow.Author.Tests.{not-true, not-false}
 use Rattle.lists.specs.Runs.{allFrom, allBelow}
 use Rattle.lists.proofs.Running.{all-stop, all-turn, all-end}
-use Rattle.plan.specs.PlanTable.{planOf}
+use Rattle.plan.specs.PlanTable.{planNumbered}
 use Rattle.store.specs.declared.Slot.{Slot}
 use Rattle.store.specs.State.{slotCount, idle}
 use Rattle.store.specs.StoreRules.{slotTest}
@@ -19,7 +19,7 @@ use Rattle.rules_paths.proofs.searches.slots_good.Tie as tie
 
 -- The test of each slot.
 abbrev eachSlot : ℕ → List Slot → ℕ → Bool
-eachSlot plan slots i = slotTest (planOf plan) (getD slots i idle)
+eachSlot plan slots i = slotTest (planNumbered plan) (getD slots i idle)
 
 abbrev Inv-loop : tie.InvT-loop
 Inv-loop plan edges lows highs targets slots i₀ i =

@@ -7,11 +7,12 @@ use borrow.Author.Needs.{needs}
 use Rattle.plan.specs.Sizes.{mostNodes}
 use Rattle.plan.specs.Plan.{size, next}
 use Rattle.plan.specs.PlanRules.{PlanRules}
-use Rattle.plan.specs.PlanTable.{planOf}
+use Rattle.plan.specs.PlanTable.{planNumbered}
 use Rattle.plan.proofs.NextLaws.{next-down}
 use Rattle.plan.proofs.TableLaws.{table-rules}
 use Rattle.store.specs.declared.Store.{Store}
 use Rattle.store.specs.Workers.{holding}
+use Rattle.store.specs.Layout.{planOf}
 use Rattle.plan.proofs.RowLaws.{next-here}
 use Rattle.searches.specs.Workers.{seenIn}
 use Rattle.searches.proofs.Descending.{seenFrom, seen-starts, seen-held, seen-never, seen-on}
@@ -21,33 +22,33 @@ use Rattle.searches.proofs.lines.look_down.Tie as tie
 abbrev Inv-loop : tie.InvT-loop
 Inv-loop plan edges lows highs targets counts keys kinds values stamps key node₀ visits₀ node visits =
     let z = holding plan 0 counts keys kinds values stamps in
-    (node < size (planOf plan)) × (visits ≤ node) × (seenIn z key ≡ seenFrom z key node visits)
+    (node < size (planNumbered plan)) × (visits ≤ node) × (seenIn z key ≡ seenFrom z key node visits)
 
 abbrev μ-loop : tie.MeasureT-loop
 μ-loop plan edges lows highs targets counts keys kinds values stamps key node₀ visits₀ node visits = mostNodes - node
 
 -- The plan, its key's next step, and the store of the columns lent.
-rules : (s : tie.Start Inv-loop μ-loop) → PlanRules (planOf (s .args .plan))
+rules : (s : tie.Start Inv-loop μ-loop) → PlanRules (planNumbered (s .args .plan))
 rules s = table-rules (s .args .plan) (s .pre .0 .known .0) (s .pre .0 .known .1)
 
 abbrev lent : tie.Start Inv-loop μ-loop → Store
 lent s = let a = s .args in holding (a .plan) 0 (a .counts .now) (a .keys .now) (a .kinds .now) (a .values .now) (a .stamps .now)
 
 step-is : (c : tie.After-next-in Inv-loop μ-loop) → let l = c .before .before .before .before in
-    c .next-in .result ≡ next (planOf (l .before .args .plan)) (l .loop .node) (l .before .args .key)
+    c .next-in .result ≡ next (planNumbered (l .before .args .plan)) (l .loop .node) (l .before .args .key)
 step-is c =
     let l = c .before .before .before .before in
     next-here (l .before .pre .1) (l .loop .node) (l .before .args .key) (c .next-in .result) (c .next-in .ensures)
 
 loop-holds : tie.Need-loop-holds Inv-loop μ-loop
-loop-holds c = (omega (arith, rules c .two-to-eight-nodes), omega arith, seen-starts (lent c) (c .args .key))
+loop-holds c = (omega (arith, rules c .nodes-within), omega arith, seen-starts (lent c) (c .args .key))
 
 add-visits : tie.Need-add-visits Inv-loop μ-loop
-add-visits c = omega (arith, rules (c .before) .two-to-eight-nodes)
+add-visits c = omega (arith, rules (c .before) .nodes-within)
 
 look-at-requires : tie.Need-look-at-requires Inv-loop μ-loop
 look-at-requires c κs =
-    let h : c .loop .node < mostNodes = omega (arith, rules (c .before) .two-to-eight-nodes) in
+    let h : c .loop .node < mostNodes = omega (arith, rules (c .before) .nodes-within) in
     (h, c .before .pre .0 .ordered (c .loop .node) h)
 
 enum-known-copy : tie.Need-enum-known-copy Inv-loop μ-loop
@@ -77,8 +78,8 @@ loop-less : tie.Need-loop-less Inv-loop μ-loop
 loop-less c =
     let l = c .before .before .before .before .before .before .before in
     let s = l .before in
-    let d = next-down (planOf (s .args .plan)) (rules s) (l .loop .node) (s .args .key) (c .before .to .given .0 .0) (sym (step-is (c .before .before .before)) ∙ c .before .to .given .1) in
-    omega (arith, rules s .two-to-eight-nodes)
+    let d = next-down (planNumbered (s .args .plan)) (rules s) (l .loop .node) (s .args .key) (c .before .to .given .0 .0) (sym (step-is (c .before .before .before)) ∙ c .before .to .given .1) in
+    omega (arith, rules s .nodes-within)
 
 loop-again : tie.Need-loop-again Inv-loop μ-loop
 loop-again c =
@@ -86,7 +87,7 @@ loop-again c =
     let s = l .before in
     let t = c .before .to .given .0 .0 in
     let to = sym (step-is (c .before .before .before)) ∙ c .before .to .given .1 in
-    let d = next-down (planOf (s .args .plan)) (rules s) (l .loop .node) (s .args .key) t to in (
+    let d = next-down (planNumbered (s .args .plan)) (rules s) (l .loop .node) (s .args .key) t to in (
       d .1,
       omega arith,
       l .loop .inv .2

@@ -3,16 +3,16 @@ use mathlib.Core.Path.{_≡_, sym, _∙_}
 use Prim.Native.Nat.{ℕ}
 use native.Mathlib.Omega.{arith}
 use lib.ListN.{length}
-use Rattle.plan.specs.PlanTable.{planOf}
 use Rattle.store.specs.declared.Store.{Store}
 use Rattle.store.specs.Answers.{SLOT, IDLE}
 use Rattle.store.specs.State.{slotCount}
-use Rattle.store.specs.Layout.{stateOf}
+use Rattle.store.specs.Layout.{planOf, stateOf}
 use Rattle.store.specs.Workers.{ofParts}
 use Rattle.steps.specs.Searches.{stepStep}
 use Rattle.searches.proofs.Slotting.{turn-stays, no-slot, slot-rests}
 use borrow.Author.Needs.{needs}
 use Rattle.searches.proofs.slots.stepped.Statement.{statement}
+use Rattle.plan.specs.PlanTable.{planNumbered}
 use Rattle.searches.proofs.slots.stepped.Tie as tie
 
 -- The store of the columns and slots, at a clock.
@@ -30,7 +30,7 @@ returns c =
     let s = c .before .before in
     let l : length (s .args .t7) ≡ slotCount = search needs in
     let w = turn-stays SLOT (s .args .t7) (c .refused .ensures) in
-    (w .0, λ clock. w .1 ∙ sym (no-slot (planOf (s .args .plan)) (stateOf (columns s clock)) _ (s .args .slot) (omega arith)))
+    (w .0, λ clock. w .1 ∙ sym (no-slot (planNumbered (s .args .plan)) (stateOf (columns s clock)) _ (s .args .slot) (omega arith)))
 
 mul-if2 : tie.Need-mul-if2
 mul-if2 c = search needs
@@ -47,7 +47,7 @@ returns-2 c =
     let s = c .before .before .before in
     let l : length (s .args .t7) ≡ slotCount = search needs in
     let w = turn-stays IDLE (s .args .t7) (c .refused2 .ensures) in
-    (w .0, λ clock. w .1 ∙ sym (slot-rests (planOf (s .args .plan)) (stateOf (columns s clock)) _ (s .args .slot) (omega arith) (c .before .if2 .taken)))
+    (w .0, λ clock. w .1 ∙ sym (slot-rests (planNumbered (s .args .plan)) (stateOf (columns s clock)) _ (s .args .slot) (omega arith) (c .before .if2 .taken)))
 
 visited-requires : tie.Need-visited-requires
 visited-requires c κs =

@@ -36,7 +36,7 @@ look-at-requires c κs =
     let s = c .before .before in
     let known = s .pre .lookable .known in
     let n = getD (s .args .t7) (s .args .i) idle .node in
-    let h : n < mostNodes = omega (arith, s .pre .stands .node, table-rules (s .args .plan) (known .0) (known .1) .two-to-eight-nodes) in
+    let h : n < mostNodes = omega (arith, s .pre .stands .node, table-rules (s .args .plan) (known .0) (known .1) .nodes-within) in
     (h, s .pre .lookable .ordered n h)
 
 enum-known-copy : tie.Need-enum-known-copy
