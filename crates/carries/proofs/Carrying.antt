@@ -19,7 +19,7 @@ use Rattle.store.specs.declared.Store.{Store}
 use Rattle.store.specs.Answers.{DONE, NODE, EDGE, answer, bare}
 use Rattle.store.specs.Copies.{noCopy, keyOf}
 use Rattle.store.specs.State.{State, nodeAt}
-use Rattle.store.specs.Layout.{planOf, planOf, planOf, width, places, nodeIn, copyOf, countOf, nodeOf, stateOf, column}
+use Rattle.store.specs.Layout.{planOf, planOf, width, places, nodeIn, copyOf, countOf, nodeOf, stateOf, column}
 use Rattle.store.specs.StoreRules.{goodStore}
 use Rattle.store.specs.Calls.{onStore}
 use Rattle.store.specs.Workers.{numberIn, itself}

@@ -1,6 +1,6 @@
 // Carry: a node's copies move to a child. Document 01, "What each step does".
 ghost use Rattle.steps.specs.Promises.{Carries};
-ghost use Rattle.store.specs.Workers.{Sized, ofParts};
+ghost use Rattle.store.specs.Workers.{LentSized, lentStore};
 ghost use Rattle.carries.specs.Settlings.{CarriesIn};
 use settling::settle;
 use store::Answer;
@@ -66,8 +66,8 @@ pub fn carry_in<'a>(
     node: u32,
     edge: u32,
 ) -> Answer
-    requires { ⌜ Sized (now counts) (now keys) (now kinds) (now values) (now stamps) ⌝ }
-    ensures { λ r. ⌜ CarriesIn (ofParts plan clock (now (counts .entry)) (now (keys .entry)) (now (kinds .entry)) (now (values .entry)) (now (stamps .entry)) slots) node edge r (ofParts plan clock (now (counts .exit)) (now (keys .exit)) (now (kinds .exit)) (now (values .exit)) (now (stamps .exit)) slots) ⌝ }
+    requires { ⌜ LentSized counts keys kinds values stamps ⌝ }
+    ensures { λ r. ⌜ CarriesIn (lentStore plan clock (counts .entry) (keys .entry) (kinds .entry) (values .entry) (stamps .entry) slots) node edge r (lentStore plan clock (counts .exit) (keys .exit) (kinds .exit) (values .exit) (stamps .exit) slots) ⌝ }
 {
     let mut stay = [0; Store::WIDTH];
     let mut target = [0; Store::WIDTH];

@@ -6,7 +6,7 @@ ghost use Rattle.plan.specs.PlanRules.{IsEdge};
 ghost use Rattle.plan.specs.PlanTable.{planNumbered};
 ghost use Rattle.store.specs.Answers.{DONE, answer};
 ghost use Rattle.store.specs.Layout.{width};
-ghost use Rattle.store.specs.Workers.{Sized, ofParts};
+ghost use Rattle.store.specs.Workers.{LentSized, lentStore};
 ghost use Rattle.carries.specs.Settlings.{nothing, OfGood, Settles, SettlesIn};
 use crate::decision::count_held;
 use crate::decision::decide;
@@ -115,8 +115,8 @@ pub fn settle<'a>(
     node: u32,
     edge: u32,
 ) -> Settled
-    requires { ⌜ Sized (now counts) (now keys) (now kinds) (now values) (now stamps) × (length (now stay) ≡ width) × (length (now target) ≡ width) ⌝ }
-    ensures { λ r. ⌜ Settles (ofParts plan clock (now (counts .entry)) (now (keys .entry)) (now (kinds .entry)) (now (values .entry)) (now (stamps .entry)) slots) node edge (now (stay .exit)) (now (target .exit)) r ⌝ }
+    requires { ⌜ LentSized counts keys kinds values stamps × (length (now stay) ≡ width) × (length (now target) ≡ width) ⌝ }
+    ensures { λ r. ⌜ Settles (lentStore plan clock (counts .entry) (keys .entry) (kinds .entry) (values .entry) (stamps .entry) slots) node edge (now (stay .exit)) (now (target .exit)) r ⌝ }
 {
     let first = counts[0];
     if !rules::good(plan, clock, counts, keys, kinds, values, stamps, slots) {

@@ -18,7 +18,7 @@ use Rattle.store.specs.declared.Store.{Store}
 use Rattle.store.specs.Answers.{DONE, BADSTORE, CLOCK, FULL, answer, bare}
 use Rattle.store.specs.Copies.{copy, noCopy, keyOf, find}
 use Rattle.store.specs.State.{State, nodeAt, lastClock}
-use Rattle.store.specs.Layout.{planOf, planOf, width, countOf, stateOf, column}
+use Rattle.store.specs.Layout.{planOf, width, countOf, stateOf, column}
 use Rattle.store.specs.StoreRules.{goodStore}
 use Rattle.store.specs.Calls.{onStore}
 use Rattle.store.specs.Workers.{below, placeIn, RisesIn, opened}

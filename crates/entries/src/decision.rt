@@ -1,7 +1,7 @@
 // What an entry is decided to be, before anything is written: whether it is accepted, and the place of its copy.
 ghost use mathlib.Core.Path.{_≡_};
 ghost use Prim.Native.Nat.{_<_};
-ghost use Rattle.store.specs.Workers.{Sized, ofParts};
+ghost use Rattle.store.specs.Workers.{LentSized, lentStore};
 ghost use Rattle.store.specs.State.{lastClock};
 ghost use Rattle.entries.specs.Decisions.{refusal, acceptance, Decides};
 use store::Answer;
@@ -62,8 +62,8 @@ pub fn decide<'a>(
     slots: [Slot; Store::SLOTS],
     key: u32,
 ) -> Decision
-    requires { ⌜ Sized (now counts) (now keys) (now kinds) (now values) (now stamps) ⌝ }
-    ensures { λ r. ⌜ Decides (ofParts plan clock (now (counts .entry)) (now (keys .entry)) (now (kinds .entry)) (now (values .entry)) (now (stamps .entry)) slots) key r ⌝ }
+    requires { ⌜ LentSized counts keys kinds values stamps ⌝ }
+    ensures { λ r. ⌜ Decides (lentStore plan clock (counts .entry) (keys .entry) (kinds .entry) (values .entry) (stamps .entry) slots) key r ⌝ }
 {
     let count = counts[0];
     if !rules::good(plan, clock, counts, keys, kinds, values, stamps, slots) {

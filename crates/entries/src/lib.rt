@@ -6,7 +6,7 @@ ghost use Rattle.steps.specs.Entries.{entry as entryStep};
 ghost use Rattle.steps.specs.Promises.{Enters, Withdraws};
 ghost use Rattle.store.specs.Calls.{onStore};
 ghost use Rattle.store.specs.Layout.{width, places};
-ghost use Rattle.store.specs.Workers.{Sized, ofParts};
+ghost use Rattle.store.specs.Workers.{LentSized, lentStore};
 ghost use Rattle.entries.specs.Decisions.{columnBy, EntersIn};
 use decision::Decision;
 use decision::decide;
@@ -80,8 +80,8 @@ pub fn entry_in<'a>(
     key: u32,
     value: u32,
 ) -> Entered
-    requires { ⌜ Sized (now counts) (now keys) (now kinds) (now values) (now stamps) ⌝ }
-    ensures { λ r. ⌜ EntersIn (ofParts plan clock (now (counts .entry)) (now (keys .entry)) (now (kinds .entry)) (now (values .entry)) (now (stamps .entry)) slots) kind key value (r .answer) (ofParts plan (r .clock) (now (counts .exit)) (now (keys .exit)) (now (kinds .exit)) (now (values .exit)) (now (stamps .exit)) slots) ⌝ }
+    requires { ⌜ LentSized counts keys kinds values stamps ⌝ }
+    ensures { λ r. ⌜ EntersIn (lentStore plan clock (counts .entry) (keys .entry) (kinds .entry) (values .entry) (stamps .entry) slots) kind key value (r .answer) (lentStore plan (r .clock) (counts .exit) (keys .exit) (kinds .exit) (values .exit) (stamps .exit) slots) ⌝ }
 {
     let decision = decide(plan, clock, counts, keys, kinds, values, stamps, slots, key);
     put(keys, decision, key);

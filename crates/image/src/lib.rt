@@ -6,7 +6,7 @@ ghost use lib.ListN.{length, replicate};
 ghost use Rattle.plan.specs.Sizes.{mostNodes};
 ghost use Rattle.store.specs.State.{slotCount, idle};
 ghost use Rattle.store.specs.StoreRules.{planNumberTest};
-ghost use Rattle.store.specs.Workers.{Sized, ofParts};
+ghost use Rattle.store.specs.Workers.{LentSized, lentStore};
 ghost use Rattle.wire.specs.Reading.{got};
 ghost use Rattle.image.specs.Loading.{nodesFrom, refusedLoad, copiesHeld, finished};
 ghost use Rattle.image.specs.Promises.{Saves, Loads};
@@ -35,8 +35,8 @@ pub fn save_lent<'a>(
     slots: [Slot; Store::SLOTS],
     buffer: &mut [u8],
 ) -> Answer
-    requires { ⌜ Sized (now counts) (now keys) (now kinds) (now values) (now stamps) ⌝ }
-    ensures { λ r. ⌜ Saves (ofParts plan clock (now (counts .entry)) (now (keys .entry)) (now (kinds .entry)) (now (values .entry)) (now (stamps .entry)) slots) (now (buffer .entry)) r (now (buffer .exit)) ⌝ }
+    requires { ⌜ LentSized counts keys kinds values stamps ⌝ }
+    ensures { λ r. ⌜ Saves (lentStore plan clock (counts .entry) (keys .entry) (kinds .entry) (values .entry) (stamps .entry) slots) (now (buffer .entry)) r (now (buffer .exit)) ⌝ }
 {
     if !rules::good(plan, clock, counts, keys, kinds, values, stamps, slots) {
         return Answer::bare(Answer::BADSTORE);
@@ -147,7 +147,7 @@ fn finish<'a>(
     values: &'a mut [u32; Store::PLACES],
     stamps: &'a mut [u32; Store::PLACES],
 ) -> Loaded
-    requires { ⌜ Sized (now counts) (now keys) (now kinds) (now values) (now stamps) ⌝ }
+    requires { ⌜ LentSized counts keys kinds values stamps ⌝ }
     ensures { λ r. ⌜ loadedIn r (now (counts .exit)) (columns (now (keys .exit)) (now (kinds .exit)) (now (values .exit)) (now (stamps .exit))) ≡ finished (now (bytes .entry)) (got (idleStore plan clock (now (counts .entry)) (columns (now (keys .entry)) (now (kinds .entry)) (now (values .entry)) (now (stamps .entry)))) end) ⌝ }
 {
     if end < bytes.len() {

@@ -25,7 +25,7 @@ use Rattle.store.specs.declared.Store.{Store}
 use Rattle.store.specs.Copies.{noCopy, keyOf, find}
 use Rattle.store.specs.State.{line, orElse, firstOn}
 use Rattle.store.specs.StateRules.{HeldAt, OnPath}
-use Rattle.store.specs.Layout.{planOf, planOf, planOf, width, places, copyIn, copyOf, countOf, nodeIn, stateOf}
+use Rattle.store.specs.Layout.{planOf, planOf, width, places, copyIn, copyOf, countOf, nodeIn, stateOf}
 use Rattle.store.specs.StoreRules.{goodStore}
 use Rattle.store.specs.Workers.{numberIn, itself, holding}
 use Rattle.store.proofs.Seeking.{find-run}

@@ -16,7 +16,7 @@ use Rattle.store.specs.declared.Answer.{Answer}
 use Rattle.store.specs.declared.Store.{Store}
 use Rattle.store.specs.Answers.{DONE, BADSTORE, SMALL, SAMPLE, answer, bare}
 use Rattle.store.specs.State.{inReach}
-use Rattle.store.specs.Layout.{planOf, planOf, planOf, stateOf}
+use Rattle.store.specs.Layout.{planOf, planOf, stateOf}
 use Rattle.store.specs.StoreRules.{goodStore}
 use Rattle.store.specs.Workers.{holding}
 use Rattle.wire.proofs.Buffers.{small-answer, small-buffer, done-answer, done-front, done-wrote, wrote-end}

@@ -9,7 +9,7 @@ use denote.Ref.{RefT}
 use Rattle.store.specs.declared.Answer.{Answer}
 use Rattle.store.specs.declared.Store.{Store}
 use Rattle.store.specs.Answers.{BADSTORE, SAMPLE, bare}
-use Rattle.store.specs.Layout.{planOf, planOf, planOf, stateOf}
+use Rattle.store.specs.Layout.{planOf, planOf, stateOf}
 use Rattle.store.specs.StoreRules.{goodStore}
 use Rattle.wire.specs.Writing.{writtenAnswer, writtenBuffer}
 use Rattle.page.specs.Page.{lastSample, pageOf, begins}

@@ -4,7 +4,7 @@ ghost use lib.ListN.{length};
 ghost use Rattle.lists.specs.Stands.{Wrote};
 ghost use Rattle.plan.specs.PlanTable.{planNumbered};
 ghost use Rattle.store.specs.Layout.{stateOf};
-ghost use Rattle.store.specs.Workers.{holding, Sized, ofParts};
+ghost use Rattle.store.specs.Workers.{holding, LentSized, lentStore};
 ghost use Rattle.page.specs.Page.{lastSample, mostPageBytes, pageOf};
 ghost use Rattle.page.specs.Promises.{Pages, ServesLength, Serves};
 ghost use Rattle.page.specs.Workers.{Pageable};
@@ -53,8 +53,8 @@ pub fn page_lent<'a>(
     sample: u32,
     buffer: &mut [u8],
 ) -> Answer
-    requires { ⌜ Sized (now counts) (now keys) (now kinds) (now values) (now stamps) ⌝ }
-    ensures { λ r. ⌜ Pages (ofParts plan clock (now (counts .entry)) (now (keys .entry)) (now (kinds .entry)) (now (values .entry)) (now (stamps .entry)) slots) sample (now (buffer .entry)) r (now (buffer .exit)) ⌝ }
+    requires { ⌜ LentSized counts keys kinds values stamps ⌝ }
+    ensures { λ r. ⌜ Pages (lentStore plan clock (counts .entry) (keys .entry) (kinds .entry) (values .entry) (stamps .entry) slots) sample (now (buffer .entry)) r (now (buffer .exit)) ⌝ }
 {
     if !rules::good(plan, clock, counts, keys, kinds, values, stamps, slots) {
         return Answer::bare(Answer::BADSTORE);
@@ -113,8 +113,8 @@ pub fn served_length_lent<'a>(
     sample: u32,
     kept: &[u8],
 ) -> usize
-    requires { ⌜ Sized (now counts) (now keys) (now kinds) (now values) (now stamps) ⌝ }
-    ensures { λ r. ⌜ ServesLength (ofParts plan clock (now (counts .entry)) (now (keys .entry)) (now (kinds .entry)) (now (values .entry)) (now (stamps .entry)) slots) sample (now (kept .entry)) r ⌝ }
+    requires { ⌜ LentSized counts keys kinds values stamps ⌝ }
+    ensures { λ r. ⌜ ServesLength (lentStore plan clock (counts .entry) (keys .entry) (kinds .entry) (values .entry) (stamps .entry) slots) sample (now (kept .entry)) r ⌝ }
 {
     if !rules::good(plan, clock, counts, keys, kinds, values, stamps, slots) {
         return 0; // a bad store

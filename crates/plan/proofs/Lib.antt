@@ -4,3 +4,4 @@ pub mod RulesLaws
 pub mod TableLaws
 pub mod ArrayLaws
 pub mod RowLaws
+pub mod RowsLent

@@ -6,10 +6,12 @@ use mathlib.Core.List.{List, []}
 use Prim.Native.Nat.{ℕ, min}
 use lib.Dec.{ltb}
 use lib.ListN.{length, getD}
+use denote.Ref.{RefT}
 use Rattle.lists.specs.Runs.{run}
 use Rattle.plan.specs.declared.Edge.{Edge}
 use Rattle.plan.specs.Sizes.{mostNodes, mostEdges}
-use Rattle.plan.specs.Plan.{Plan, capacityOf, edgesOf, edgeOf}
+use Rattle.plan.specs.Plan.{Plan, size, capacityOf, edgesOf, edgeOf}
+use Rattle.plan.specs.PlanRules.{PlanRules}
 use Rattle.plan.specs.PlanTable.{planNumbered}
 
 -- A number for each edge, by node and then by edge.
@@ -54,3 +56,16 @@ pub record ArraysOf (plan : ℕ) (edges : List ℕ) (lows highs targets : Grid) 
   pub lows-of : lows ≡ gridOf (λ (e : Edge). e .lowest) (planNumbered plan)
   pub highs-of : highs ≡ gridOf (λ (e : Edge). e .highest) (planNumbered plan)
   pub targets-of : targets ≡ gridOf (λ (e : Edge). e .target) (planNumbered plan)
+
+-- The node count and the rows, taken once and lent, are those of a plan that meets the plan rules.
+pub record RowsOf (p : Plan) (nodes : ℕ) (edges : List ℕ) (lows highs targets : Grid) : Type 0 where
+  pub rules : PlanRules p
+  pub nodes-are : nodes ≡ size p
+  pub edges-are : edges ≡ countsRow p
+  pub lows-are : lows ≡ gridOf (λ (e : Edge). e .lowest) p
+  pub highs-are : highs ≡ gridOf (λ (e : Edge). e .highest) p
+  pub targets-are : targets ≡ gridOf (λ (e : Edge). e .target) p
+
+-- The same over references.
+abbrev pub LentRowsOf : Plan → ℕ → RefT (List ℕ) → RefT Grid → RefT Grid → RefT Grid → Type 0
+LentRowsOf p nodes edges lows highs targets = RowsOf p nodes (edges .now) (lows .now) (highs .now) (targets .now)

@@ -11,7 +11,7 @@ use Rattle.store.specs.declared.Store.{Store}
 use Rattle.store.specs.Answers.{BADSTORE, CLOCK, FULL}
 use Rattle.store.specs.Copies.{WITHDRAWN, RESULT, member}
 use Rattle.store.specs.State.{State, lastClock}
-use Rattle.store.specs.Layout.{planOf, planOf, stateOf}
+use Rattle.store.specs.Layout.{planOf, stateOf}
 use Rattle.store.specs.StoreRules.{goodStore}
 use Rattle.store.specs.Calls.{Effect, onStore}
 use Rattle.store.proofs.Lifting.{plan-good, state-good}

@@ -14,7 +14,7 @@ use Rattle.store.specs.declared.Store.{Store}
 use Rattle.store.specs.Answers.{BADSTORE, bare}
 use Rattle.store.specs.Copies.{member}
 use Rattle.store.specs.State.{State}
-use Rattle.store.specs.Layout.{planOf, planOf, stateOf, storeOf}
+use Rattle.store.specs.Layout.{planOf, stateOf, storeOf}
 use Rattle.store.specs.StoreRules.{StoreRules, goodStore}
 use Rattle.store.specs.Calls.{Effect, onStore, ofStore}
 use Rattle.store.proofs.Ruling.{good-rules, rules-good}

@@ -13,7 +13,7 @@ use Rattle.store.specs.declared.Store.{Store}
 use Rattle.store.specs.Answers.{DONE, BADSTORE, SLOTS, SLOT, IDLE}
 use Rattle.store.specs.Copies.{member}
 use Rattle.store.specs.State.{State, slotCount, idle, line, current}
-use Rattle.store.specs.Layout.{planOf, planOf, stateOf}
+use Rattle.store.specs.Layout.{planOf, stateOf}
 use Rattle.store.specs.StoreRules.{goodStore}
 use Rattle.store.specs.Calls.{Effect, onStore, ofStore}
 use Rattle.store.proofs.Lifting.{plan-good, state-good}

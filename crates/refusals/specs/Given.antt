@@ -13,7 +13,7 @@ use Rattle.store.specs.declared.Store.{Store}
 use Rattle.store.specs.Answers.{DONE, GOING, CLOCK, FULL, NODE, EDGE, SLOTS, SLOT, IDLE, bare}
 use Rattle.store.specs.Copies.{keyOf, find, member}
 use Rattle.store.specs.State.{State, lastClock, nodeAt}
-use Rattle.store.specs.Layout.{planOf, planOf, stateOf}
+use Rattle.store.specs.Layout.{planOf, stateOf}
 use Rattle.store.specs.StoreRules.{goodStore}
 use Rattle.store.specs.Calls.{Effect}
 use Rattle.page.specs.Page.{lastSample}

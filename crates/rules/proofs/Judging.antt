@@ -12,7 +12,7 @@ use Rattle.plan.proofs.TableLaws.{plans-three}
 use Rattle.store.specs.declared.Store.{Store}
 use Rattle.store.specs.Copies.{different}
 use Rattle.store.specs.State.{lastClock, slotCount}
-use Rattle.store.specs.Layout.{planOf, planOf, places, stateOf}
+use Rattle.store.specs.Layout.{planOf, places, stateOf}
 use Rattle.store.specs.StoreRules.{shapeTest, planNumberTest, clockTest, unusedTest, nodeTest, stampsFrom, goodStore}
 use Rattle.store.specs.Workers.{holding, Sized, AllOrdered}
 use Rattle.rules_nodes.specs.Workers.{usedTest, tidyTest}

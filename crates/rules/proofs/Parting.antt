@@ -10,7 +10,7 @@ use Rattle.plan.specs.Plan.{capacityOf, next, path}
 use Rattle.store.specs.declared.Store.{Store}
 use Rattle.store.specs.Copies.{stampOf, member}
 use Rattle.store.specs.State.{inReach}
-use Rattle.store.specs.Layout.{planOf, planOf, width, copyOf, countOf, stateOf}
+use Rattle.store.specs.Layout.{planOf, width, copyOf, countOf, stateOf}
 use Rattle.store.specs.StoreRules.{kindTest, copyTest, placeTest, unusedTest, nodeTest}
 use Rattle.rules_nodes.specs.Workers.{markTest, keyRises, usedTest, tidyTest}
 use Rattle.rules_paths.specs.Workers.{placedTest, pathsTest}

@@ -1,7 +1,7 @@
 // The check of all store rules, on lent columns. Document 01, "Store rules". Its three parts are crates of their own.
 ghost use mathlib.Core.Path.{_≡_};
 ghost use Rattle.store.specs.StoreRules.{goodStore};
-ghost use Rattle.store.specs.Workers.{Sized, ofParts};
+ghost use Rattle.store.specs.Workers.{LentSized, lentStore};
 use store::Slot;
 use store::Store;
 
@@ -16,8 +16,8 @@ pub fn good<'a>(
     stamps: &'a [u32; Store::PLACES],
     slots: [Slot; Store::SLOTS],
 ) -> bool
-    requires { ⌜ Sized (now counts) (now keys) (now kinds) (now values) (now stamps) ⌝ }
-    ensures { λ r. ⌜ r ≡ goodStore (ofParts plan clock (now (counts .entry)) (now (keys .entry)) (now (kinds .entry)) (now (values .entry)) (now (stamps .entry)) slots) ⌝ }
+    requires { ⌜ LentSized counts keys kinds values stamps ⌝ }
+    ensures { λ r. ⌜ r ≡ goodStore (lentStore plan clock (counts .entry) (keys .entry) (kinds .entry) (values .entry) (stamps .entry) slots) ⌝ }
 {
     if plan < 1 {
         return false;

@@ -6,27 +6,28 @@ use Prim.Native.Nat.{ℕ, suc, _+_, _<_, _≤_}
 use native.Mathlib.Omega.{arith}
 use native.Mathlib.Numerals.{add-one}
 use lib.Dec.{ltb, eqb}
-use borrow.Author.Tests.{eq-eqb, ne-eqb, le-leb, lt-leb}
+use borrow.Author.Tests.{le-leb, lt-leb}
 use Rattle.store.specs.declared.Copy.{Copy}
 use Rattle.store.specs.declared.Store.{Store}
-use Rattle.store.specs.Copies.{WITHDRAWN, RESULT}
+use Rattle.store.specs.Copies.{lastKind, hasValue}
 use Rattle.store.specs.Layout.{copyOf}
 use Rattle.store.specs.StoreRules.{kindTest}
 use Rattle.store.specs.Workers.{numberIn}
 use Rattle.rules_nodes.specs.Workers.{markTest, keyRises, usedTest}
 
 module _ (x : Copy) where
-  pub kind-result : x .kind ≡ RESULT → kindTest x ≡ true
+  pub kind-strange : lastKind < x .kind → kindTest x ≡ false
   unfolding kindTest
-  kind-result h = rw (eq-eqb (x .kind) RESULT h)
+  kind-strange h = rw (lt-leb (x .kind) lastKind h)
 
-  pub kind-strange : (x .kind ≡ RESULT → ⊥) → (x .kind ≡ WITHDRAWN → ⊥) → kindTest x ≡ false
-  unfolding kindTest
-  kind-strange h g = rw (ne-eqb (x .kind) RESULT h, ne-eqb (x .kind) WITHDRAWN g)
+  module _ (h : x .kind ≤ lastKind) where
+    pub kind-valued : hasValue (x .kind) ≡ true → kindTest x ≡ true
+    unfolding kindTest
+    kind-valued e = rw (le-leb (x .kind) lastKind h, e)
 
-  pub kind-withdrawn : (x .kind ≡ RESULT → ⊥) → x .kind ≡ WITHDRAWN → kindTest x ≡ eqb (x .value) 0
-  unfolding kindTest
-  kind-withdrawn h g = rw (ne-eqb (x .kind) RESULT h, eq-eqb (x .kind) WITHDRAWN g)
+    pub kind-bare : hasValue (x .kind) ≡ false → kindTest x ≡ eqb (x .value) 0
+    unfolding kindTest
+    kind-bare e = rw (le-leb (x .kind) lastKind h, e)
 
   module _ (clock : ℕ) where
     pub mark-kind : kindTest x ≡ false → markTest clock x ≡ false

@@ -17,7 +17,7 @@ use Rattle.plan.specs.Sizes.{mostNodes}
 use Rattle.plan.specs.Plan.{Node, Plan, noNode, size, capacityOf}
 use Rattle.plan.specs.PlanRules.{PlanRules}
 use Rattle.store.specs.declared.Store.{Store}
-use Rattle.store.specs.Layout.{planOf, planOf, width, countOf}
+use Rattle.store.specs.Layout.{planOf, width, countOf}
 use Rattle.store.specs.StoreRules.{planNumberTest, allZero, unusedTest}
 use Rattle.store.specs.Workers.{numberIn, holding, Ordered, AllOrdered}
 use Rattle.rules_nodes.specs.Workers.{usedTest, tidyTest}

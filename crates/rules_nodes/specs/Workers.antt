@@ -7,7 +7,7 @@ use Rattle.lists.specs.Runs.{allFrom}
 use Rattle.plan.specs.Plan.{capacityOf}
 use Rattle.store.specs.declared.Copy.{Copy}
 use Rattle.store.specs.declared.Store.{Store}
-use Rattle.store.specs.Layout.{planOf, planOf, width, copyOf, countOf}
+use Rattle.store.specs.Layout.{planOf, width, copyOf, countOf}
 use Rattle.store.specs.StoreRules.{kindTest, unusedTest}
 use Rattle.store.specs.Workers.{numberIn}
 

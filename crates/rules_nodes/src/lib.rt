@@ -11,22 +11,22 @@ ghost use Rattle.plan.specs.PlanTable.{planNumbered};
 ghost use Rattle.plan.specs.PlanArrays.{capacitiesRow};
 ghost use Rattle.store.specs.Layout.{places};
 ghost use Rattle.store.specs.StoreRules.{planNumberTest, kindTest, allZero};
-ghost use Rattle.store.specs.Workers.{holding, Sized};
+ghost use Rattle.store.specs.Workers.{holding, LentSized};
 ghost use Rattle.rules_nodes.specs.Workers.{markTest, keyRises, usedTest, tidyTest};
 use plan::arrays;
 use store::Copy;
 use store::Store;
 use store::columns;
 
-// Kind 1, or kind 0 and value 0.
+// A kind that there is, and a value, or 0 where the kind has none.
 fn kind_good(x: Copy) -> bool
     ensures { λ r. ⌜ r ≡ kindTest x ⌝ }
 {
-    if x.kind == 1 {
-        return true;
-    }
-    if x.kind != 0 {
+    if Copy::LAST_KIND < x.kind {
         return false;
+    }
+    if Copy::has_value(x.kind) {
+        return true;
     }
     x.value == 0
 }
@@ -127,7 +127,7 @@ fn node_tidy<'a, 'b>(
     stamps: &'a [u32; Store::PLACES],
     node: u32,
 ) -> bool
-    requires { ⌜ (node < mostNodes) × (planNumberTest plan ≡ true) × Sized (now counts) (now keys) (now kinds) (now values) (now stamps) × (now capacities ≡ capacitiesRow (planNumbered plan)) ⌝ }
+    requires { ⌜ (node < mostNodes) × (planNumberTest plan ≡ true) × LentSized counts keys kinds values stamps × (now capacities ≡ capacitiesRow (planNumbered plan)) ⌝ }
     ensures { λ r. ⌜ r ≡ tidyTest (holding plan clock (now (counts .entry)) (now (keys .entry)) (now (kinds .entry)) (now (values .entry)) (now (stamps .entry))) node ⌝ }
 {
     let n = node as usize;
@@ -153,7 +153,7 @@ pub fn nodes_tidy<'a>(
     values: &'a [u32; Store::PLACES],
     stamps: &'a [u32; Store::PLACES],
 ) -> bool
-    requires { ⌜ (planNumberTest plan ≡ true) × Sized (now counts) (now keys) (now kinds) (now values) (now stamps) ⌝ }
+    requires { ⌜ (planNumberTest plan ≡ true) × LentSized counts keys kinds values stamps ⌝ }
     ensures { λ r. ⌜ r ≡ allBelow mostNodes (tidyTest (holding plan clock (now (counts .entry)) (now (keys .entry)) (now (kinds .entry)) (now (values .entry)) (now (stamps .entry)))) ⌝ }
 {
     let capacities = plan::capacities_of(plan);

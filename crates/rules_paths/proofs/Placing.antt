@@ -17,7 +17,7 @@ use Rattle.store.specs.declared.Copy.{Copy}
 use Rattle.store.specs.declared.Store.{Store}
 use Rattle.store.specs.Copies.{copy, keyOf, find, stampOf, member}
 use Rattle.store.specs.State.{line, orElse, firstOn, inReach}
-use Rattle.store.specs.Layout.{planOf, planOf, planOf, width, copyIn, nodeIn, countOf, nodeOf, stateOf}
+use Rattle.store.specs.Layout.{planOf, planOf, width, copyIn, nodeIn, countOf, nodeOf, stateOf}
 use Rattle.store.specs.Workers.{numberIn}
 use Rattle.store.proofs.Laying.{state-node, state-past}
 use Rattle.store.proofs.Seeking.{find-map}

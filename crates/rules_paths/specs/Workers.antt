@@ -11,7 +11,7 @@ use Rattle.store.specs.declared.Slot.{Slot}
 use Rattle.store.specs.declared.Store.{Store}
 use Rattle.store.specs.Copies.{stampOf, member}
 use Rattle.store.specs.State.{slotCount, idle, inReach}
-use Rattle.store.specs.Layout.{planOf, planOf, width, countOf, stateOf}
+use Rattle.store.specs.Layout.{planOf, width, countOf, stateOf}
 use Rattle.store.specs.StoreRules.{slotTest}
 use Rattle.store.specs.Workers.{numberIn, holding}
 

@@ -10,7 +10,7 @@ use Rattle.store.specs.declared.Outcome.{Outcome}
 use Rattle.store.specs.declared.Store.{Store}
 use Rattle.store.specs.Answers.{BADSTORE, OP, answer, bare}
 use Rattle.store.specs.State.{State}
-use Rattle.store.specs.Layout.{planOf, planOf, planOf, stateOf, storeOf}
+use Rattle.store.specs.Layout.{planOf, planOf, stateOf, storeOf}
 use Rattle.store.specs.StoreRules.{goodStore}
 use Rattle.store.specs.Calls.{Effect, onStore}
 use Rattle.store.proofs.Lifting.{on-bad, on-way, good-back}

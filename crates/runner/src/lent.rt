@@ -1,5 +1,5 @@
 // The steps that leave the columns as they are, searches and unknown ones, on columns lent where they lie.
-ghost use Rattle.store.specs.Workers.{Sized, ofParts};
+ghost use Rattle.store.specs.Workers.{LentSized, lentStore};
 ghost use Rattle.schedule.specs.Running.{unknownStep};
 ghost use Rattle.searches.specs.Workers.{Moves};
 ghost use Rattle.runner.specs.Workers.{LeavesColumns, MovesBy};
@@ -21,8 +21,8 @@ fn unknown_in<'a>(
     stamps: &'a [u32; Store::PLACES],
     slots: [Slot; Store::SLOTS],
 ) -> Moved
-    requires { ⌜ Sized (now counts) (now keys) (now kinds) (now values) (now stamps) ⌝ }
-    ensures { λ r. ⌜ Moves (λ p s. unknownStep 0 s) (ofParts plan clock (now (counts .entry)) (now (keys .entry)) (now (kinds .entry)) (now (values .entry)) (now (stamps .entry)) slots) r ⌝ }
+    requires { ⌜ LentSized counts keys kinds values stamps ⌝ }
+    ensures { λ r. ⌜ Moves (λ p s. unknownStep 0 s) (lentStore plan clock (counts .entry) (keys .entry) (kinds .entry) (values .entry) (stamps .entry) slots) r ⌝ }
 {
     if !rules::good(plan, clock, counts, keys, kinds, values, stamps, slots) {
         return Moved {
@@ -49,8 +49,8 @@ pub fn moved<'a>(
     number: u32,
     x: u32,
 ) -> Moved
-    requires { ⌜ Sized (now counts) (now keys) (now kinds) (now values) (now stamps) × LeavesColumns number ⌝ }
-    ensures { λ r. ⌜ MovesBy number x (ofParts plan clock (now (counts .entry)) (now (keys .entry)) (now (kinds .entry)) (now (values .entry)) (now (stamps .entry)) slots) r ⌝ }
+    requires { ⌜ LentSized counts keys kinds values stamps × LeavesColumns number ⌝ }
+    ensures { λ r. ⌜ MovesBy number x (lentStore plan clock (counts .entry) (keys .entry) (kinds .entry) (values .entry) (stamps .entry) slots) r ⌝ }
 {
     if number == Step::START {
         return slots::start_in(plan, clock, counts, keys, kinds, values, stamps, slots, x);

@@ -15,7 +15,7 @@ use Rattle.store.specs.declared.Found.the-variants.{Held, Nothing}
 use Rattle.store.specs.declared.Store.{Store}
 use Rattle.store.specs.Copies.{keyOf, find, foundOf}
 use Rattle.store.specs.State.{line, firstOn, inReach}
-use Rattle.store.specs.Layout.{planOf, planOf, planOf, nodeOf, stateOf}
+use Rattle.store.specs.Layout.{planOf, planOf, nodeOf, stateOf}
 use Rattle.store.proofs.Laying.{state-node}
 use Rattle.store.proofs.Halving.{found-none, found-some}
 use Rattle.steps.specs.Searches.{visitsOn}

@@ -10,7 +10,7 @@ use Rattle.store.specs.declared.Store.{Store}
 use Rattle.store.specs.Answers.{DONE, answer}
 use Rattle.store.specs.Copies.{foundOf}
 use Rattle.store.specs.State.{inReach, current}
-use Rattle.store.specs.Layout.{planOf, planOf, planOf, stateOf}
+use Rattle.store.specs.Layout.{planOf, planOf, stateOf}
 use Rattle.store.specs.StoreRules.{goodStore}
 use Rattle.store.specs.Calls.{ofStore}
 use Rattle.store.specs.Workers.{holding}

@@ -11,7 +11,7 @@ use Rattle.store.specs.declared.Store.{Store}
 use Rattle.store.specs.Answers.{BADSTORE}
 use Rattle.store.specs.State.{State, slotCount, idle}
 use Rattle.store.specs.StateRules.{OnPath}
-use Rattle.store.specs.Layout.{planOf, planOf, planOf, stateOf, storeOf}
+use Rattle.store.specs.Layout.{planOf, planOf, stateOf, storeOf}
 use Rattle.store.specs.StoreRules.{goodStore}
 use Rattle.store.specs.Calls.{Effect}
 use Rattle.store.proofs.Lifting.{plan-good, state-good, good-back, on-bad, on-way}

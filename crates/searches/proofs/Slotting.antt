@@ -18,7 +18,7 @@ use Rattle.store.specs.declared.Store.{Store}
 use Rattle.store.specs.Answers.{DONE, GOING, SLOTS, SLOT, IDLE, answer, bare}
 use Rattle.store.specs.Copies.{keyOf, find, foundOf}
 use Rattle.store.specs.State.{State, slotCount, slotAt, idle}
-use Rattle.store.specs.Layout.{planOf, planOf, planOf, nodeOf, stateOf}
+use Rattle.store.specs.Layout.{planOf, planOf, nodeOf, stateOf}
 use Rattle.store.specs.Calls.{Effect}
 use Rattle.store.proofs.Halving.{found-none, found-some}
 use Rattle.steps.specs.Searches.{running, lowestIdle, startStep, ended, withRunning, stepStep, cancelStep}

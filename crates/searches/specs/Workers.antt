@@ -13,7 +13,7 @@ use Rattle.store.specs.declared.Store.{Store}
 use Rattle.store.specs.Answers.{bare}
 use Rattle.store.specs.Copies.{foundOf}
 use Rattle.store.specs.State.{State, slotCount, idle, line, current}
-use Rattle.store.specs.Layout.{planOf, planOf, planOf, stateOf}
+use Rattle.store.specs.Layout.{planOf, planOf, stateOf}
 use Rattle.store.specs.Calls.{Effect, onStore}
 use Rattle.store.specs.Workers.{Ordered, ofParts}
 use Rattle.steps.specs.Searches.{startStep, stepStep, cancelStep, visitsOn}

@@ -1,7 +1,7 @@
 // A look down one line's path, on lent columns, and the answers of an ended search or look.
 ghost use mathlib.Core.Path.{_≡_};
 ghost use mathlib.Core.Option.{none, some};
-ghost use Rattle.store.specs.Workers.{holding, Sized, ofParts};
+ghost use Rattle.store.specs.Workers.{holding, LentSized, lentStore};
 ghost use Rattle.plan.specs.PlanTable.{planNumbered};
 ghost use Rattle.store.specs.Layout.{stateOf};
 ghost use Rattle.plan.specs.PlanArrays.{ArraysOf};
@@ -134,8 +134,8 @@ pub fn look_lent<'a>(
     slots: [Slot; Store::SLOTS],
     key: u32,
 ) -> Answer
-    requires { ⌜ Sized (now counts) (now keys) (now kinds) (now values) (now stamps) ⌝ }
-    ensures { λ r. ⌜ Looks (ofParts plan clock (now (counts .entry)) (now (keys .entry)) (now (kinds .entry)) (now (values .entry)) (now (stamps .entry)) slots) key r ⌝ }
+    requires { ⌜ LentSized counts keys kinds values stamps ⌝ }
+    ensures { λ r. ⌜ Looks (lentStore plan clock (counts .entry) (keys .entry) (kinds .entry) (values .entry) (stamps .entry) slots) key r ⌝ }
 {
     if !rules::good(plan, clock, counts, keys, kinds, values, stamps, slots) {
         return Answer::bare(Answer::BADSTORE);

@@ -2,7 +2,7 @@
 ghost use mathlib.Core.Path.{_≡_};
 ghost use Prim.Native.Nat.{_<_};
 ghost use Rattle.store.specs.State.{slotCount, idle};
-ghost use Rattle.store.specs.Workers.{Sized, ofParts};
+ghost use Rattle.store.specs.Workers.{LentSized, lentStore};
 ghost use Rattle.steps.specs.Searches.{running, startStep, stepStep, cancelStep};
 ghost use Rattle.searches.specs.Workers.{stays, turned, Steppable, Running, StartsIn, CancelsIn, StepsIn, Moves};
 use crate::lines;
@@ -115,7 +115,7 @@ fn visited<'a>(
     i: usize,
 ) -> Turn
     requires { ⌜ Running plan (now counts) (now keys) slots i ⌝ }
-    ensures { λ r. ⌜ StepsIn plan (now (counts .entry)) (now (keys .entry)) (now (kinds .entry)) (now (values .entry)) (now (stamps .entry)) slots i r ⌝ }
+    ensures { λ r. ⌜ StepsIn plan (counts .entry) (keys .entry) (kinds .entry) (values .entry) (stamps .entry) slots i r ⌝ }
 {
     let search = slots[i];
     let visits = search.visits + 1;
@@ -152,7 +152,7 @@ fn stepped<'a>(
     slot: u32,
 ) -> Turn
     requires { ⌜ Steppable plan (now counts) (now keys) slots ⌝ }
-    ensures { λ r. ⌜ StepsIn plan (now (counts .entry)) (now (keys .entry)) (now (kinds .entry)) (now (values .entry)) (now (stamps .entry)) slots slot r ⌝ }
+    ensures { λ r. ⌜ StepsIn plan (counts .entry) (keys .entry) (kinds .entry) (values .entry) (stamps .entry) slots slot r ⌝ }
 {
     let i = slot as usize;
     if Store::SLOTS <= i {
@@ -190,8 +190,8 @@ pub fn start_in<'a>(
     slots: [Slot; Store::SLOTS],
     key: u32,
 ) -> Moved
-    requires { ⌜ Sized (now counts) (now keys) (now kinds) (now values) (now stamps) ⌝ }
-    ensures { λ r. ⌜ Moves (startStep key) (ofParts plan clock (now (counts .entry)) (now (keys .entry)) (now (kinds .entry)) (now (values .entry)) (now (stamps .entry)) slots) r ⌝ }
+    requires { ⌜ LentSized counts keys kinds values stamps ⌝ }
+    ensures { λ r. ⌜ Moves (startStep key) (lentStore plan clock (counts .entry) (keys .entry) (kinds .entry) (values .entry) (stamps .entry) slots) r ⌝ }
 {
     let turn = if rules::good(plan, clock, counts, keys, kinds, values, stamps, slots) {
         started(slots, key)
@@ -213,8 +213,8 @@ pub fn step_in<'a>(
     slots: [Slot; Store::SLOTS],
     slot: u32,
 ) -> Moved
-    requires { ⌜ Sized (now counts) (now keys) (now kinds) (now values) (now stamps) ⌝ }
-    ensures { λ r. ⌜ Moves (stepStep slot) (ofParts plan clock (now (counts .entry)) (now (keys .entry)) (now (kinds .entry)) (now (values .entry)) (now (stamps .entry)) slots) r ⌝ }
+    requires { ⌜ LentSized counts keys kinds values stamps ⌝ }
+    ensures { λ r. ⌜ Moves (stepStep slot) (lentStore plan clock (counts .entry) (keys .entry) (kinds .entry) (values .entry) (stamps .entry) slots) r ⌝ }
 {
     let turn = if rules::good(plan, clock, counts, keys, kinds, values, stamps, slots) {
         stepped(plan, counts, keys, kinds, values, stamps, slots, slot)
@@ -236,8 +236,8 @@ pub fn cancel_in<'a>(
     slots: [Slot; Store::SLOTS],
     slot: u32,
 ) -> Moved
-    requires { ⌜ Sized (now counts) (now keys) (now kinds) (now values) (now stamps) ⌝ }
-    ensures { λ r. ⌜ Moves (cancelStep slot) (ofParts plan clock (now (counts .entry)) (now (keys .entry)) (now (kinds .entry)) (now (values .entry)) (now (stamps .entry)) slots) r ⌝ }
+    requires { ⌜ LentSized counts keys kinds values stamps ⌝ }
+    ensures { λ r. ⌜ Moves (cancelStep slot) (lentStore plan clock (counts .entry) (keys .entry) (kinds .entry) (values .entry) (stamps .entry) slots) r ⌝ }
 {
     let turn = if rules::good(plan, clock, counts, keys, kinds, values, stamps, slots) {
         cancelled(slots, slot)

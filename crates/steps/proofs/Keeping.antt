@@ -16,12 +16,13 @@ use Rattle.plan.specs.Plan.{Plan, size, capacityOf, edgeOf}
 use Rattle.plan.specs.PlanRules.{IsEdge, PlanRules}
 use Rattle.store.specs.declared.Copy.{Copy}
 use Rattle.store.specs.declared.Slot.{Slot}
-use Rattle.store.specs.Copies.{WITHDRAWN, RESULT, copy, keyOf}
+use Rattle.store.specs.Copies.{hasValue, Kind, kindNumber, valueHeld, copy, keyOf}
+use Rattle.store.specs.Copies.Kind.{withdrawn, result}
 use Rattle.store.specs.State.{State, nodeAt, slotAt, idle, line, lastClock, slotCount}
 use Rattle.store.specs.StateRules.{KindAndValue, OnPath, StateRules}
 use Rattle.store.specs.Calls.{Effect}
 use Rattle.store.proofs.Lifting.{Keeps}
-use Rattle.steps.specs.Entries.{room, entered, entry, enterStep, withdrawStep}
+use Rattle.steps.specs.Entries.{room, entered, entry, entryStep}
 use Rattle.steps.specs.Carries.{Merged, bit, mergeAlong, carriedTo, carriedOut, carryStep}
 use Rattle.steps.specs.Searches.{running, withSlot, startStep, stepStep, cancelStep}
 use Rattle.steps.proofs.NodeLists.{put-rising, put-fits}
@@ -129,11 +130,14 @@ entry-keeps kind k v fit p rules s good = go (entry-way kind k v p s)
     go (root-full h f g) = good
     go (enters h r) = entered-keeps p rules s good (copy k kind v (s .clock)) refl (fit (s .clock)) h r
 
-pub enter-keeps : (k v : ℕ) → Keeps (enterStep k v)
-enter-keeps k v = entry-keeps RESULT k v (λ t. inl refl)
+-- A copy of an entry has a kind that there is, and a value or 0.
+pub entry-fits : (kind : Kind) (k v t : ℕ) → KindAndValue (copy k (kindNumber kind) (valueHeld kind v) t)
+unfolding hasValue
+entry-fits withdrawn k v t = (omega arith, inr refl)
+entry-fits result k v t = (omega arith, inl refl)
 
-pub withdraw-keeps : (k : ℕ) → Keeps (withdrawStep k)
-withdraw-keeps k = entry-keeps WITHDRAWN k 0 (λ t. inr (refl, refl))
+pub kind-keeps : (kind : Kind) (k v : ℕ) → Keeps (entryStep kind k v)
+kind-keeps kind k v = entry-keeps (kindNumber kind) k (valueHeld kind v) (entry-fits kind k v)
 
 pub carry-keeps : (n i : ℕ) → Keeps (carryStep n i)
 carry-keeps n i p rules s good = go (carry-way n i p s)

@@ -7,7 +7,8 @@ use lib.ListN.{length, set}
 use Rattle.plan.specs.Plan.{Plan, capacityOf}
 use Rattle.store.specs.declared.Copy.{Copy}
 use Rattle.store.specs.Answers.{DONE, CLOCK, FULL, answer, bare}
-use Rattle.store.specs.Copies.{WITHDRAWN, RESULT, copy, keyOf, find, isSome}
+use Rattle.store.specs.Copies.{Kind, kindNumber, valueHeld, copy, keyOf, find, isSome}
+use Rattle.store.specs.Copies.Kind.{withdrawn, result}
 use Rattle.store.specs.State.{State, lastClock, nodeAt}
 use Rattle.store.specs.Calls.{Effect}
 
@@ -37,10 +38,14 @@ entry kind k v p s =
     (refused FULL s))
     (refused CLOCK s)
 
+-- An entry by the name of its kind.
+abbrev pub entryStep : Kind → ℕ → ℕ → Plan → State → Effect
+entryStep kind k v = entry (kindNumber kind) k (valueHeld kind v)
+
 -- Enter: an entry of a result.
 abbrev pub enterStep : ℕ → ℕ → Plan → State → Effect
-enterStep k v = entry RESULT k v
+enterStep k v = entryStep result k v
 
--- "a withdrawn copy holds 0"
+-- Withdraw: an entry without a value.
 abbrev pub withdrawStep : ℕ → Plan → State → Effect
-withdrawStep k = entry WITHDRAWN k 0
+withdrawStep k = entryStep withdrawn k 0

@@ -11,7 +11,7 @@ use Rattle.store.specs.declared.Copy.{Copy}
 use Rattle.store.specs.declared.Store.{Store}
 use Rattle.store.specs.Copies.{keyOf}
 use Rattle.store.specs.State.{nodeAt}
-use Rattle.store.specs.Layout.{planOf, planOf, width, nodeIn, nodeOf, countOf, stateOf, column, storeOf}
+use Rattle.store.specs.Layout.{planOf, width, nodeIn, nodeOf, countOf, stateOf, column, storeOf}
 use Rattle.store.specs.StoreRules.{goodStore}
 use Rattle.store.specs.Workers.{below, placeIn, RisesIn}
 use Rattle.store.proofs.Lifting.{plan-good, good-ordered, good-back}

@@ -19,7 +19,7 @@ use Rattle.store.specs.declared.Copy.{Copy}
 use Rattle.store.specs.declared.Store.{Store}
 use Rattle.store.specs.Copies.{noCopy, keyOf, find, foundOf}
 use Rattle.store.specs.State.{State, nodeAt, copyAt, slotCount}
-use Rattle.store.specs.Layout.{planOf, planOf, width, places, copyIn, nodeIn, copyOf, countOf, nodeOf, stateOf, placeOf, column, storeOf, Shape}
+use Rattle.store.specs.Layout.{planOf, width, places, copyIn, nodeIn, copyOf, countOf, nodeOf, stateOf, placeOf, column, storeOf, Shape}
 use Rattle.store.specs.StateRules.{StateRules}
 use Rattle.store.specs.StoreRules.{StoreRules}
 

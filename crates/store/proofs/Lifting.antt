@@ -20,7 +20,7 @@ use Rattle.store.specs.declared.Store.{Store}
 use Rattle.store.specs.Answers.{BADSTORE, bare}
 use Rattle.store.specs.State.{State, nodeAt, slotAt, slotCount, idle, fresh}
 use Rattle.store.specs.StateRules.{StateRules, HeldAt}
-use Rattle.store.specs.Layout.{planOf, planOf, width, countOf, stateOf, storeOf, freshStore}
+use Rattle.store.specs.Layout.{planOf, width, countOf, stateOf, storeOf, freshStore}
 use Rattle.store.specs.StoreRules.{StoreRules, goodStore}
 use Rattle.store.specs.Workers.{RisesIn, Ordered}
 use Rattle.store.specs.Calls.{Effect, onStore, ofStore}

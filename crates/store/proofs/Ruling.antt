@@ -17,7 +17,7 @@ use Rattle.store.specs.declared.Store.{Store}
 use Rattle.store.specs.Copies.{noCopy, different}
 use Rattle.store.specs.State.{State, copyAt, slotAt, idle, lastClock, slotCount}
 use Rattle.store.specs.StateRules.{HeldAt, StateRules}
-use Rattle.store.specs.Layout.{planOf, planOf, width, places, copyOf, countOf, stateOf, Shape}
+use Rattle.store.specs.Layout.{planOf, width, places, copyOf, countOf, stateOf, Shape}
 use Rattle.store.specs.StoreRules.{StoreRules, shapeTest, planNumberTest, clockTest, placeTest, nodeTest, stampsFrom, slotTest, goodStore}
 use Rattle.store.proofs.Laying.{length-nodes, state-clock, state-slots, state-count, state-copy}
 use Rattle.store.proofs.RulingParts.{held-placed, placed-held, CopyRules, copy-rules, rules-copy, order-rule, rule-order, slot-idle, slot-runs, rules-slot, unused-rule, rule-unused}

@@ -1,7 +1,7 @@
 -- The store rules and their tests part by part: a place held, a copy, a search slot and unused places. Assumes nothing.
-use mathlib.Core.Path.{_≡_, ap}
-use mathlib.Core.Bool.{true, _&&_, _||_}
-use mathlib.Core.Logic.{⊎-elim, inl, inr}
+use mathlib.Core.Path.{_≡_, refl, ap}
+use mathlib.Core.Bool.{Bool, true, false, _&&_, _||_}
+use mathlib.Core.Logic.{_⊎_, ⊎-elim, inl, inr}
 use Prim.Native.Nat.{ℕ, _+_, _*_, _<_, _≤_}
 use native.Mathlib.Omega.{arith}
 use native.Mathlib.Decide.{decLt, ℕ-discrete}
@@ -13,10 +13,10 @@ use Rattle.plan.specs.Plan.{Plan, size, next, path}
 use Rattle.store.specs.declared.Copy.{Copy}
 use Rattle.store.specs.declared.Slot.{Slot}
 use Rattle.store.specs.declared.Store.{Store}
-use Rattle.store.specs.Copies.{WITHDRAWN, RESULT, noCopy, stampOf, member}
+use Rattle.store.specs.Copies.{lastKind, hasValue, noCopy, stampOf, member}
 use Rattle.store.specs.State.{State, copyAt, idle, inReach}
 use Rattle.store.specs.StateRules.{HeldAt, KindAndValue, OnPath}
-use Rattle.store.specs.Layout.{planOf, planOf, width, copyOf, countOf, stateOf}
+use Rattle.store.specs.Layout.{planOf, width, copyOf, countOf, stateOf}
 use Rattle.store.specs.StoreRules.{kindTest, copyTest, unusedTest, slotTest}
 use Rattle.store.proofs.Laying.{state-past, state-count, state-copy}
 use Rattle.store.proofs.RulingLists.{member-at, at-member, stands-at, at-stands, zeros-between, between-zeros}
@@ -43,23 +43,18 @@ module _ (z : Store) where
 -- Kinds and values.
 kind-rule : (x : Copy) → kindTest x ≡ true → KindAndValue x
 unfolding kindTest
-kind-rule x t = go (ℕ-discrete (x .kind) RESULT)
+kind-rule x t = (leb-true (x .kind) lastKind (search and-left), go (hasValue (x .kind)) (and-right (leb (x .kind) lastKind) _ t))
   where
-    go : Dec (x .kind ≡ RESULT) → KindAndValue x
-    go (yes e) = inl e
-    go (no e) =
-        let withdrawn = rw (ne-eqb (x .kind) RESULT e) at t in
-        inr (eqb-true (x .kind) WITHDRAWN (search and-left), eqb-true (x .value) 0 (search and-right))
+    go : (had : Bool) → (had || eqb (x .value) 0) ≡ true → (had ≡ true) ⊎ (x .value ≡ 0)
+    go true e = inl refl
+    go false e = inr (eqb-true (x .value) 0 e)
 
 rule-kind : (x : Copy) → KindAndValue x → kindTest x ≡ true
 unfolding kindTest
 rule-kind x r =
-    ⊎-elim (λ (a : x .kind ≡ RESULT).
-    or-left (eqb (x .kind) RESULT) (eqb (x .kind) WITHDRAWN && eqb (x .value) 0) (eq-eqb (x .kind) RESULT a))
-    (λ (a : (x .kind ≡ WITHDRAWN) × (x .value ≡ 0)).
-    or-right (eqb (x .kind) RESULT) (eqb (x .kind) WITHDRAWN && eqb (x .value) 0)
-    (and-both (eq-eqb (x .kind) WITHDRAWN (a .0)) (eq-eqb (x .value) 0 (a .1))))
-    r
+    and-both (le-leb (x .kind) lastKind (r .0))
+    (⊎-elim (λ (a : hasValue (x .kind) ≡ true). or-left (hasValue (x .kind)) (eqb (x .value) 0) a)
+    (λ (a : x .value ≡ 0). or-right (hasValue (x .kind)) (eqb (x .value) 0) (eq-eqb (x .value) 0 a)) (r .1))
 
 -- The rules of a copy x that node n holds.
 pub record CopyRules (p : Plan) (s : State) (n : ℕ) (x : Copy) : Type 0 where

@@ -6,7 +6,7 @@ use Rattle.store.specs.declared.Outcome.{Outcome}
 use Rattle.store.specs.declared.Store.{Store}
 use Rattle.store.specs.Answers.{BADSTORE, bare}
 use Rattle.store.specs.State.{State}
-use Rattle.store.specs.Layout.{planOf, planOf, stateOf, storeOf}
+use Rattle.store.specs.Layout.{planOf, stateOf, storeOf}
 use Rattle.store.specs.StoreRules.{goodStore}
 
 -- What a step does: its answer, and the state after it.

@@ -17,6 +17,29 @@ WITHDRAWN = 0
 abbrev pub RESULT : ℕ
 RESULT = 1
 
+-- The largest number of a kind.
+abbrev pub lastKind : ℕ
+lastKind = RESULT
+
+-- A copy of this kind has a value; of any other kind it holds 0.
+unfoldable pub hasValue : ℕ → Bool
+hasValue kind = eqb kind RESULT
+
+-- The kinds of entries by name: a withdrawal and a result.
+pub data Kind : Type 0 where
+  withdrawn : Kind
+  result : Kind
+
+-- The number of a kind.
+abbrev pub kindNumber : Kind → ℕ
+kindNumber withdrawn = WITHDRAWN
+kindNumber result = RESULT
+
+-- What an entry of this kind holds where a value is given: "a withdrawn copy holds 0".
+abbrev pub valueHeld : Kind → ℕ → ℕ
+valueHeld withdrawn v = 0
+valueHeld result v = v
+
 -- "A copy has a key, a kind (0 withdrawn, 1 result), a value .. and a stamp."
 abbrev pub copy : ℕ → ℕ → ℕ → ℕ → Copy
 copy k kind v t = record { key = k; kind = kind; value = v; stamp = t }

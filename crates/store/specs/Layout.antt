@@ -1,4 +1,4 @@
--- How the declared store holds a state: 512 places in four columns, 64 places to each of 8 nodes.
+-- How the declared store holds a state: places in four columns, as many to each node.
 -- The only file of the store's definitions that knows columns, width and padding.
 use mathlib.Core.Path.{_≡_}
 use mathlib.Core.List.{List, []}
@@ -9,11 +9,12 @@ use Rattle.plan.specs.Sizes.{mostNodes, mostCapacity}
 use Rattle.plan.specs.Plan.{Plan, size}
 use Rattle.plan.specs.PlanTable.{planNumbered}
 use Rattle.store.specs.declared.Copy.{Copy}
+use Rattle.store.specs.declared.Slot.{Slot}
 use Rattle.store.specs.declared.Store.{Store}
 use Rattle.store.specs.Copies.{noCopy}
 use Rattle.store.specs.State.{State, slotCount, fresh}
 
--- 64 places to each node.
+-- As many places to each node as it may have copies.
 abbrev pub width : ℕ
 width = mostCapacity
 
@@ -45,9 +46,14 @@ nodeOf z n = nodeIn (z .counts) (z .keys) (z .kinds) (z .values) (z .stamps) n
 abbrev pub planOf : Store → Plan
 planOf z = planNumbered (z .plan)
 
+-- The state that these parts hold, of so many nodes.
+abbrev pub stateIn : ℕ → ℕ → List ℕ → List ℕ → List ℕ → List ℕ → List ℕ → List Slot → State
+stateIn nodes clock counts keys kinds values stamps slots =
+    record { clock = clock; nodes = run 0 nodes (nodeIn counts keys kinds values stamps); slots = slots }
+
 -- The state of a store.
 unfoldable pub stateOf : Store → State
-stateOf z = record { clock = z .clock; nodes = run 0 (size (planOf z)) (nodeOf z); slots = z .slots }
+stateOf z = stateIn (size (planOf z)) (z .clock) (z .counts) (z .keys) (z .kinds) (z .values) (z .stamps) (z .slots)
 
 -- What stands at a place where the nodes hold these lists: past a node's copies the empty copy.
 abbrev pub placeOf : List (List Copy) → ℕ → Copy

@@ -1,20 +1,21 @@
 -- The store rules that speak of nodes, copies, stamps and searches, a field for each. Document 01, "Store rules".
 use mathlib.Core.Path.{_≡_}
+use mathlib.Core.Bool.{true}
 use mathlib.Core.Logic.{_⊎_}
 use Prim.Native.Nat.{ℕ, suc, _<_, _≤_}
 use lib.ListN.{length, getD}
 use Rattle.plan.specs.Plan.{Plan, size, capacityOf, path}
 use Rattle.store.specs.declared.Copy.{Copy}
-use Rattle.store.specs.Copies.{WITHDRAWN, RESULT}
+use Rattle.store.specs.Copies.{lastKind, hasValue}
 use Rattle.store.specs.State.{State, nodeAt, copyAt, slotAt, idle, lastClock, slotCount}
 
 -- Node n holds a copy at place i.
 abbrev pub HeldAt : State → ℕ → ℕ → Type 0
 HeldAt s n i = i < length (nodeAt s n)
 
--- Kinds 0 and 1; "a withdrawn copy holds 0".
+-- A kind that there is; and a copy whose kind has no value holds 0.
 abbrev pub KindAndValue : Copy → Type 0
-KindAndValue x = (x .kind ≡ RESULT) ⊎ ((x .kind ≡ WITHDRAWN) × (x .value ≡ 0))
+KindAndValue x = (x .kind ≤ lastKind) × ((hasValue (x .kind) ≡ true) ⊎ (x .value ≡ 0))
 
 -- The node stands on the key's path, with so many path nodes above it.
 pub record OnPath (p : Plan) (k n above : ℕ) : Type 0 where

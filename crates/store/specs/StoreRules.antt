@@ -13,10 +13,10 @@ use Rattle.plan.specs.PlanTable.{plans}
 use Rattle.store.specs.declared.Copy.{Copy}
 use Rattle.store.specs.declared.Slot.{Slot}
 use Rattle.store.specs.declared.Store.{Store}
-use Rattle.store.specs.Copies.{WITHDRAWN, RESULT, noCopy, stampOf, member, different}
+use Rattle.store.specs.Copies.{lastKind, hasValue, noCopy, stampOf, member, different}
 use Rattle.store.specs.State.{State, lastClock, slotCount, idle, inReach}
 use Rattle.store.specs.StateRules.{StateRules}
-use Rattle.store.specs.Layout.{planOf, planOf, width, places, copyOf, countOf, stateOf, Shape}
+use Rattle.store.specs.Layout.{planOf, width, places, copyOf, countOf, stateOf, Shape}
 
 -- The store rules.
 pub record StoreRules (z : Store) : Type 0 where
@@ -45,9 +45,9 @@ planNumberTest plan = leb 1 plan && leb plan plans
 unfoldable pub clockTest : ℕ → Bool
 clockTest clock = leb 1 clock && leb clock lastClock
 
--- Kind 1, or kind 0 and value 0.
+-- A kind that there is, and a value, or 0 where the kind has none.
 unfoldable pub kindTest : Copy → Bool
-kindTest x = eqb (x .kind) RESULT || (eqb (x .kind) WITHDRAWN && eqb (x .value) 0)
+kindTest x = leb (x .kind) lastKind && (hasValue (x .kind) || eqb (x .value) 0)
 
 -- A copy held in node n: kind and value, stamp, path, and a stamp above that of the next copy down its path.
 unfoldable pub copyTest : Plan → State → ℕ → Copy → Bool

@@ -7,10 +7,14 @@ use lib.Dec.{ltb}
 use lib.ListN.{length, getD, take, drop}
 use lib.Seq.{slice}
 use Rattle.lists.specs.Runs.{run}
+use denote.Ref.{RefT}
 use Rattle.plan.specs.Sizes.{mostNodes}
+use Rattle.plan.specs.Plan.{Plan}
+use Rattle.plan.specs.PlanArrays.{Grid, RowsOf}
 use Rattle.store.specs.declared.Slot.{Slot}
 use Rattle.store.specs.declared.Store.{Store}
-use Rattle.store.specs.Layout.{width, places}
+use Rattle.store.specs.State.{State}
+use Rattle.store.specs.Layout.{width, places, stateIn}
 
 -- The number of a column at a place.
 abbrev pub numberIn : List ℕ → ℕ → ℕ
@@ -62,6 +66,31 @@ ofParts plan clock counts keys kinds values stamps slots =
 -- The same for a look: it reads no searches, so there are none.
 abbrev pub holding : ℕ → ℕ → List ℕ → List ℕ → List ℕ → List ℕ → List ℕ → Store
 holding plan clock counts keys kinds values stamps = ofParts plan clock counts keys kinds values stamps []
+
+-- The store whose columns are lent.
+abbrev pub lentStore : ℕ → ℕ → RefT (List ℕ) → RefT (List ℕ) → RefT (List ℕ) → RefT (List ℕ) → RefT (List ℕ) → List Slot → Store
+lentStore plan clock counts keys kinds values stamps slots =
+    ofParts plan clock (counts .now) (keys .now) (kinds .now) (values .now) (stamps .now) slots
+
+-- The state that a look reads: of so many nodes, whose columns are lent.
+abbrev pub lentState : ℕ → RefT (List ℕ) → RefT (List ℕ) → RefT (List ℕ) → RefT (List ℕ) → RefT (List ℕ) → State
+lentState nodes counts keys kinds values stamps =
+    stateIn nodes 0 (counts .now) (keys .now) (kinds .now) (values .now) (stamps .now) []
+
+-- Lent columns that are as long as a store's.
+abbrev pub LentSized : RefT (List ℕ) → RefT (List ℕ) → RefT (List ℕ) → RefT (List ℕ) → RefT (List ℕ) → Type 0
+LentSized counts keys kinds values stamps = Sized (counts .now) (keys .now) (kinds .now) (values .now) (stamps .now)
+
+-- What a look down a path asks for: the rows of a plan, and nodes in which a look can go by halves. A good store has both.
+pub record Lookable (nodes : ℕ) (edges : List ℕ) (lows highs targets : Grid) (counts keys : List ℕ) : Type 0 where
+  pub plan : Plan
+  pub rows : RowsOf plan nodes edges lows highs targets
+  pub ordered : AllOrdered counts keys
+
+-- The same over references.
+abbrev pub LentLookable : ℕ → RefT (List ℕ) → RefT Grid → RefT Grid → RefT Grid → RefT (List ℕ) → RefT (List ℕ) → Type 0
+LentLookable nodes edges lows highs targets counts keys =
+    Lookable nodes (edges .now) (lows .now) (highs .now) (targets .now) (counts .now) (keys .now)
 
 -- A list with x put in at a place; those from there up to end stand one place further up, over the one that stood at end.
 unfoldable pub opened : {A : Type 0} → List A → ℕ → ℕ → A → List A

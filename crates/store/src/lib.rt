@@ -1,6 +1,7 @@
 // The store: its data, its sizes, the answers, and the making of a fresh store. Document 01, "Lines, copies, plans".
 ghost use mathlib.Core.Path.{_≡_};
 ghost use Rattle.store.specs.Answers.{answer, bare};
+ghost use Rattle.store.specs.Copies.{hasValue};
 ghost use Rattle.store.specs.Layout.{freshStore};
 ghost use Rattle.store.specs.StoreRules.{planNumberTest};
 ghost use Rattle.store.specs.Promises.{Freshens};
@@ -61,11 +62,20 @@ pub enum Found {
     Nothing,
 }
 
-// The kinds of copies.
+// The kinds of copies, the largest of them, and which have a value.
 impl Copy {
     pub const WITHDRAWN: u32 = 0;
 
     pub const RESULT: u32 = 1;
+
+    pub const LAST_KIND: u32 = Copy::RESULT;
+
+    // A copy of this kind has a value; of any other kind it holds 0.
+    pub fn has_value(kind: u32) -> bool
+        ensures { λ r. ⌜ r ≡ hasValue kind ⌝ }
+    {
+        kind == Copy::RESULT
+    }
 }
 
 // The answer numbers, in the table's order.

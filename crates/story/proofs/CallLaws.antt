@@ -15,7 +15,7 @@ use Rattle.store.specs.declared.Store.{Store}
 use Rattle.store.specs.Answers.{DONE, answer}
 use Rattle.store.specs.Copies.{keyOf}
 use Rattle.store.specs.State.{State, nodeAt, line}
-use Rattle.store.specs.Layout.{planOf, planOf, planOf, countOf, nodeOf, stateOf}
+use Rattle.store.specs.Layout.{planOf, planOf, countOf, nodeOf, stateOf}
 use Rattle.store.specs.StoreRules.{goodStore}
 use Rattle.store.proofs.Laying.{state-node, state-count}
 use Rattle.store.proofs.Lifting.{of-good, plan-good, state-good}

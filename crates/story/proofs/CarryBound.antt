@@ -16,7 +16,7 @@ use Rattle.plan.proofs.TableLaws.{table-rules}
 use Rattle.store.specs.declared.Copy.{Copy}
 use Rattle.store.specs.declared.Store.{Store}
 use Rattle.store.specs.State.{lastClock, fresh}
-use Rattle.store.specs.Layout.{planOf, planOf, planOf, stateOf, storeOf, freshStore}
+use Rattle.store.specs.Layout.{planOf, planOf, stateOf, storeOf, freshStore}
 use Rattle.store.specs.StoreRules.{planNumberTest, goodStore}
 use Rattle.store.specs.Promises.{freshOutcome}
 use Rattle.store.proofs.Lifting.{plan-good, state-good, fresh-back, fresh-good}

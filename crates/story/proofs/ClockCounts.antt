@@ -13,7 +13,7 @@ use Rattle.store.specs.declared.Store.{Store}
 use Rattle.store.specs.Answers.{DONE}
 use Rattle.store.specs.Copies.{WITHDRAWN, RESULT, copy}
 use Rattle.store.specs.State.{State, fresh as freshState}
-use Rattle.store.specs.Layout.{planOf, planOf, planOf, stateOf, storeOf, freshStore}
+use Rattle.store.specs.Layout.{planOf, planOf, stateOf, storeOf, freshStore}
 use Rattle.store.specs.StoreRules.{goodStore}
 use Rattle.store.specs.Calls.{Effect}
 use Rattle.store.proofs.Lifting.{state-good, fresh-good}

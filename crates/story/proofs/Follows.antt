@@ -17,7 +17,7 @@ use Rattle.store.specs.declared.Outcome.{Outcome}
 use Rattle.store.specs.declared.Store.{Store}
 use Rattle.store.specs.Copies.{isSome}
 use Rattle.store.specs.State.{State}
-use Rattle.store.specs.Layout.{planOf, planOf, planOf, stateOf}
+use Rattle.store.specs.Layout.{planOf, planOf, stateOf}
 use Rattle.store.specs.StoreRules.{planNumberTest, goodStore}
 use Rattle.store.specs.Calls.{Effect, onStore}
 use Rattle.store.specs.Promises.{freshOutcome}

@@ -13,7 +13,7 @@ use Rattle.plan.specs.PlanTable.{planNumbered, plans}
 use Rattle.store.specs.declared.Store.{Store}
 use Rattle.store.specs.Copies.{isSome}
 use Rattle.store.specs.State.{State, line}
-use Rattle.store.specs.Layout.{planOf, planOf, planOf, stateOf, freshStore}
+use Rattle.store.specs.Layout.{planOf, planOf, stateOf, freshStore}
 use Rattle.store.specs.StoreRules.{goodStore}
 use Rattle.store.proofs.Lifting.{plan-good, state-good, fresh-back}
 use Rattle.steps.specs.Carries.{bit}

@@ -19,7 +19,7 @@ use Rattle.store.specs.Answers.{answer}
 use Rattle.store.specs.Copies.{WITHDRAWN, RESULT, copy, noCopy}
 use Rattle.store.specs.State.{State, nodeAt, copyAt, line}
 use Rattle.store.specs.StateRules.{HeldAt}
-use Rattle.store.specs.Layout.{planOf, planOf, planOf, stateOf}
+use Rattle.store.specs.Layout.{planOf, planOf, stateOf}
 use Rattle.store.specs.StoreRules.{planNumberTest, goodStore}
 use Rattle.store.specs.Promises.{freshOutcome}
 use Rattle.store.proofs.Laying.{state-past}

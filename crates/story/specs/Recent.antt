@@ -13,7 +13,7 @@ use Rattle.store.specs.declared.Store.{Store}
 use Rattle.store.specs.Answers.{DONE, answer}
 use Rattle.store.specs.Copies.{stampOf}
 use Rattle.store.specs.State.{current}
-use Rattle.store.specs.Layout.{planOf, planOf, planOf, stateOf}
+use Rattle.store.specs.Layout.{planOf, planOf, stateOf}
 use Rattle.steps.specs.Searches.{ended}
 use Rattle.theory.specs.Events.{held, goesOn, ownSteps}
 use Rattle.theory.specs.Events.Event.{starts, steps}

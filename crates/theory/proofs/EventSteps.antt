@@ -14,6 +14,7 @@ use Rattle.plan.specs.PlanRules.{PlanRules}
 use Rattle.store.specs.declared.Copy.{Copy}
 use Rattle.store.specs.Answers.{DONE}
 use Rattle.store.specs.Copies.{WITHDRAWN, RESULT, copy}
+use Rattle.store.specs.Copies.Kind.{withdrawn, result}
 use Rattle.store.specs.State.{State, line}
 use Rattle.store.specs.StateRules.{StateRules}
 use Rattle.store.specs.Calls.{Effect}
@@ -25,7 +26,7 @@ use Rattle.steps.proofs.LineSteps.{LineThrough, entered-line, entry-line, carry
 use Rattle.steps.proofs.LineSteps.LineStep.{same}
 use Rattle.steps.proofs.LinesKept.{Came, came, clock-grows}
 use Rattle.steps.proofs.LinesKept.Came.{stood, moved, entered as came-in}
-use Rattle.steps.proofs.Keeping.{enter-keeps, withdraw-keeps, carry-keeps, start-keeps, step-keeps, cancel-keeps}
+use Rattle.steps.proofs.Keeping.{kind-keeps, carry-keeps, start-keeps, step-keeps, cancel-keeps}
 use Rattle.steps.proofs.Refusals.{Unaltered, entry-unaltered, carry-unaltered, start-unaltered, step-unaltered, cancel-unaltered}
 use Rattle.theory.specs.Events.{Event, effect, after, run, entryOf, ofLine, carriesLine}
 use Rattle.theory.specs.Events.Event.{enters, withdraws, carries, starts, steps, cancels, asks}
@@ -90,8 +91,8 @@ module _ (p : Plan) (rules : PlanRules p) where
   -- Every event keeps all state rules,
   pub event-keeps : (e : Event) (s : State) → StateRules p s → StateRules p (after p e s)
   unfolding effect
-  event-keeps (enters k v) s good = enter-keeps k v p rules s good
-  event-keeps (withdraws k) s good = withdraw-keeps k p rules s good
+  event-keeps (enters k v) s good = kind-keeps result k v p rules s good
+  event-keeps (withdraws k) s good = kind-keeps withdrawn k 0 p rules s good
   event-keeps (carries n i) s good = carry-keeps n i p rules s good
   event-keeps (starts k) s good = start-keeps k p rules s good
   event-keeps (steps i) s good = step-keeps i p rules s good

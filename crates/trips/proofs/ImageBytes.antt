@@ -12,7 +12,7 @@ use Rattle.plan.proofs.TableLaws.{plans-three}
 use Rattle.store.specs.declared.Copy.{Copy}
 use Rattle.store.specs.declared.Store.{Store}
 use Rattle.store.specs.Copies.{RESULT, noCopy}
-use Rattle.store.specs.Layout.{planOf, planOf, planOf, stateOf}
+use Rattle.store.specs.Layout.{planOf, planOf, stateOf}
 use Rattle.store.specs.StoreRules.{StoreRules}
 use Rattle.wire.proofs.ByteStrings.{no-bytes, bytes-join}
 use Rattle.image.specs.Image.{formatNumber, valueBytes, copyBytes, copiesBytes, nodeBytes, nodesBytes, imageOf, image, Declared}

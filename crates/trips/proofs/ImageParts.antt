@@ -2,7 +2,7 @@
 use mathlib.Core.Path.{_≡_, refl, sym, ap, _∙_}
 use mathlib.Core.Bool.{Bool, true, false, cond}
 use mathlib.Core.List.{List, [], _∷_, _++_}
-use mathlib.Core.Logic.{inl, inr}
+use mathlib.Core.Logic.{⊎-elim}
 use Prim.Native.Nat.{ℕ, zero, suc, _<_, _≤_}
 use native.Mathlib.Omega.{arith}
 use lib.Dec.{ltb, eqb}
@@ -16,7 +16,7 @@ use Rattle.plan.specs.Sizes.{mostCapacity, lastKey}
 use Rattle.plan.specs.Plan.{Node, Plan, size, capacityOf}
 use Rattle.store.specs.declared.Copy.{Copy}
 use Rattle.store.specs.Answers.{RULE}
-use Rattle.store.specs.Copies.{RESULT, noCopy}
+use Rattle.store.specs.Copies.{RESULT, hasValue, noCopy}
 use Rattle.store.specs.State.{lastClock}
 use Rattle.store.specs.StateRules.{KindAndValue}
 use Rattle.wire.specs.Reading.{got, numberAt}
@@ -39,13 +39,12 @@ pub record Writable (x : Copy) : Type 0 where
   pub stamp : x .stamp ≤ lastClock
 
 pub kind-small : (x : Copy) → KindAndValue x → x .kind < 2
-kind-small x (inl r) = omega arith
-kind-small x (inr w) = let k = w .0 in omega arith
+kind-small x w = let k = w .0 in omega arith
 
 -- What is not a result holds 0.
 no-value : (x : Copy) → KindAndValue x → eqb (x .kind) RESULT ≡ false → x .value ≡ 0
-no-value x (inl r) t = absurd (not-both (eq-eqb (x .kind) RESULT r) t)
-no-value x (inr w) t = w .1
+unfolding hasValue
+no-value x w t = ⊎-elim (λ (r : hasValue (x .kind) ≡ true). absurd (not-both r t)) (λ (v : x .value ≡ 0). v) (w .1)
 
 module _ {s : List ℕ} where
   value-back : {at : ℕ} (t : Bool) {v next : ℕ} → (t ≡ false → v ≡ 0) → v ≤ lastValue → Stands s at (cond t (form v) []) next

@@ -21,7 +21,7 @@ use Rattle.store.specs.declared.Store.{Store}
 use Rattle.store.specs.Answers.{PLAN, FORMAT, RULE}
 use Rattle.store.specs.Copies.{noCopy}
 use Rattle.store.specs.State.{State, lastClock, nodeAt, copyAt}
-use Rattle.store.specs.Layout.{planOf, planOf, planOf, width, copyOf, stateOf, storeOf}
+use Rattle.store.specs.Layout.{planOf, planOf, width, copyOf, stateOf, storeOf}
 use Rattle.store.specs.StoreRules.{StoreRules, planNumberTest}
 use Rattle.store.proofs.Laying.{length-nodes, state-count, state-copy, state-back, store-back}
 use Rattle.wire.specs.Reading.{got}

@@ -3,7 +3,7 @@ use mathlib.Core.Path.{sym, subst, _∙_}
 use mathlib.Core.Logic.{⊎-elim}
 use borrow.Author.Needs.{needs}
 use Rattle.store.specs.declared.Store.{Store}
-use Rattle.store.specs.Layout.{planOf, planOf, planOf, stateOf}
+use Rattle.store.specs.Layout.{planOf, planOf, stateOf}
 use Rattle.store.specs.Workers.{ofParts}
 use Rattle.steps.specs.Searches.{startStep}
 use Rattle.steps.proofs.LineSteps.{start-still}
