@@ -13,17 +13,25 @@
 extern "C" {
 #endif
 
+/* The sizes: a store's nodes, the places of each and of all, and its search slots. */
+enum {
+    OLIPRANJ_NODE_COUNT = 8,
+    OLIPRANJ_NODE_PLACES = 64,
+    OLIPRANJ_PLACE_COUNT = OLIPRANJ_NODE_COUNT * OLIPRANJ_NODE_PLACES,
+    OLIPRANJ_SLOT_COUNT = 8
+};
+
 /* A search slot: 1 if a search runs in it, its key, its node, the nodes visited. An idle slot is all zero. */
 typedef struct {
     uint32_t running, key, node, visits;
 } olipranj_slot;
 
-/* The store, 8360 bytes: node n has the places from 64 n on, and uses the first, as many as its count says. */
+/* The store: node n has the places from OLIPRANJ_NODE_PLACES * n on, and uses the first, as many as its count says. */
 typedef struct {
     uint32_t plan, clock;
-    uint32_t counts[8];
-    uint32_t keys[512], kinds[512], values[512], stamps[512];
-    olipranj_slot slots[8];
+    uint32_t counts[OLIPRANJ_NODE_COUNT];
+    uint32_t keys[OLIPRANJ_PLACE_COUNT], kinds[OLIPRANJ_PLACE_COUNT], values[OLIPRANJ_PLACE_COUNT], stamps[OLIPRANJ_PLACE_COUNT];
+    olipranj_slot slots[OLIPRANJ_SLOT_COUNT];
 } olipranj_store;
 
 /* An answer, 40 bytes: its number, and four numbers, zero unless named. */

@@ -1,6 +1,6 @@
 //! Ways to break one store rule of a good store, and no other.
 
-use model::{Plan, Slot, Store, NODE_PLACES};
+use model::{Plan, Slot, Store, ALL_NODES, NODE_PLACES, PLACES, PLANS};
 
 use crate::random::Random;
 use crate::stores::used;
@@ -11,7 +11,7 @@ type Way = fn(&mut Random, &mut Store) -> Option<()>;
 /// Each way: the rule that it breaks, by its name in `naive`, what it does, and the doing.
 pub const WAYS: &[(&str, &str, Way)] = &[
     ("plan", "plan 0", |_, store| set(&mut store.plan, 0)),
-    ("plan", "plan above 3", |random, store| set(&mut store.plan, from(random, 4))),
+    ("plan", "a plan past the table", |random, store| set(&mut store.plan, from(random, PLANS.len() as u32 + 1))),
     ("clock", "clock 0 in an empty store", clock_0),
     ("count within capacity", "a copy more than a node holds", one_too_many),
     ("count within capacity", "a count far above capacity", count_far_above),
@@ -76,7 +76,7 @@ fn clock_0(_: &mut Random, store: &mut Store) -> Option<()> {
     for place in used(store) {
         (store.keys[place], store.kinds[place], store.values[place], store.stamps[place]) = (0, 0, 0, 0);
     }
-    store.counts = [0; 8];
+    store.counts = [0; ALL_NODES];
     set(&mut store.clock, 0)
 }
 
@@ -85,7 +85,7 @@ fn free_stamp(store: &Store) -> Option<u32> {
     (1..store.clock).find(|stamp| used(store).iter().all(|&place| store.stamps[place] != *stamp))
 }
 
-/// Fills a node whose capacity is below 64, and adds one more copy with a new key and a stamp of its own.
+/// In a full node that has a place left: adds one more copy with a new key and a stamp of its own.
 fn one_too_many(random: &mut Random, store: &mut Store) -> Option<()> {
     let plan = plan_of(store);
     let full = |&node: &usize| {
@@ -107,13 +107,14 @@ fn one_too_many(random: &mut Random, store: &mut Store) -> Option<()> {
 
 fn count_far_above(random: &mut Random, store: &mut Store) -> Option<()> {
     let node = random.below(plan_of(store).nodes());
-    let count = random.pick(&[65, 66, 512, 513, 0x8000_0000, u32::MAX, 0x4000_0001]);
+    let width = NODE_PLACES as u32;
+    let count = random.pick(&[width + 1, width + 2, 8 * width, 8 * width + 1, 0x8000_0000, u32::MAX, 0x4000_0001]);
     set(&mut store.counts[node], count)
 }
 
 /// A copy that would be good but for its node; no other copy has its key.
 fn copy_in_no_node(random: &mut Random, store: &mut Store) -> Option<()> {
-    let node = random.between(plan_of(store).nodes(), 7);
+    let node = random.between(plan_of(store).nodes(), ALL_NODES - 1);
     let place = node * NODE_PLACES;
     let key = random.number();
     if used(store).iter().any(|&place| store.keys[place] == key) {
@@ -124,9 +125,9 @@ fn copy_in_no_node(random: &mut Random, store: &mut Store) -> Option<()> {
     set(&mut store.counts[node], 1)
 }
 
-fn unused(random: &mut Random, store: &mut Store, column: fn(&mut Store) -> &mut [u32; 512]) -> Option<()> {
+fn unused(random: &mut Random, store: &mut Store, column: fn(&mut Store) -> &mut [u32; PLACES]) -> Option<()> {
     let held = used(store);
-    let mut free: Vec<usize> = (0..512).filter(|place| !held.contains(place)).collect();
+    let mut free: Vec<usize> = (0..PLACES).filter(|place| !held.contains(place)).collect();
     if random.once_in(2) {
         let first = |place: &usize| store.counts[place / NODE_PLACES] as usize == place % NODE_PLACES;
         let last = |place: &usize| place % NODE_PLACES == NODE_PLACES - 1;
@@ -150,11 +151,16 @@ fn mark_above_1(random: &mut Random, store: &mut Store) -> Option<()> {
     set(&mut store.slots[slot].running, from(random, 2))
 }
 
-/// In plans 2 and 3 the key of a search beyond the root goes to the other half.
+/// A key of the other half of all keys.
+const HALF: u32 = 0x8000_0000;
+
+/// The key of a search goes to the other half, where its node is not on the key's path then.
 fn search_off_path(random: &mut Random, store: &mut Store) -> Option<()> {
-    let branch = |slot: &usize| matches!(store.slots[*slot].node, 1 | 2) && store.plan != 1;
-    let slot = one_of(random, slots(store, 1).into_iter().filter(branch).collect())?;
-    store.slots[slot].key ^= 0x8000_0000;
+    let plan = plan_of(store);
+    let off = |slot: &Slot| plan.depth(slot.node as usize, slot.key ^ HALF).is_none();
+    let searches = slots(store, 1).into_iter().filter(|&slot| off(&store.slots[slot])).collect();
+    let slot = one_of(random, searches)?;
+    store.slots[slot].key ^= HALF;
     Some(())
 }
 
@@ -175,7 +181,7 @@ fn visits_off(random: &mut Random, store: &mut Store) -> Option<()> {
 /// Places whose next place in their node is used too.
 fn first_of_two(store: &Store) -> Vec<usize> {
     let held = used(store);
-    held.iter().copied().filter(|&place| place % NODE_PLACES < 63 && held.contains(&(place + 1))).collect()
+    held.iter().copied().filter(|&place| place % NODE_PLACES < NODE_PLACES - 1 && held.contains(&(place + 1))).collect()
 }
 
 /// The copy's key becomes its left neighbour's, in the lowest node that has the key.
@@ -208,17 +214,17 @@ fn withdrawn_value(random: &mut Random, store: &mut Store) -> Option<()> {
     set(&mut store.values[place], from(random, 1))
 }
 
-/// In plans 2 and 3 the outermost key of node 1 or 2 goes to the other half; no other copy has that key.
+/// The outermost key of a node below the root goes to the other half, where the node is not on its path then; no other
+/// copy has that key.
 fn off_path(random: &mut Random, store: &mut Store) -> Option<()> {
-    let node = random.pick(&[1, 2]);
-    let count = store.counts[node] as usize;
-    if store.plan == 1 || count == 0 {
-        return None;
-    }
-    let place = if node == 1 { node * NODE_PLACES + count - 1 } else { node * NODE_PLACES };
-    let edge = if node == 1 { 0x8000_0000 } else { 0x7fff_ffff };
-    let key = if random.once_in(2) { edge } else { store.keys[place] ^ 0x8000_0000 };
-    if used(store).iter().any(|&place| store.keys[place] == key) {
+    let plan = plan_of(store);
+    let node = random.between(1, plan.nodes() - 1);
+    let held = node * NODE_PLACES..node * NODE_PLACES + store.counts[node] as usize;
+    let (place, upper) = if random.once_in(2) { (held.clone().last()?, true) } else { (held.clone().next()?, false) };
+    let edge = if upper { HALF } else { HALF - 1 };
+    let key = if random.once_in(2) { edge } else { store.keys[place] ^ HALF };
+    let rises = held.filter(|&other| other != place).all(|other| (store.keys[other] < key) == upper);
+    if !rises || plan.depth(node, key).is_some() || used(store).iter().any(|&place| store.keys[place] == key) {
         return None;
     }
     set(&mut store.keys[place], key)

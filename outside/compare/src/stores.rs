@@ -4,6 +4,7 @@ use std::collections::{BTreeMap, BTreeSet};
 
 use model::{Plan, Slot, Store, LAST_CLOCK, NODE_PLACES};
 
+use crate::kinds::a_plan;
 use crate::random::Random;
 
 /// Keys that lie close together, at the ends and around the halves.
@@ -25,9 +26,9 @@ fn centre(random: &mut Random) -> u32 {
 
 /// A random good store over a pool of keys.
 pub fn good(random: &mut Random, keys: &[u32]) -> Store {
-    let number = random.small(3) + 1;
+    let number = a_plan(random);
     let mut store = Store::empty(number);
-    let plan = Plan::numbered(number).expect("1 to 3");
+    let plan = Plan::numbered(number).expect("a plan of the table");
     for node in 0..plan.nodes() {
         fill(random, &mut store, plan, node, keys);
     }

@@ -1,4 +1,4 @@
-//! The three plans, and the way of a key through them.
+//! The table of plans, and the way of a key through them.
 
 /// The places of one node.
 pub const NODE_PLACES: usize = 64;
@@ -39,15 +39,15 @@ const fn all_keys(target: usize) -> Edge {
 
 const HALVES: &[Edge] = &[edge(0, 0x7fff_ffff, 1), edge(0x8000_0000, u32::MAX, 2)];
 
-/// The table of plans 1 to 3.
-pub static PLANS: [Plan; 3] = [
+/// The table of plans, numbered from 1.
+pub static PLANS: &[Plan] = &[
     Plan { capacities: &[8, 16, 32, 64], edges: &[&[all_keys(1)], &[all_keys(2)], &[all_keys(3)], &[]] },
     Plan { capacities: &[8, 32, 32], edges: &[HALVES, &[], &[]] },
     Plan { capacities: &[8, 16, 16, 64], edges: &[HALVES, &[all_keys(3)], &[all_keys(3)], &[]] },
 ];
 
 impl Plan {
-    /// The plan with this number, if it is 1 to 3.
+    /// The plan with this number, if the table has it.
     pub fn numbered(number: u32) -> Option<&'static Plan> {
         PLANS.get((number as usize).checked_sub(1)?)
     }

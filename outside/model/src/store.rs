@@ -1,4 +1,4 @@
-//! The store's data: columns of 512 places, 64 to each of 8 nodes.
+//! The store's data: columns of places, as many to each node.
 
 use crate::plan::{ALL_NODES, NODE_PLACES};
 use crate::{Answer, Number, Plan};

@@ -1,7 +1,11 @@
 //! The store's data as the header `olipranj.h` declares it.
 
-/// The places for copies: 64 to each of 8 nodes.
-pub const PLACES: usize = 512;
+/// The nodes that a store has room for.
+pub const NODES: usize = 8;
+/// The places for copies of each node,
+pub const NODE_PLACES: usize = 64;
+/// and of all.
+pub const PLACES: usize = NODES * NODE_PLACES;
 /// The search slots.
 pub const SLOTS: usize = 8;
 
@@ -16,14 +20,14 @@ pub struct Slot {
     pub visits: u32,
 }
 
-/// The store's numbers: node n has the places from 64 n on, and uses the first, as many as its count says.
+/// The store's numbers: node n has the places from `NODE_PLACES * n` on, and uses the first, as many as its count says.
 #[repr(C)]
 #[derive(Clone, Debug, PartialEq, Eq)]
 #[allow(missing_docs)]
 pub struct Raw {
     pub plan: u32,
     pub clock: u32,
-    pub counts: [u32; 8],
+    pub counts: [u32; NODES],
     pub keys: [u32; PLACES],
     pub kinds: [u32; PLACES],
     pub values: [u32; PLACES],
@@ -36,7 +40,7 @@ impl Raw {
     pub const ZERO: Raw = Raw {
         plan: 0,
         clock: 0,
-        counts: [0; 8],
+        counts: [0; NODES],
         keys: [0; PLACES],
         kinds: [0; PLACES],
         values: [0; PLACES],

@@ -24,7 +24,7 @@ mod layout;
 mod sys;
 
 pub use answer::{Answer, Number};
-pub use layout::{Raw, Slot, PLACES, SLOTS};
+pub use layout::{Raw, Slot, NODES, NODE_PLACES, PLACES, SLOTS};
 
 /// A page takes at most so many bytes.
 pub const LONGEST_PAGE: usize = 357;
@@ -45,7 +45,7 @@ pub struct Store {
 }
 
 impl Store {
-    /// A fresh store of plan 1, 2 or 3; else the answer PLAN.
+    /// A fresh store of a plan of the table, by its number from 1; else the answer PLAN.
     pub fn fresh(plan: u32) -> Result<Store, Answer> {
         let mut store = Store::from_raw(Raw::ZERO);
         let answer = store.fresh_over(plan);

@@ -1,6 +1,6 @@
 //! Images: saved, loaded, saved again; damaged, cut everywhere, made of wrong numbers.
 
-use super::{buffer, damage, put_number};
+use super::{a_plan, buffer, damage, put_number};
 use crate::calls::{Call, Difference, Pair};
 use crate::random::Random;
 use crate::stores::{good, pool};
@@ -88,7 +88,7 @@ fn numbers(image: &[u8]) -> Vec<u32> {
 
 /// Random small numbers that look like an image.
 fn loose(random: &mut Random) -> Vec<u8> {
-    let mut bytes = vec![1, random.pick(&[1, 2, 3])];
+    let mut bytes = vec![1, a_plan(random) as u8];
     put_number(&mut bytes, random.number());
     for _ in 0..random.below(30) {
         let number = random.pick(&[0, 0, 1, 1, 2, 3, 8, 9]);

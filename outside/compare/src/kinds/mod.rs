@@ -7,8 +7,20 @@ pub mod serve;
 pub mod steps;
 pub mod stores;
 
+use model::PLANS;
+
 use crate::calls::{Call, Difference, Pair};
 use crate::random::Random;
+
+/// The number of a plan of the table.
+pub fn a_plan(random: &mut Random) -> u32 {
+    random.small(PLANS.len() as u32) + 1
+}
+
+/// A number that no plan has: those beside the table's, or far away.
+pub fn no_plan(random: &mut Random) -> u32 {
+    random.pick(&[0, PLANS.len() as u32 + 1, 300, u32::MAX])
+}
 
 /// A good store on both sides: fresh, or built place by place.
 pub fn begin(random: &mut Random, pair: &mut Pair, keys: &[u32]) -> Result<(), Difference> {
@@ -16,7 +28,7 @@ pub fn begin(random: &mut Random, pair: &mut Pair, keys: &[u32]) -> Result<(), D
         pair.put(crate::stores::good(random, keys));
         return Ok(());
     }
-    let plan = random.small(3) + 1;
+    let plan = a_plan(random);
     pair.call(Call::Fresh(plan)).map(|_| ())
 }
 

@@ -3,7 +3,7 @@
 use std::path::Path;
 use std::process::{Command, Stdio};
 
-use super::{damage, put_number};
+use super::{a_plan, damage, no_plan, put_number};
 use crate::calls::{Call, Difference, Pair};
 use crate::random::Random;
 use crate::stores::pool;
@@ -41,7 +41,7 @@ fn run(program: &Path, bytes: &[u8]) -> std::io::Result<Vec<u8>> {
 
 fn schedule(random: &mut Random) -> Vec<u8> {
     let keys = pool(random);
-    let plan = if random.once_in(12) { random.pick(&[0, 4, 300]) } else { random.small(3) + 1 };
+    let plan = if random.once_in(12) { no_plan(random) } else { a_plan(random) };
     let mut bytes = Vec::new();
     put_number(&mut bytes, plan);
     for _ in 0..random.pick(&[0, 1, 8, 100, 255, 256, 256, 257]) {

@@ -1,6 +1,6 @@
 //! Random steps one after another, with other calls in between.
 
-use super::{begin, buffer, sample};
+use super::{a_plan, begin, buffer, no_plan, sample};
 use crate::calls::{Call, Difference, Pair};
 use crate::random::Random;
 use crate::stores::pool;
@@ -19,7 +19,7 @@ pub fn case(random: &mut Random, pair: &mut Pair) -> Result<(), Difference> {
 
 fn call(random: &mut Random, keys: &[u32], carries: usize) -> Call {
     match random.below(200) {
-        0 => Call::Fresh(random.pick(&[0, 1, 2, 3, 4, u32::MAX])),
+        0 => Call::Fresh(if random.once_in(2) { no_plan(random) } else { a_plan(random) }),
         1 => Call::Page(sample(random, keys), buffer(random, 60)),
         2 => Call::Save(buffer(random, 300)),
         3..10 => Call::Look(key(random, keys)),
