@@ -115,7 +115,7 @@ fn visited<'a>(
     i: usize,
 ) -> Turn
     requires { ⌜ Running plan (now counts) (now keys) slots i ⌝ }
-    ensures { λ r. ⌜ StepsIn plan (counts .entry) (keys .entry) (kinds .entry) (values .entry) (stamps .entry) slots i r ⌝ }
+    ensures { λ r. ⌜ StepsIn plan (now (counts .entry)) (now (keys .entry)) (now (kinds .entry)) (now (values .entry)) (now (stamps .entry)) slots i r ⌝ }
 {
     let search = slots[i];
     let visits = search.visits + 1;
@@ -152,7 +152,7 @@ fn stepped<'a>(
     slot: u32,
 ) -> Turn
     requires { ⌜ Steppable plan (now counts) (now keys) slots ⌝ }
-    ensures { λ r. ⌜ StepsIn plan (counts .entry) (keys .entry) (kinds .entry) (values .entry) (stamps .entry) slots slot r ⌝ }
+    ensures { λ r. ⌜ StepsIn plan (now (counts .entry)) (now (keys .entry)) (now (kinds .entry)) (now (values .entry)) (now (stamps .entry)) slots slot r ⌝ }
 {
     let i = slot as usize;
     if Store::SLOTS <= i {
