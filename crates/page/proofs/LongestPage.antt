@@ -10,7 +10,7 @@ use Rattle.plan.specs.Plan.{holds, firstEdge, next, walk, pathFrom}
 use Rattle.plan.specs.PlanTable.{planTable, plans, planNumbered}
 use Rattle.store.specs.declared.Copy.{Copy}
 use Rattle.store.specs.declared.Store.{Store}
-use Rattle.store.specs.Copies.{RESULT, copy, find, member, different}
+use Rattle.store.specs.Copies.{hasValue, RESULT, copy, find, member, different}
 use Rattle.store.specs.State.{slotCount, lastClock, idle, firstOn, inReach}
 use Rattle.store.specs.Layout.{nodeIn, stateOf, column, storeOf}
 use Rattle.store.specs.StoreRules.{
@@ -43,5 +43,5 @@ pub record Longest : Type 0 where
   pub long : length (pageNow longestStore lastSample) ≡ mostPageBytes
 
 pub longest : Longest
-unfolding run allFrom formIn form holds firstEdge next walk pathFrom planTable plans planNumbered find member different firstOn inReach nodeIn stateOf column storeOf shapeTest planNumberTest clockTest kindTest copyTest placeTest allZero unusedTest nodeTest stampsFrom slotTest goodStore linesFrom lineBytes linesBytes pageBytes longestCopies longestStore
+unfolding run allFrom formIn form holds firstEdge next walk pathFrom planTable plans planNumbered find member different firstOn inReach nodeIn stateOf column storeOf shapeTest planNumberTest clockTest hasValue kindTest copyTest placeTest allZero unusedTest nodeTest stampsFrom slotTest goodStore linesFrom lineBytes linesBytes pageBytes longestCopies longestStore
 longest = record { good = refl; long = refl }
