@@ -27,7 +27,7 @@ use Rattle.steps.proofs.SearchLaws.{SearchEnds, search-is-look}
 use Rattle.steps.proofs.SearchLaws.SearchEnds.{now, later}
 use Rattle.theory.specs.Events.{effect, after, answerOf}
 use Rattle.theory.specs.Events.Event.{carries, starts, steps}
-use Rattle.theory.proofs.Invariants.{reach-increases-run}
+use Rattle.theory.proofs.Invariants.{reach-increases-all}
 use Rattle.theory.proofs.Looks.{VisitsUntil, look-answer}
 use Rattle.story.specs.PublicCalls.{Call, storeAfter, answerTo, storeAfterAll}
 use Rattle.story.specs.PublicCalls.Call.{step, look}
@@ -52,7 +52,7 @@ pub calls-increase : (cs : List Call) (z : Store) → goodStore z ≡ true → s
     → reachStamp z n k ≤ reachStamp (storeAfterAll cs z) n k
 calls-increase cs z good stays n k h =
     let f = follows-events cs z good stays in
-    rw (f .state, f .plan) (reach-increases-run (planOf z) (plan-good z good) (eventsOf cs) (stateOf z) (state-good z good) n k h)
+    rw (f .state, f .plan) (reach-increases-all (planOf z) (plan-good z good) (eventsOf cs) (stateOf z) (state-good z good) n k h)
 
 -- ---- looks
 

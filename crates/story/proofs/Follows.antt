@@ -27,7 +27,7 @@ use Rattle.schedule.specs.Schedule.{ENTER, WITHDRAW, CARRY, START, STEP, CANCEL
 use Rattle.schedule.specs.Running.{noStep, unknownStep, stepOf, runOutcome}
 use Rattle.image.specs.Loading.{loadOutcome}
 use Rattle.trips.proofs.RoundTrips.{load-good, fresh-idle, load-all-idle}
-use Rattle.theory.specs.Events.{Event, effect, after, answerOf, run as runEvents}
+use Rattle.theory.specs.Events.{Event, effect, after, answerOf, stateAfterAll}
 use Rattle.theory.specs.Events.Event.{enters, withdraws, carries, starts, steps, cancels, asks}
 use Rattle.theory.proofs.EventSteps.{event-keeps}
 use Rattle.trips.specs.Trips.{AllIdle}
@@ -330,7 +330,7 @@ after-append (c ∷ cs) ds z = after-append cs ds (storeAfter c z)
 -- Over a sequence in which the store is not replaced, its state follows the events, and its plan stays.
 pub record FollowsEvents (cs : List Call) (z : Store) : Type 0 where
   pub plan : storeAfterAll cs z .plan ≡ z .plan
-  pub state : stateOf (storeAfterAll cs z) ≡ runEvents (planOf z) (eventsOf cs) (stateOf z)
+  pub state : stateOf (storeAfterAll cs z) ≡ stateAfterAll (planOf z) (eventsOf cs) (stateOf z)
 
 -- The first call of such a sequence does not replace it.
 pub first-stays : (c : Call) (cs : List Call) → sameStore (c ∷ cs) ≡ true → replacement c ≡ none
@@ -346,7 +346,7 @@ unfolding sameStore
 rest-stays c cs t = and-right (not (isSome (replacement c))) (sameStore cs) t
 
 pub follows-events : (cs : List Call) (z : Store) → goodStore z ≡ true → sameStore cs ≡ true → FollowsEvents cs z
-unfolding storeAfterAll eventsOf runEvents
+unfolding storeAfterAll eventsOf stateAfterAll
 follows-events [] z good t = record { plan = refl; state = refl }
 follows-events (c ∷ cs) z good t =
     let is : storeAfter c z ≡ onEvent (eventOf c) z .store = event-on c z (first-stays c cs t) in

@@ -17,7 +17,7 @@ use Rattle.store.specs.Layout.{planOf, planOf, stateOf, freshStore}
 use Rattle.store.specs.StoreRules.{goodStore}
 use Rattle.store.proofs.Lifting.{plan-good, state-good, fresh-back}
 use Rattle.steps.specs.Carries.{bit}
-use Rattle.theory.specs.Events.{Event, after, entryOf, optionList, entered, held, carriesLine, carried}
+use Rattle.theory.specs.Events.{Event, after, entryOf, optionList, enteredCopies, held, carriesLine, carried}
 use Rattle.theory.specs.Events.Event.{enters, withdraws, carries, starts, steps, cancels, asks}
 use Rattle.theory.specs.Paper.{History, Multicopy}
 use Rattle.theory.proofs.Invariants.{held-fresh, multicopy-held, multicopy-event}
@@ -113,18 +113,18 @@ fresh-history plan low high = ap held (fresh-back plan low high) ∙ held-fresh 
 
 -- Where the store is not replaced, history and carries are those of the events.
 pub same-history : (cs : List Call) (z : Store) → goodStore z ≡ true → sameStore cs ≡ true → (h : History)
-    → history cs z h ≡ h ++ entered (planOf z) (eventsOf cs) (stateOf z)
-unfolding history entered eventsOf
+    → history cs z h ≡ h ++ enteredCopies (planOf z) (eventsOf cs) (stateOf z)
+unfolding history enteredCopies eventsOf
 same-history [] z good t h = sym (append-nil h)
 same-history (c ∷ cs) z good t h =
     let e = first-stays c cs t in
     let x = entryOf (planOf z) (eventOf c) (stateOf z) in
     let s′ = after (planOf z) (eventOf c) (stateOf z) in
-    let again : history cs (storeAfter c z) (h ++ optionList x) ≡ (h ++ optionList x) ++ entered (planOf z) (eventsOf cs) s′ =
+    let again : history cs (storeAfter c z) (h ++ optionList x) ≡ (h ++ optionList x) ++ enteredCopies (planOf z) (eventsOf cs) s′ =
     same-history cs (storeAfter c z) (call-keeps-good c z good) (rest-stays c cs t) (h ++ optionList x)
-    ∙ ap (λ (y : Store). (h ++ optionList x) ++ entered (planOf y) (eventsOf cs) (stateOf y)) (event-on c z e)
+    ∙ ap (λ (y : Store). (h ++ optionList x) ++ enteredCopies (planOf y) (eventsOf cs) (stateOf y)) (event-on c z e)
     ∙ rw (event-state (eventOf c) z good, event-keeps-plan (eventOf c) z) in
-    rw (e, entered-same (eventOf c) z good) (again ∙ append-assoc h (optionList x) (entered (planOf z) (eventsOf cs) s′))
+    rw (e, entered-same (eventOf c) z good) (again ∙ append-assoc h (optionList x) (enteredCopies (planOf z) (eventsOf cs) s′))
 
 pub same-carries : (k : ℕ) (cs : List Call) (z : Store) → goodStore z ≡ true → sameStore cs ≡ true → (n : ℕ)
     → carriesSince k cs z n ≡ carried (planOf z) k (eventsOf cs) (stateOf z) + n

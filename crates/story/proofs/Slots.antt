@@ -24,7 +24,7 @@ use Rattle.steps.proofs.WaysOut.RunningWay.{no-slot, slot-idle, slot-runs}
 use Rattle.steps.proofs.WaysOut.Visit.{finds, never, goes}
 use Rattle.steps.proofs.WaysOut.Freed.{freed}
 use Rattle.steps.proofs.LineSteps.{slot-set, slot-other, entry-slots, carry-slots}
-use Rattle.theory.specs.Events.{Event, effect, after, answerOf, goesOnThrough}
+use Rattle.theory.specs.Events.{Event, effect, after, answerOf, stillRunsAfter}
 use Rattle.theory.specs.Events.Event.{enters, withdraws, carries, starts, steps, cancels, asks}
 
 -- No search runs in slot i.
@@ -57,8 +57,8 @@ module _ (p : Plan) (s : State) (i : ℕ) where
   cancelled-idle (slot-idle h g) = g
   cancelled-idle (slot-runs h g freed) = made-idle s i h
 
-  pub stopped-idle : (e : Event) → goesOnThrough p i e s ≡ false → Idles (after p e s) i
-  unfolding effect goesOnThrough
+  pub stopped-idle : (e : Event) → stillRunsAfter p i e s ≡ false → Idles (after p e s) i
+  unfolding effect stillRunsAfter
   stopped-idle (steps j) t = go (ℕ-discrete j i)
     where
       second : (b : Bool) → not b || eqb (answerOf p (steps j) s .number) GOING ≡ false → b ≡ true

@@ -15,7 +15,7 @@ use Rattle.store.specs.Copies.{stampOf}
 use Rattle.store.specs.State.{current}
 use Rattle.store.specs.Layout.{planOf, planOf, stateOf}
 use Rattle.steps.specs.Searches.{ended}
-use Rattle.theory.specs.Events.{held, goesOn, ownSteps}
+use Rattle.theory.specs.Events.{held, stillRuns, ownSteps}
 use Rattle.theory.specs.Events.Event.{starts, steps}
 use Rattle.theory.specs.Paper.{InHistory, ContentsInReach}
 use Rattle.story.specs.PublicCalls.{Call, storeAfter, answerTo, Done, storeAfterAll}
@@ -46,7 +46,7 @@ pub record SearchRuns (z : Store) (before : List Call) (c : Call) (between : Lis
   pub is-start : eventOf c ≡ starts k
   pub starting : answerTo c (atStart z before) ≡ some (answer DONE i 0 0 0)
   pub stays : sameStore between ≡ true
-  pub goes-on : goesOn (planOf (atStart z before)) i (eventsOf between) (stateOf (started z before c)) ≡ true
+  pub still-runs : stillRuns (planOf (atStart z before)) i (eventsOf between) (stateOf (started z before c)) ≡ true
 
 -- What is said of a search whose last step is the call d.
 pub record StoreRecency (z : Store) (before : List Call) (c : Call) (between : List Call) (d : Call) (k i : ℕ) : Type 0 where
@@ -83,5 +83,5 @@ pub record EndsByCall (z : Store) (i : ℕ) (cs : List Call) : Type 0 where
   pub later : List Call
   pub parts : cs ≡ earlier ++ call ∷ later
   pub is-step : eventOf call ≡ steps i
-  pub until : goesOn (planOf z) i (eventsOf earlier) (stateOf z) ≡ true
+  pub until : stillRuns (planOf z) i (eventsOf earlier) (stateOf z) ≡ true
   pub done : Done call (storeAfterAll earlier z)
