@@ -11,9 +11,9 @@ use Rattle.plan.specs.Plan.{Plan}
 use Rattle.plan.specs.PlanTable.{plans}
 use Rattle.store.specs.declared.Store.{Store}
 use Rattle.store.specs.Answers.{DONE}
-use Rattle.store.specs.Copies.{WITHDRAWN, RESULT, copy}
+use Rattle.store.specs.Copies.{kindNumber, valueHeld, copy}
 use Rattle.store.specs.State.{State, fresh as freshState}
-use Rattle.store.specs.Layout.{planOf, planOf, stateOf, storeOf, freshStore}
+use Rattle.store.specs.Layout.{planOf, stateOf, storeOf, freshStore}
 use Rattle.store.specs.StoreRules.{goodStore}
 use Rattle.store.specs.Calls.{Effect}
 use Rattle.store.proofs.Lifting.{state-good, fresh-good}
@@ -39,7 +39,7 @@ use Rattle.steps.proofs.WaysOut.RunningWay.{no-slot, slot-idle, slot-runs}
 use Rattle.steps.proofs.WaysOut.Visit.{finds, never, goes}
 use Rattle.steps.proofs.WaysOut.Freed.{freed}
 use Rattle.theory.specs.Events.{Event, effect, after, stateAfterAll, entryOf, optionList, enteredCopies}
-use Rattle.theory.specs.Events.Event.{enters, withdraws, carries, starts, steps, cancels, asks}
+use Rattle.theory.specs.Events.Event.{enters, carries, starts, steps, cancels, asks}
 use Rattle.story.specs.PublicCalls.{Call, storeAfterAll}
 use Rattle.story.specs.Following.{eventsOf, sameStore, history}
 use Rattle.story.specs.Counts.{mostEntries}
@@ -68,8 +68,7 @@ module _ (p : Plan) where
   -- The clock goes up by one at each accepted entry, and stays at every other event;
   event-counts : (e : Event) (s : State) → after p e s .clock ≡ length (optionList (entryOf p e s)) + s .clock
   unfolding effect entryOf
-  event-counts (enters k v) s = entry-counts RESULT k v s
-  event-counts (withdraws k) s = entry-counts WITHDRAWN k 0 s
+  event-counts (enters kind k v) s = entry-counts (kindNumber kind) k (valueHeld kind v) s
   event-counts (carries n i) s = omega (arith, go (carry-way n i p s))
     where
       go : {o : Effect} → CarryWay n i p s o → o .after .clock ≡ s .clock

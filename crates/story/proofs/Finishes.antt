@@ -10,14 +10,13 @@ use Rattle.lists.proofs.Truths.{bool?, and-left, and-right, and-both}
 use Rattle.lists.proofs.Options.{option?, one-some}
 use Rattle.lists.proofs.Storing.{getD-same}
 use Rattle.plan.specs.Plan.{Plan}
-use Rattle.plan.specs.PlanTable.{planNumbered}
 use Rattle.store.specs.declared.Answer.{Answer}
 use Rattle.store.specs.declared.Slot.{Slot}
 use Rattle.store.specs.declared.Store.{Store}
 use Rattle.store.specs.Answers.{DONE, answer}
 use Rattle.store.specs.Copies.{isSome}
 use Rattle.store.specs.State.{State, slotCount, idle}
-use Rattle.store.specs.Layout.{planOf, planOf, stateOf}
+use Rattle.store.specs.Layout.{planOf, stateOf}
 use Rattle.store.specs.StoreRules.{goodStore}
 use Rattle.steps.specs.Searches.{running}
 use Rattle.theory.specs.Events.{Event, after, answerOf, stateAfterAll, stillRunsAfter, stillRuns}
@@ -44,7 +43,7 @@ use Rattle.story.proofs.Follows.{
 use Rattle.story.proofs.Recalls.{store-recency}
 use Rattle.story.proofs.Slots.{Idles, stopped-idle, StartsIn, still-idle, not-done}
 
--- What goes on through a sequence and then through one event more.
+-- What still runs after a sequence and then after one event more.
 still-runs-more : (p : Plan) (i : ℕ) (es : List Event) (e : Event) (s : State) → stillRuns p i es s ≡ true
     → stillRunsAfter p i e (stateAfterAll p es s) ≡ true → stillRuns p i (es ++ e ∷ []) s ≡ true
 unfolding stillRuns stateAfterAll
@@ -123,7 +122,7 @@ module _ (z : Store) (good : goodStore z ≡ true) (i : ℕ) where
                   };
             })
 
-    -- and a search goes on, or its slot gets idle.
+    -- and a search runs on, or its slot gets idle.
     goes-or-idle : replacement c ≡ none → RunsAfter cs → Idles (stateOf (storeAfter c y)) i ⊎ RunsAfter (cs ++ c ∷ [])
     unfolding storeAfterAll
     goes-or-idle e r = go (bool? (stillRunsAfter p i (eventOf c) (stateOf y)))
@@ -143,9 +142,9 @@ module _ (z : Store) (good : goodStore z ≡ true) (i : ℕ) where
         follows : FollowsEvents (r .between) z₂
         follows = follows-events (r .between) z₂ good₂ (r .runs .stays)
 
-        plan₂ : z₂ .plan ≡ z₁ .plan
+        plan₂ : planOf z₂ ≡ planOf z₁
         plan₂ =
-            ap (λ (x : Store). x .plan)
+            ap (λ (x : Store). planOf x)
             (acts-as (r .begins) (starts (r .key)) (r .runs .is-start) (start-acts (r .key)) .leaves (atStart z (r .before)))
             ∙ event-keeps-plan (starts (r .key)) (atStart z (r .before))
 
@@ -153,9 +152,9 @@ module _ (z : Store) (good : goodStore z ≡ true) (i : ℕ) where
             → stillRunsAfter (planOf z₁) i (eventOf c) (stateAfterAll (planOf z₁) (eventsOf (r .between)) (stateOf z₂)) ≡ true
         through t =
             let f = follows in
-            let plan : y .plan ≡ z₁ .plan = ap (λ (x : Store). x .plan) here ∙ f .plan ∙ plan₂ in
+            let plan : planOf y ≡ planOf z₁ = ap (λ (x : Store). planOf x) here ∙ f .plan ∙ plan₂ in
             let state : stateOf y ≡ stateAfterAll (planOf z₁) (eventsOf (r .between)) (stateOf z₂) =
-            ap stateOf here ∙ f .state ∙ ap (λ (n : ℕ). stateAfterAll (planNumbered n) (eventsOf (r .between)) (stateOf z₂)) plan₂ in
+            ap stateOf here ∙ f .state ∙ ap (λ (x : Plan). stateAfterAll x (eventsOf (r .between)) (stateOf z₂)) plan₂ in
             rw (plan, state) at t
 
         go : (stillRunsAfter p i (eventOf c) (stateOf y) ≡ true) ⊎ (stillRunsAfter p i (eventOf c) (stateOf y) ≡ false)

@@ -18,7 +18,7 @@ use Rattle.store.specs.declared.Store.{Store}
 use Rattle.store.specs.Copies.{WITHDRAWN, RESULT}
 use Rattle.store.specs.State.{State, current}
 use Rattle.store.specs.StateRules.{StateRules}
-use Rattle.store.specs.Layout.{planOf, planOf, stateOf}
+use Rattle.store.specs.Layout.{planOf, stateOf}
 use Rattle.store.specs.StoreRules.{goodStore}
 use Rattle.store.proofs.Lifting.{plan-good, state-good}
 use Rattle.page.specs.Page.{analytes, lastSample, keyFor, pageOf, begins}

@@ -17,7 +17,7 @@ use Rattle.store.specs.declared.Store.{Store}
 use Rattle.store.specs.Answers.{DONE, answer}
 use Rattle.store.specs.Copies.{isSome}
 use Rattle.store.specs.State.{State, line, current}
-use Rattle.store.specs.Layout.{planOf, planOf, stateOf}
+use Rattle.store.specs.Layout.{planOf, stateOf}
 use Rattle.store.specs.StoreRules.{goodStore}
 use Rattle.store.proofs.Lifting.{plan-good, state-good}
 use Rattle.theory.specs.Events.{Event, after, answerOf, stateAfterAll, enteredCopies, held, stillRuns, ownSteps, notCancelled, EndsIn}
@@ -104,14 +104,14 @@ module _ (z : Store) (good : goodStore z ≡ true) (c : Call) (k i : ℕ) (is-st
   state-y : stateOf y ≡ after p (starts k) (stateOf z)
   state-y = ap stateOf (its .leaves z) ∙ event-state (starts k) z good
 
-  plan-y : y .plan ≡ z .plan
-  plan-y = ap (λ (x : Store). x .plan) (its .leaves z) ∙ event-keeps-plan (starts k) z
+  plan-y : planOf y ≡ planOf z
+  plan-y = ap (λ (x : Store). planOf x) (its .leaves z) ∙ event-keeps-plan (starts k) z
 
   module _ (cs : List Call) (stays : sameStore cs ≡ true) where
     state-after : stateOf (storeAfterAll cs y) ≡ stateAfterAll p (eventsOf cs) (after p (starts k) (stateOf z))
     state-after = follows-events cs y good-y stays .state ∙ rw (state-y, plan-y)
 
-    plan-after : storeAfterAll cs y .plan ≡ z .plan
+    plan-after : planOf (storeAfterAll cs y) ≡ planOf z
     plan-after = follows-events cs y good-y stays .plan ∙ plan-y
 
     -- A step of the search after the calls answers as on the state.
@@ -179,7 +179,7 @@ module _ (z : Store) (good : goodStore z ≡ true) (before : List Call) (c : Cal
   state-then : (cs : List Call) → sameStore cs ≡ true → stateOf (storeAfterAll cs z₂) ≡ stateAfterAll q (eventsOf cs) (after q (starts k) (stateOf z₁))
   state-then cs t = state-after z₁ good₁ c k i (runs .is-start) (runs .starting) cs t
 
-  plan-then : (cs : List Call) → sameStore cs ≡ true → storeAfterAll cs z₂ .plan ≡ z₁ .plan
+  plan-then : (cs : List Call) → sameStore cs ≡ true → planOf (storeAfterAll cs z₂) ≡ planOf z₁
   plan-then cs t = plan-after z₁ good₁ c k i (runs .is-start) (runs .starting) cs t
 
   -- It ends by a call that is a step of its own.
