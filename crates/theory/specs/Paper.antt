@@ -102,4 +102,5 @@ pub record SearchRecency (p : Plan) (s : State) (before between : List Event) (k
       ⊎ ((x : Copy) × (found ≡ some x) × List·Memᴰ x (enteredCopies p between (after p (starts k) (stateAfterAll p before s))))
   -- (2): "search returns the logical value M(k) = v of its query key k", as it was at some point while the search ran.
   pub at-some-point :
-      (first rest : List Event) × (between ≡ first ++ rest) × (found ≡ current p (stateAfterAll p first (after p (starts k) (stateAfterAll p before s))) k)
+      (first rest : List Event) × (between ≡ first ++ rest)
+      × (found ≡ current p (stateAfterAll p first (after p (starts k) (stateAfterAll p before s))) k)
