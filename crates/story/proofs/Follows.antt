@@ -4,7 +4,7 @@ use mathlib.Core.Bool.{Bool, true, false, cond, not, _&&_}
 use mathlib.Core.Logic.{_⊎_, inl, inr}
 use mathlib.Core.List.{List, [], _∷_, _++_}
 use mathlib.Core.Option.{Option, none, some}
-use Prim.Native.Nat.{ℕ}
+use Prim.Native.Nat.{ℕ, _≤_}
 use native.Mathlib.Omega.{arith}
 use lib.Dec.{eqb}
 use lib.ListN.{getD}
@@ -18,7 +18,7 @@ use Rattle.store.specs.declared.Store.{Store}
 use Rattle.store.specs.Copies.{isSome}
 use Rattle.store.specs.Copies.Kind.{withdrawn, result}
 use Rattle.store.specs.State.{State}
-use Rattle.store.specs.Layout.{planOf, stateOf}
+use Rattle.store.specs.Layout.{planOf, stateOf, freshStore}
 use Rattle.store.specs.StoreRules.{planNumberTest, goodStore}
 use Rattle.store.specs.Calls.{Effect, onStore}
 use Rattle.store.specs.Promises.{freshOutcome}
@@ -103,30 +103,14 @@ run-event z list place = go (run-way z list place)
     go (inl e) = ap (λ (o : Outcome). o .store) e
     go (inr w) = w .1 ∙ sym (ap (λ (e : Event). onEvent e z .store) (w .0) ∙ asks-nothing z)
 
--- Every outcome of fresh has a good store, a refused one too.
-fresh-outcome-good : (plan : ℕ) → goodStore (freshOutcome plan .store) ≡ true
+-- Every outcome of fresh, a refused one too, has the fresh store of a plan of the table.
+fresh-outcome : (plan : ℕ) (P : Store → Type 0) → ((n : ℕ) → 1 ≤ n → n ≤ plans → P (freshStore n)) → P (freshOutcome plan .store)
 unfolding freshOutcome planNumberTest
-fresh-outcome-good plan = go (bool? (planNumberTest plan))
+fresh-outcome plan P f = go (bool? (planNumberTest plan))
   where
-    go : (planNumberTest plan ≡ true) ⊎ (planNumberTest plan ≡ false) → goodStore (freshOutcome plan .store) ≡ true
-    go (inl t) = let w = both-le 1 plan plan plans t in rw t (fresh-good plan (w .0) (w .1))
-    go (inr t) = rw t (fresh-good 1 (omega arith) (omega (arith, plans-three)))
-
-fresh-outcome-idle : (plan : ℕ) → AllIdle (freshOutcome plan .store)
-unfolding freshOutcome
-fresh-outcome-idle plan = go (bool? (planNumberTest plan))
-  where
-    go : (planNumberTest plan ≡ true) ⊎ (planNumberTest plan ≡ false) → AllIdle (freshOutcome plan .store)
-    go (inl t) = rw t (fresh-idle plan .all-idle)
-    go (inr t) = rw t (fresh-idle 1 .all-idle)
-
-fresh-outcome-declared : (plan : ℕ) → Declared (freshOutcome plan .store)
-unfolding freshOutcome
-fresh-outcome-declared plan = go (bool? (planNumberTest plan))
-  where
-    go : (planNumberTest plan ≡ true) ⊎ (planNumberTest plan ≡ false) → Declared (freshOutcome plan .store)
-    go (inl t) = rw t (fresh-idle plan .declared)
-    go (inr t) = rw t (fresh-idle 1 .declared)
+    go : (planNumberTest plan ≡ true) ⊎ (planNumberTest plan ≡ false) → P (freshOutcome plan .store)
+    go (inl t) = let w = both-le 1 plan plan plans t in rw t (f plan (w .0) (w .1))
+    go (inr t) = rw t (f 1 (omega arith) (omega (arith, plans-three)))
 
 -- A call is its event on the store, of any store; or it is a fresh or a load, and gives an outcome of its own.
 pub record OwnOutcome (c : Call) : Type 0 where
@@ -165,9 +149,9 @@ call-way (fresh plan) =
       is = refl;
       leaves = λ z. refl;
       answers = λ z. refl;
-      good = fresh-outcome-good plan;
-      idles = fresh-outcome-idle plan;
-      declared = λ d. fresh-outcome-declared plan;
+      good = fresh-outcome plan (λ (y : Store). goodStore y ≡ true) fresh-good;
+      idles = fresh-outcome plan AllIdle (λ n low high. fresh-idle n .all-idle);
+      declared = λ d. fresh-outcome plan Declared (λ n low high. fresh-idle n .declared);
       else-nothing = refl;
     })
 call-way (load bytes) =
