@@ -6,7 +6,6 @@ use Prim.Native.Nat.{ℕ, _≤_}
 use native.Mathlib.Omega.{arith}
 use Rattle.lists.proofs.Truths.{bool?, refuted, both-le, le-both, not-both}
 use Rattle.plan.specs.PlanTable.{plans}
-use Rattle.plan.proofs.TableLaws.{plans-three}
 use Rattle.store.specs.declared.Outcome.{Outcome}
 use Rattle.store.specs.Answers.{DONE, PLAN, bare}
 use Rattle.store.specs.Layout.{freshStore}
@@ -17,10 +16,7 @@ use Rattle.refusals.specs.Given.{IsPlan}
 module _ (plan : ℕ) where
   pub plan-test : (planNumberTest plan ≡ true) ↔ IsPlan plan
   unfolding planNumberTest
-  plan-test = (
-    λ t. let h = both-le 1 plan plan plans t in (h .0, omega (arith, h .1, plans-three)),
-    λ h. le-both 1 plan plan plans (h .0) (omega (arith, h .1, plans-three)),
-  )
+  plan-test = (λ t. both-le 1 plan plan plans t, λ h. le-both 1 plan plan plans (h .0) (h .1))
 
   -- "plan not 1 to 3"
   pub plan-test-fails : (planNumberTest plan ≡ false) ↔ (IsPlan plan → ⊥)

@@ -13,6 +13,7 @@ use Rattle.store.specs.declared.Outcome.{Outcome}
 use Rattle.store.specs.declared.Store.{Store}
 use Rattle.store.specs.Answers.{BADSTORE, OP, answer}
 use Rattle.store.specs.Copies.{member}
+use Rattle.store.specs.Copies.Kind.{withdrawn, result}
 use Rattle.store.specs.State.{State}
 use Rattle.store.specs.Layout.{planOf, stateOf}
 use Rattle.store.specs.StoreRules.{goodStore}
@@ -30,7 +31,7 @@ use Rattle.refusals.specs.Given.{Among, entryAnswers, carryAnswers, star
 use Rattle.refusals.specs.Runs.{RunWay}
 use Rattle.refusals.specs.Runs.RunWay.{enters, withdraws, carries, starts, steps, cancels, unknown}
 use Rattle.refusals.proofs.OnStores.{not-given, on-badstore, on-exactly}
-use Rattle.refusals.proofs.Entries.{enter-badstore, enter-answers, enter-refused, withdraw-badstore, withdraw-answers, withdraw-refused}
+use Rattle.refusals.proofs.Entries.{entry-badstore, entry-answers, entry-refused}
 use Rattle.refusals.proofs.Carry.{carry-badstore, carry-answers, carry-refused}
 use Rattle.refusals.proofs.Searches.{
   start-badstore,
@@ -93,8 +94,8 @@ module _ (z : Store) (list : List Step) (place : ℕ) where
   run-badstore = go run-way
     where
       go : RunWay z list place → (number ≡ BADSTORE) ↔ (goodStore z ≡ false)
-      go (enters n e) = same-exactly e (enter-badstore z (recordAt list place .x) (recordAt list place .y))
-      go (withdraws n e) = same-exactly e (withdraw-badstore z (recordAt list place .x))
+      go (enters n e) = same-exactly e (entry-badstore z result (recordAt list place .x) (recordAt list place .y))
+      go (withdraws n e) = same-exactly e (entry-badstore z withdrawn (recordAt list place .x) 0)
       go (carries n e) = same-exactly e (carry-badstore z (recordAt list place .x) (recordAt list place .y))
       go (starts n e) = same-exactly e (start-badstore z (recordAt list place .x))
       go (steps n e) = same-exactly e (step-badstore z (recordAt list place .x))
@@ -129,8 +130,8 @@ module _ (z : Store) (list : List Step) (place : ℕ) where
   run-op = go run-way
     where
       go : RunWay z list place → (number ≡ OP) ↔ ((goodStore z ≡ true) × Unknown list place)
-      go (enters n e) = not-op (BADSTORE ∷ entryAnswers) n refl e (enter-answers z (recordAt list place .x) (recordAt list place .y)) refl
-      go (withdraws n e) = not-op (BADSTORE ∷ entryAnswers) n refl e (withdraw-answers z (recordAt list place .x)) refl
+      go (enters n e) = not-op (BADSTORE ∷ entryAnswers) n refl e (entry-answers z result (recordAt list place .x) (recordAt list place .y)) refl
+      go (withdraws n e) = not-op (BADSTORE ∷ entryAnswers) n refl e (entry-answers z withdrawn (recordAt list place .x) 0) refl
       go (carries n e) = not-op (BADSTORE ∷ carryAnswers) n refl e (carry-answers z (recordAt list place .x) (recordAt list place .y)) refl
       go (starts n e) = not-op (BADSTORE ∷ startAnswers) n refl e (start-answers z (recordAt list place .x)) refl
       go (steps n e) = not-op (BADSTORE ∷ stepAnswers) n refl e (step-answers z (recordAt list place .x)) refl
@@ -161,8 +162,8 @@ module _ (z : Store) (list : List Step) (place : ℕ) where
           ap (λ (w : Outcome). w .store) e ∙ ap (λ (w : Outcome). w .store) (r (omega (arith, same-number e)))
 
       go : RunWay z list place → 2 ≤ number → runOutcome z list place .store ≡ z
-      go (enters n e) = leaves e (enter-refused z (recordAt list place .x) (recordAt list place .y))
-      go (withdraws n e) = leaves e (withdraw-refused z (recordAt list place .x))
+      go (enters n e) = leaves e (entry-refused z result (recordAt list place .x) (recordAt list place .y))
+      go (withdraws n e) = leaves e (entry-refused z withdrawn (recordAt list place .x) 0)
       go (carries n e) = leaves e (carry-refused z (recordAt list place .x) (recordAt list place .y))
       go (starts n e) = leaves e (start-refused z (recordAt list place .x))
       go (steps n e) = leaves e (step-refused z (recordAt list place .x))

@@ -7,6 +7,7 @@ use mathlib.Core.Option.{none}
 use Prim.Native.Nat.{ℕ, _<_, _≤_}
 use lib.ListN.{length, getD}
 use Rattle.plan.specs.Plan.{capacityOf}
+use Rattle.plan.specs.PlanTable.{plans}
 use Rattle.store.specs.declared.Answer.{Answer}
 use Rattle.store.specs.declared.Outcome.{Outcome}
 use Rattle.store.specs.declared.Store.{Store}
@@ -54,9 +55,9 @@ StepRefuses s e = 2 ≤ e .answer .number → e ≡ record { answer = bare (e .a
 abbrev pub Refuses : Store → Outcome → Type 0
 Refuses z o = 2 ≤ o .answer .number → o ≡ record { answer = bare (o .answer .number); store = z }
 
--- "plan 1 to 3"
+-- "plan 1 to 3": a plan of the table.
 abbrev pub IsPlan : ℕ → Type 0
-IsPlan plan = (1 ≤ plan) × (plan ≤ 3)
+IsPlan plan = (1 ≤ plan) × (plan ≤ plans)
 
 -- FULL: "root full and lacks the key".
 pub record RootFull (z : Store) (key : ℕ) : Type 0 where

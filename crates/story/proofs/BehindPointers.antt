@@ -20,7 +20,8 @@ use Rattle.schedule.specs.Schedule.{stepRecord}
 use Rattle.schedule.specs.Running.{stepOf, runOutcome}
 use Rattle.trips.proofs.LoadWays.{LoadWay, stops, trails, breaks, accepts, load-way}
 use Rattle.story.specs.PublicCalls.{Call, accepted, replaced, storeAfter, storeAfterAll}
-use Rattle.story.specs.PublicCalls.Call.{fresh, load, enter, withdraw, carry, start, step, cancel, look, save, page, serve, run}
+use Rattle.story.specs.PublicCalls.Call.{fresh, load, enter, carry, start, step, cancel, reads, run}
+use Rattle.story.specs.Following.{ownOutcome}
 use Rattle.story.specs.Behind.{storeBehind, storeBehindAll, behind}
 
 -- What `fresh 1` leaves is a fresh store of plan 1.
@@ -38,41 +39,38 @@ refused-or-taken o c leaves refused z = go (accepted (o .answer)) refl
     go true e = leaves z ∙ rw e
     go false e = fresh-one z ∙ sym (refused e)
 
--- The store behind the pointer after a fresh, and after a load.
-fresh-behind : (plan : ℕ) (z : Store) → storeAfter (behind (fresh plan)) z ≡ freshOutcome plan .store
-unfolding behind storeAfter freshOutcome
-fresh-behind plan z = refused-or-taken (freshOutcome plan) (fresh plan) (λ y. refl) (refused (bool? (planNumberTest plan))) z
+-- A refused fresh or load gives a fresh store of plan 1.
+fresh-refused : (plan : ℕ) → accepted (freshOutcome plan .answer) ≡ false → freshOutcome plan .store ≡ freshStore 1
+unfolding freshOutcome
+fresh-refused plan = go (bool? (planNumberTest plan))
   where
-    refused : (planNumberTest plan ≡ true) ⊎ (planNumberTest plan ≡ false) → accepted (freshOutcome plan .answer) ≡ false
+    go : (planNumberTest plan ≡ true) ⊎ (planNumberTest plan ≡ false) → accepted (freshOutcome plan .answer) ≡ false
         → freshOutcome plan .store ≡ freshStore 1
-    refused (inl t) e = absurd (not-both (rw t) e)
-    refused (inr t) e = rw t
+    go (inl t) e = absurd (not-both (rw t) e)
+    go (inr t) e = rw t
 
-load-behind : (bytes : List ℕ) (z : Store) → storeAfter (behind (load bytes)) z ≡ loadOutcome bytes .store
-unfolding behind storeAfter
-load-behind bytes z = refused-or-taken (loadOutcome bytes) (load bytes) (λ y. refl) (refused (load-way bytes)) z
+load-refused : (bytes : List ℕ) → accepted (loadOutcome bytes .answer) ≡ false → loadOutcome bytes .store ≡ freshStore 1
+load-refused bytes = go (load-way bytes)
   where
-    refused : LoadWay bytes → accepted (loadOutcome bytes .answer) ≡ false → loadOutcome bytes .store ≡ freshStore 1
-    refused (stops e r) t = ap (λ (o : Outcome). o .store) r
-    refused (trails r) t = ap (λ (o : Outcome). o .store) r
-    refused (breaks r) t = ap (λ (o : Outcome). o .store) r
-    refused (accepts e h g r) t = absurd (not-both (ap (λ (o : Outcome). accepted (o .answer)) r) t)
+    go : LoadWay bytes → accepted (loadOutcome bytes .answer) ≡ false → loadOutcome bytes .store ≡ freshStore 1
+    go (stops e r) t = ap (λ (o : Outcome). o .store) r
+    go (trails r) t = ap (λ (o : Outcome). o .store) r
+    go (breaks r) t = ap (λ (o : Outcome). o .store) r
+    go (accepts e h g r) t = absurd (not-both (ap (λ (o : Outcome). accepted (o .answer)) r) t)
 
 -- After every call the store behind the pointer is what the call in its place leaves,
 pub call-behind : (c : Call) (z : Store) → storeBehind c z ≡ storeAfter (behind c) z
-unfolding storeBehind behind
-call-behind (fresh plan) z = sym (fresh-behind plan z)
-call-behind (load bytes) z = sym (load-behind bytes z)
-call-behind (enter k v) z = refl
-call-behind (withdraw k) z = refl
+unfolding storeBehind behind ownOutcome
+call-behind (fresh plan) z =
+    sym (refused-or-taken (freshOutcome plan) (fresh plan) (λ y. unfold storeAfter in refl) (fresh-refused plan) z)
+call-behind (load bytes) z =
+    sym (refused-or-taken (loadOutcome bytes) (load bytes) (λ y. unfold storeAfter in refl) (load-refused bytes) z)
+call-behind (enter kind k v) z = refl
 call-behind (carry n i) z = refl
 call-behind (start k) z = refl
 call-behind (step i) z = refl
 call-behind (cancel i) z = refl
-call-behind (look k) z = refl
-call-behind save z = refl
-call-behind (page sample) z = refl
-call-behind (serve sample) z = refl
+call-behind (reads r) z = refl
 call-behind (run list place) z = refl
 
 -- and so after every sequence.

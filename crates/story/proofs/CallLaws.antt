@@ -9,13 +9,12 @@ use lib.ListN.{length, replicate}
 use Rattle.lists.proofs.Options.{one-some}
 use Rattle.plan.specs.Plan.{Plan, size, edgeOf, path}
 use Rattle.plan.specs.PlanRules.{IsEdge, PlanRules}
-use Rattle.plan.specs.PlanTable.{planNumbered}
 use Rattle.store.specs.declared.Answer.{Answer}
 use Rattle.store.specs.declared.Store.{Store}
 use Rattle.store.specs.Answers.{DONE, answer}
 use Rattle.store.specs.Copies.{keyOf}
 use Rattle.store.specs.State.{State, nodeAt, line}
-use Rattle.store.specs.Layout.{planOf, planOf, countOf, nodeOf, stateOf}
+use Rattle.store.specs.Layout.{planOf, countOf, nodeOf, stateOf}
 use Rattle.store.specs.StoreRules.{goodStore}
 use Rattle.store.proofs.Laying.{state-node, state-count}
 use Rattle.store.proofs.Lifting.{of-good, plan-good, state-good}
@@ -27,10 +26,11 @@ use Rattle.steps.proofs.SearchLaws.{SearchEnds, search-is-look}
 use Rattle.steps.proofs.SearchLaws.SearchEnds.{now, later}
 use Rattle.theory.specs.Events.{effect, after, answerOf}
 use Rattle.theory.specs.Events.Event.{carries, starts, steps}
-use Rattle.theory.proofs.Invariants.{reach-increases-run}
+use Rattle.theory.proofs.Invariants.{reach-increases-all}
 use Rattle.theory.proofs.Looks.{VisitsUntil, look-answer}
 use Rattle.story.specs.PublicCalls.{Call, storeAfter, answerTo, storeAfterAll}
-use Rattle.story.specs.PublicCalls.Call.{step, look}
+use Rattle.story.specs.PublicCalls.Call.{step, reads}
+use Rattle.story.specs.PublicCalls.Reading.{look}
 use Rattle.story.specs.Following.{eventOf, eventsOf, sameStore}
 use Rattle.story.specs.Recent.{currentIn, reachStamp}
 use Rattle.story.specs.Counts.{CarryCounts}
@@ -52,17 +52,17 @@ pub calls-increase : (cs : List Call) (z : Store) → goodStore z ≡ true → s
     → reachStamp z n k ≤ reachStamp (storeAfterAll cs z) n k
 calls-increase cs z good stays n k h =
     let f = follows-events cs z good stays in
-    rw (f .state, f .plan) (reach-increases-run (planOf z) (plan-good z good) (eventsOf cs) (stateOf z) (state-good z good) n k h)
+    rw (f .state, f .plan) (reach-increases-all (planOf z) (plan-good z good) (eventsOf cs) (stateOf z) (state-good z good) n k h)
 
 -- ---- looks
 
 module _ (z : Store) (good : goodStore z ≡ true) (k : ℕ) where
-  look-is : answerTo (look k) z ≡ some (lookAnswer k (planOf z) (stateOf z))
+  look-is : answerTo (reads (look k)) z ≡ some (lookAnswer k (planOf z) (stateOf z))
   unfolding answerTo
   look-is = ap some (of-good (lookAnswer k) z good)
 
   -- A look says the line's current result, after as many visits as there are path nodes down to the first that has a copy, or all.
-  pub look-says : (visits : ℕ) × (answerTo (look k) z ≡ some (ended (currentIn z k) visits))
+  pub look-says : (visits : ℕ) × (answerTo (reads (look k)) z ≡ some (ended (currentIn z k) visits))
       × VisitsUntil (line (stateOf z) k) (path (planOf z) k) visits
   look-says =
       let a = look-answer (planOf z) (plan-good z good) k (stateOf z) in
@@ -78,14 +78,14 @@ stepped-alone i x p s (later goes again) z good plan state =
     let a = acts-as (step i) (steps i) refl (step-acts i) in
     let w =
     stepped-alone i x p (after p (steps i) s) again (storeAfter (step i) z) (call-keeps-good (step i) z good)
-    (ap (λ (y : Store). planOf y) (a .leaves z) ∙ ap planNumbered (event-keeps-plan (steps i) z) ∙ plan)
+    (ap (λ (y : Store). planOf y) (a .leaves z) ∙ event-keeps-plan (steps i) z ∙ plan)
     (ap stateOf (a .leaves z) ∙ event-state (steps i) z good ∙ rw (plan, state)) in
     (suc (w .0), w .1)
 
 -- A search that a call started, and that is then stepped with nothing in between, ends with the look's answer.
 pub look-is-search : (z : Store) → goodStore z ≡ true → (c : Call) (k i : ℕ) → eventOf c ≡ starts k
     → answerTo c z ≡ some (answer DONE i 0 0 0)
-    → (m : ℕ) × (answerTo (step i) (storeAfterAll (replicate m (step i)) (storeAfter c z)) ≡ answerTo (look k) z)
+    → (m : ℕ) × (answerTo (step i) (storeAfterAll (replicate m (step i)) (storeAfter c z)) ≡ answerTo (reads (look k)) z)
 unfolding effect
 look-is-search z good c k i is-start starting =
     let a = acts-as c (starts k) is-start (start-acts k) in
@@ -99,7 +99,7 @@ look-is-search z good c k i is-start starting =
     SearchEnds j (planOf z) (after (planOf z) (starts k) (stateOf z)) (lookAnswer k (planOf z) (stateOf z)))
     (ap (λ (x : Answer). x .a) says) ends)
     (storeAfter c z) (call-keeps-good c z good)
-    (ap (λ (y : Store). planOf y) (a .leaves z) ∙ ap planNumbered (event-keeps-plan (starts k) z))
+    (ap (λ (y : Store). planOf y) (a .leaves z) ∙ event-keeps-plan (starts k) z)
     (ap stateOf (a .leaves z) ∙ event-state (starts k) z good) in
     (w .0, w .1 ∙ sym (look-is z good k))
 
@@ -143,8 +143,8 @@ carry-counts c n i is z good d =
     state-y : stateOf y ≡ afterCarry p n i s
     state-y = ap stateOf (a .leaves z) ∙ event-state (carries n i) z good ∙ carry-after p rules s (state-good z good) n i d
 
-    plan-y : y .plan ≡ z .plan
-    plan-y = ap (λ (x : Store). x .plan) (a .leaves z) ∙ event-keeps-plan (carries n i) z
+    plan-y : planOf y ≡ planOf z
+    plan-y = ap (λ (x : Store). planOf x) (a .leaves z) ∙ event-keeps-plan (carries n i) z
 
     before : (m : ℕ) → m < size p → length (nodeAt s m) ≡ countOf z m
     before m h = state-count z m h

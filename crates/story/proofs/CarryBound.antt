@@ -1,6 +1,6 @@
 -- Demand 3 over all sequences of public calls, fresh and load among them: since the store was last replaced, a line is carried at most as
 -- often as its path has edges times the entries of it, loaded copies included; and this is reached. Assumes nothing.
-use mathlib.Core.Path.{_≡_, refl, ap, _∙_}
+use mathlib.Core.Path.{_≡_, refl, sym, ap, _∙_}
 use mathlib.Core.Bool.{true, false}
 use mathlib.Core.Logic.{_⊎_, inl, inr}
 use mathlib.Core.List.{List, [], _∷_, _++_}
@@ -12,17 +12,16 @@ use Rattle.lists.proofs.Truths.{bool?, not-both, le-both}
 use Rattle.lists.proofs.Options.{option?}
 use Rattle.plan.specs.Plan.{edgesOn}
 use Rattle.plan.specs.PlanTable.{planNumbered, plans}
-use Rattle.plan.proofs.TableLaws.{table-rules}
 use Rattle.store.specs.declared.Copy.{Copy}
 use Rattle.store.specs.declared.Store.{Store}
 use Rattle.store.specs.State.{lastClock, fresh}
-use Rattle.store.specs.Layout.{planOf, planOf, stateOf, storeOf, freshStore}
+use Rattle.store.specs.Layout.{planOf, stateOf, storeOf, freshStore}
 use Rattle.store.specs.StoreRules.{planNumberTest, goodStore}
 use Rattle.store.specs.Promises.{freshOutcome}
 use Rattle.store.proofs.Lifting.{plan-good, state-good, fresh-back, fresh-good}
 use Rattle.steps.specs.Carries.{bit}
 use Rattle.theory.specs.Events.{Event, entryOf, optionList, held, ofLine, copiesOf, carried, worth, rounds}
-use Rattle.theory.specs.Events.Event.{enters, withdraws, carries, starts, steps, cancels, asks}
+use Rattle.theory.specs.Events.Event.{enters, carries, starts, steps, cancels, asks}
 use Rattle.theory.proofs.Bound.{worth-held, event-pays, copies-with, copies-entered}
 use Rattle.theory.proofs.Reached.{reached}
 use Rattle.story.specs.PublicCalls.{Call, storeAfter, storeAfterAll}
@@ -31,6 +30,7 @@ use Rattle.story.specs.Following.{
   eventOf,
   eventsOf,
   onEvent,
+  ownOutcome,
   replacement,
   sameStore,
   enteredBy,
@@ -123,9 +123,8 @@ module _ (k : ℕ) where
 
 -- The calls of some events: they are those events, and replace nothing.
 event-back : (e : Event) → (eventOf (callOf e) ≡ e) × (replacement (callOf e) ≡ none)
-unfolding eventOf callOf replacement
-event-back (enters k v) = (refl, refl)
-event-back (withdraws k) = (refl, refl)
+unfolding eventOf callOf ownOutcome replacement
+event-back (enters kind k v) = (refl, refl)
 event-back (carries n i) = (refl, refl)
 event-back (starts k) = (refl, refl)
 event-back (steps i) = (refl, refl)
@@ -144,36 +143,37 @@ calls-stay (e ∷ es) = rw (event-back e .1) (calls-stay es)
 
 -- From a fresh store, the events' counts are the calls'.
 from-fresh : (plan : ℕ) → 1 ≤ plan → plan ≤ plans → (k v r : ℕ) → r < lastClock
-    → (copiesOf k (history (callsOf (rounds (planNumbered plan) k v r)) (freshStore plan) []) ≡ r)
-    × (carriesSince k (callsOf (rounds (planNumbered plan) k v r)) (freshStore plan) 0 ≡ edgesOn (planNumbered plan) k * r)
+    → (copiesOf k (history (callsOf (rounds (planOf (freshStore plan)) k v r)) (freshStore plan) []) ≡ r)
+    × (carriesSince k (callsOf (rounds (planOf (freshStore plan)) k v r)) (freshStore plan) 0 ≡ edgesOn (planOf (freshStore plan)) k * r)
 unfolding copiesOf
 from-fresh plan low high k v r h =
-    let p = planNumbered plan in
+    let p = planOf (freshStore plan) in
     let es = rounds p k v r in
     let good = fresh-good plan low high in
-    let w = reached p (table-rules plan low high) k v r h in
-    let its : freshStore plan .plan ≡ plan = unfold freshStore storeOf in refl in (
+    let w = reached p (plan-good (freshStore plan) good) k v r h in
+    let its : planOf (freshStore plan) ≡ planNumbered plan = unfold freshStore storeOf in refl in
+    let begins : stateOf (freshStore plan) ≡ fresh p = fresh-back plan low high ∙ ap fresh (sym its) in (
       ap (copiesOf k) (same-history (callsOf es) (freshStore plan) good (calls-stay es) [])
-          ∙ (rw (fresh-back plan low high, its, events-back es) (copies-entered p k es (fresh p)) ∙ w .0),
+          ∙ (rw (begins, events-back es) (copies-entered p k es (fresh p)) ∙ w .0),
       same-carries k (callsOf es) (freshStore plan) good (calls-stay es) 0
           ∙ (add-zero (carried (planOf (freshStore plan)) k (eventsOf (callsOf es)) (stateOf (freshStore plan)))
-          ∙ rw (fresh-back plan low high, its, events-back es) (w .1)),
+          ∙ rw (begins, events-back es) (w .1)),
     )
 
 -- An accepted fresh: the store is the plan's fresh store.
 fresh-replaces : (plan : ℕ) → 1 ≤ plan → plan ≤ plans → replacement (freshCall plan) ≡ some (freshStore plan)
-unfolding replacement freshOutcome planNumberTest
+unfolding ownOutcome replacement freshOutcome planNumberTest
 fresh-replaces plan low high = rw (le-both 1 plan plan plans low high)
 
 -- The bound is reached, for every plan of the table, every line, every value and every number of entries that the clock allows: whatever
 -- the store was before.
 pub calls-reach : (plan : ℕ) → 1 ≤ plan → plan ≤ plans → (k v r : ℕ) → r ≤ mostEntries → (z : Store)
     → (copiesOf k (history (roundCalls plan k v r) z (held (stateOf z))) ≡ r)
-    × (carriesSince k (roundCalls plan k v r) z 0 ≡ edgesOn (planNumbered plan) k * r)
+    × (carriesSince k (roundCalls plan k v r) z 0 ≡ edgesOn (planOf (freshStore plan)) k * r)
 unfolding roundCalls
 calls-reach plan low high k v r h z =
     let e = fresh-replaces plan low high in
-    let cs = callsOf (rounds (planNumbered plan) k v r) in
+    let cs = callsOf (rounds (planOf (freshStore plan)) k v r) in
     let w = from-fresh plan low high k v r (omega arith) in (
       ap (copiesOf k)
           (replaced-history (freshCall plan) cs z (freshStore plan) (held (stateOf z)) e

@@ -11,13 +11,13 @@ use Rattle.plan.specs.Plan.{Plan}
 use Rattle.plan.specs.PlanTable.{plans}
 use Rattle.store.specs.declared.Store.{Store}
 use Rattle.store.specs.Answers.{DONE}
-use Rattle.store.specs.Copies.{WITHDRAWN, RESULT, copy}
+use Rattle.store.specs.Copies.{kindNumber, valueHeld, copy}
 use Rattle.store.specs.State.{State, fresh as freshState}
-use Rattle.store.specs.Layout.{planOf, planOf, stateOf, storeOf, freshStore}
+use Rattle.store.specs.Layout.{planOf, stateOf, storeOf, freshStore}
 use Rattle.store.specs.StoreRules.{goodStore}
 use Rattle.store.specs.Calls.{Effect}
 use Rattle.store.proofs.Lifting.{state-good, fresh-good}
-use Rattle.steps.specs.Entries.{entered as enteredInto, entry}
+use Rattle.steps.specs.Entries.{entered, entry}
 use Rattle.steps.specs.Carries.{carriedTo, carriedOut}
 use Rattle.steps.proofs.WaysOut.{
   EntryWay,
@@ -38,8 +38,8 @@ use Rattle.steps.proofs.WaysOut.StartWay.{all-running, starts as taken}
 use Rattle.steps.proofs.WaysOut.RunningWay.{no-slot, slot-idle, slot-runs}
 use Rattle.steps.proofs.WaysOut.Visit.{finds, never, goes}
 use Rattle.steps.proofs.WaysOut.Freed.{freed}
-use Rattle.theory.specs.Events.{Event, effect, after, run as runEvents, entryOf, optionList, entered}
-use Rattle.theory.specs.Events.Event.{enters, withdraws, carries, starts, steps, cancels, asks}
+use Rattle.theory.specs.Events.{Event, effect, after, stateAfterAll, entryOf, optionList, enteredCopies}
+use Rattle.theory.specs.Events.Event.{enters, carries, starts, steps, cancels, asks}
 use Rattle.story.specs.PublicCalls.{Call, storeAfterAll}
 use Rattle.story.specs.Following.{eventsOf, sameStore, history}
 use Rattle.story.specs.Counts.{mostEntries}
@@ -63,13 +63,12 @@ module _ (p : Plan) where
           → o .after .clock ≡ length (optionList (cond (eqb (o .answer .number) DONE) (some (copy k kind v (s .clock))) none)) + s .clock
       go (at-last-clock h) = omega arith
       go (root-full h f g) = omega arith
-      go (copy-enters h f) = unfold enteredInto in omega arith
+      go (copy-enters h f) = unfold entered in omega arith
 
   -- The clock goes up by one at each accepted entry, and stays at every other event;
   event-counts : (e : Event) (s : State) → after p e s .clock ≡ length (optionList (entryOf p e s)) + s .clock
   unfolding effect entryOf
-  event-counts (enters k v) s = entry-counts RESULT k v s
-  event-counts (withdraws k) s = entry-counts WITHDRAWN k 0 s
+  event-counts (enters kind k v) s = entry-counts (kindNumber kind) k (valueHeld kind v) s
   event-counts (carries n i) s = omega (arith, go (carry-way n i p s))
     where
       go : {o : Effect} → CarryWay n i p s o → o .after .clock ≡ s .clock
@@ -93,15 +92,15 @@ module _ (p : Plan) where
       go freed = refl
   event-counts asks s = omega arith
 
-  events-count : (es : List Event) (s : State) → runEvents p es s .clock ≡ length (entered p es s) + s .clock
-  unfolding runEvents entered
+  events-count : (es : List Event) (s : State) → stateAfterAll p es s .clock ≡ length (enteredCopies p es s) + s .clock
+  unfolding stateAfterAll enteredCopies
   events-count [] s = omega arith
   events-count (e ∷ es) s =
       omega (
         arith,
         events-count es (after p e s),
         event-counts e s,
-        length-append (optionList (entryOf p e s)) (entered p es (after p e s)),
+        length-append (optionList (entryOf p e s)) (enteredCopies p es (after p e s)),
       )
 
 -- so over calls that do not replace the store by as many as they enter;

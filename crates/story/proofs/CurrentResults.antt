@@ -15,7 +15,7 @@ use Rattle.store.specs.declared.Outcome.{Outcome}
 use Rattle.store.specs.declared.Store.{Store}
 use Rattle.store.specs.Answers.{DONE}
 use Rattle.store.specs.State.{current}
-use Rattle.store.specs.Layout.{planOf, planOf, stateOf}
+use Rattle.store.specs.Layout.{planOf, stateOf}
 use Rattle.store.specs.StoreRules.{goodStore}
 use Rattle.store.proofs.Lifting.{plan-good, state-good, store-stays}
 use Rattle.theory.specs.Events.{Event, effect, after}

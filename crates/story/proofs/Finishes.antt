@@ -10,17 +10,16 @@ use Rattle.lists.proofs.Truths.{bool?, and-left, and-right, and-both}
 use Rattle.lists.proofs.Options.{option?, one-some}
 use Rattle.lists.proofs.Storing.{getD-same}
 use Rattle.plan.specs.Plan.{Plan}
-use Rattle.plan.specs.PlanTable.{planNumbered}
 use Rattle.store.specs.declared.Answer.{Answer}
 use Rattle.store.specs.declared.Slot.{Slot}
 use Rattle.store.specs.declared.Store.{Store}
 use Rattle.store.specs.Answers.{DONE, answer}
 use Rattle.store.specs.Copies.{isSome}
 use Rattle.store.specs.State.{State, slotCount, idle}
-use Rattle.store.specs.Layout.{planOf, planOf, stateOf}
+use Rattle.store.specs.Layout.{planOf, stateOf}
 use Rattle.store.specs.StoreRules.{goodStore}
 use Rattle.steps.specs.Searches.{running}
-use Rattle.theory.specs.Events.{Event, after, answerOf, run as runEvents, goesOnThrough, goesOn}
+use Rattle.theory.specs.Events.{Event, after, answerOf, stateAfterAll, stillRunsAfter, stillRuns}
 use Rattle.theory.specs.Events.Event.{starts, steps}
 use Rattle.trips.specs.Trips.{AllIdle}
 use Rattle.story.specs.PublicCalls.{Call, storeAfter, Done, storeAfterAll}
@@ -44,14 +43,14 @@ use Rattle.story.proofs.Follows.{
 use Rattle.story.proofs.Recalls.{store-recency}
 use Rattle.story.proofs.Slots.{Idles, stopped-idle, StartsIn, still-idle, not-done}
 
--- What goes on through a sequence and then through one event more.
-goes-on-more : (p : Plan) (i : ℕ) (es : List Event) (e : Event) (s : State) → goesOn p i es s ≡ true
-    → goesOnThrough p i e (runEvents p es s) ≡ true → goesOn p i (es ++ e ∷ []) s ≡ true
-unfolding goesOn runEvents
-goes-on-more p i [] e s t u = and-both u refl
-goes-on-more p i (d ∷ es) e s t u =
-    and-both (and-left (goesOnThrough p i d s) (goesOn p i es (after p d s)) t)
-    (goes-on-more p i es e (after p d s) (and-right (goesOnThrough p i d s) (goesOn p i es (after p d s)) t) u)
+-- What still runs after a sequence and then after one event more.
+still-runs-more : (p : Plan) (i : ℕ) (es : List Event) (e : Event) (s : State) → stillRuns p i es s ≡ true
+    → stillRunsAfter p i e (stateAfterAll p es s) ≡ true → stillRuns p i (es ++ e ∷ []) s ≡ true
+unfolding stillRuns stateAfterAll
+still-runs-more p i [] e s t u = and-both u refl
+still-runs-more p i (d ∷ es) e s t u =
+    and-both (and-left (stillRunsAfter p i d s) (stillRuns p i es (after p d s)) t)
+    (still-runs-more p i es e (after p d s) (and-right (stillRunsAfter p i d s) (stillRuns p i es (after p d s)) t) u)
 
 events-append : (cs : List Call) (c : Call) → eventsOf (cs ++ c ∷ []) ≡ eventsOf cs ++ eventOf c ∷ []
 unfolding eventsOf
@@ -119,14 +118,14 @@ module _ (z : Store) (good : goodStore z ≡ true) (i : ℕ) where
                         (event-answer (starts (w .0)) y good-y
                         ∙ subst (λ (d : Event). answerOf p d (stateOf y) ≡ answer DONE i 0 0 0) (w .1) (w .2));
                     stays = unfold sameStore in refl;
-                    goes-on = unfold goesOn eventsOf in refl;
+                    still-runs = unfold stillRuns eventsOf in refl;
                   };
             })
 
-    -- and a search goes on, or its slot gets idle.
+    -- and a search runs on, or its slot gets idle.
     goes-or-idle : replacement c ≡ none → RunsAfter cs → Idles (stateOf (storeAfter c y)) i ⊎ RunsAfter (cs ++ c ∷ [])
     unfolding storeAfterAll
-    goes-or-idle e r = go (bool? (goesOnThrough p i (eventOf c) (stateOf y)))
+    goes-or-idle e r = go (bool? (stillRunsAfter p i (eventOf c) (stateOf y)))
       where
         z₁ : Store
         z₁ = atStart z (r .before)
@@ -143,22 +142,22 @@ module _ (z : Store) (good : goodStore z ≡ true) (i : ℕ) where
         follows : FollowsEvents (r .between) z₂
         follows = follows-events (r .between) z₂ good₂ (r .runs .stays)
 
-        plan₂ : z₂ .plan ≡ z₁ .plan
+        plan₂ : planOf z₂ ≡ planOf z₁
         plan₂ =
-            ap (λ (x : Store). x .plan)
+            ap (λ (x : Store). planOf x)
             (acts-as (r .begins) (starts (r .key)) (r .runs .is-start) (start-acts (r .key)) .leaves (atStart z (r .before)))
             ∙ event-keeps-plan (starts (r .key)) (atStart z (r .before))
 
-        through : goesOnThrough p i (eventOf c) (stateOf y) ≡ true
-            → goesOnThrough (planOf z₁) i (eventOf c) (runEvents (planOf z₁) (eventsOf (r .between)) (stateOf z₂)) ≡ true
+        through : stillRunsAfter p i (eventOf c) (stateOf y) ≡ true
+            → stillRunsAfter (planOf z₁) i (eventOf c) (stateAfterAll (planOf z₁) (eventsOf (r .between)) (stateOf z₂)) ≡ true
         through t =
             let f = follows in
-            let plan : y .plan ≡ z₁ .plan = ap (λ (x : Store). x .plan) here ∙ f .plan ∙ plan₂ in
-            let state : stateOf y ≡ runEvents (planOf z₁) (eventsOf (r .between)) (stateOf z₂) =
-            ap stateOf here ∙ f .state ∙ ap (λ (n : ℕ). runEvents (planNumbered n) (eventsOf (r .between)) (stateOf z₂)) plan₂ in
+            let plan : planOf y ≡ planOf z₁ = ap (λ (x : Store). planOf x) here ∙ f .plan ∙ plan₂ in
+            let state : stateOf y ≡ stateAfterAll (planOf z₁) (eventsOf (r .between)) (stateOf z₂) =
+            ap stateOf here ∙ f .state ∙ ap (λ (x : Plan). stateAfterAll x (eventsOf (r .between)) (stateOf z₂)) plan₂ in
             rw (plan, state) at t
 
-        go : (goesOnThrough p i (eventOf c) (stateOf y) ≡ true) ⊎ (goesOnThrough p i (eventOf c) (stateOf y) ≡ false)
+        go : (stillRunsAfter p i (eventOf c) (stateOf y) ≡ true) ⊎ (stillRunsAfter p i (eventOf c) (stateOf y) ≡ false)
             → Idles (stateOf (storeAfter c y)) i ⊎ RunsAfter (cs ++ c ∷ [])
         go (inr f) = inl (rw (event-on c y e, event-state (eventOf c) y good-y) (stopped-idle p (stateOf y) i (eventOf c) f))
         go (inl t) =
@@ -174,9 +173,9 @@ module _ (z : Store) (good : goodStore z ≡ true) (i : ℕ) where
                     is-start = r .runs .is-start;
                     starting = r .runs .starting;
                     stays = same-more (r .between) c (r .runs .stays) e;
-                    goes-on =
+                    still-runs =
                         rw (events-append (r .between) c)
-                        (goes-on-more (planOf z₁) i (eventsOf (r .between)) (eventOf c) (stateOf z₂) (r .runs .goes-on) (through t));
+                        (still-runs-more (planOf z₁) i (eventsOf (r .between)) (eventOf c) (stateOf z₂) (r .runs .still-runs) (through t));
                   };
             })
 

@@ -4,20 +4,21 @@ use mathlib.Core.Bool.{Bool, true, false, cond, not, _&&_}
 use mathlib.Core.Logic.{_⊎_, inl, inr}
 use mathlib.Core.List.{List, [], _∷_, _++_}
 use mathlib.Core.Option.{Option, none, some}
-use Prim.Native.Nat.{ℕ}
+use Prim.Native.Nat.{ℕ, _≤_}
 use native.Mathlib.Omega.{arith}
 use lib.Dec.{eqb}
 use lib.ListN.{getD}
 use Rattle.lists.proofs.Truths.{bool?, not-both, and-right, both-le}
 use Rattle.lists.proofs.Options.{option?, not-none-and-some, one-some}
 use Rattle.plan.specs.Plan.{Plan}
-use Rattle.plan.specs.PlanTable.{plans}
+use Rattle.plan.specs.PlanTable.{planNumbered, plans}
 use Rattle.plan.proofs.TableLaws.{plans-three}
 use Rattle.store.specs.declared.Outcome.{Outcome}
 use Rattle.store.specs.declared.Store.{Store}
 use Rattle.store.specs.Copies.{isSome}
+use Rattle.store.specs.Copies.Kind.{withdrawn, result}
 use Rattle.store.specs.State.{State}
-use Rattle.store.specs.Layout.{planOf, planOf, stateOf}
+use Rattle.store.specs.Layout.{planOf, stateOf, freshStore}
 use Rattle.store.specs.StoreRules.{planNumberTest, goodStore}
 use Rattle.store.specs.Calls.{Effect, onStore}
 use Rattle.store.specs.Promises.{freshOutcome}
@@ -25,28 +26,30 @@ use Rattle.store.proofs.Lifting.{same-call, Keeps, on-bad, on-good, plan-stays,
 use Rattle.schedule.specs.declared.Step.{Step}
 use Rattle.schedule.specs.Schedule.{ENTER, WITHDRAW, CARRY, START, STEP, CANCEL}
 use Rattle.schedule.specs.Running.{noStep, unknownStep, stepOf, runOutcome}
+use Rattle.image.specs.Image.{Declared}
 use Rattle.image.specs.Loading.{loadOutcome}
-use Rattle.trips.proofs.RoundTrips.{load-good, fresh-idle, load-all-idle}
-use Rattle.theory.specs.Events.{Event, effect, after, answerOf, run as runEvents}
-use Rattle.theory.specs.Events.Event.{enters, withdraws, carries, starts, steps, cancels, asks}
+use Rattle.trips.proofs.RoundTrips.{load-good, fresh-idle, load-idle, load-all-idle}
+use Rattle.theory.specs.Events.{Event, effect, after, answerOf, stateAfterAll}
+use Rattle.theory.specs.Events.Event.{enters, carries, starts, steps, cancels, asks}
 use Rattle.theory.proofs.EventSteps.{event-keeps}
 use Rattle.trips.specs.Trips.{AllIdle}
 use Rattle.story.specs.PublicCalls.{Call, accepted, replaced, storeAfter, answerTo, storeAfterAll}
-use Rattle.story.specs.PublicCalls.Call.{fresh, load, enter, withdraw, carry, start, step, cancel, look, save, page, serve, run}
-use Rattle.story.specs.Following.{eventOfRecord, eventOf, eventsOf, onEvent, storeIfAccepted, replacement, sameStore}
+use Rattle.story.specs.PublicCalls.Call.{fresh, load, enter, carry, start, step, cancel, reads, run}
+use Rattle.story.specs.Following.{eventOfRecord, eventOf, eventsOf, onEvent, ownOutcome, storeIfAccepted, replacement, sameStore}
+use Rattle.story.specs.DeclaredNumbers.{DeclaredCall}
 
 -- The step and the event of a record, by the six tests of its number.
 stepBy : Bool → Bool → Bool → Bool → Bool → Bool → Step → ℕ → Plan → State → Effect
 stepBy a b c d e f r place p s =
-    cond a (effect p (enters (r .x) (r .y)) s)
-    (cond b (effect p (withdraws (r .x)) s)
+    cond a (effect p (enters result (r .x) (r .y)) s)
+    (cond b (effect p (enters withdrawn (r .x) 0) s)
     (cond c (effect p (carries (r .x) (r .y)) s)
     (cond d (effect p (starts (r .x)) s) (cond e (effect p (steps (r .x)) s) (cond f (effect p (cancels (r .x)) s) (unknownStep place s))))))
 
 eventBy : Bool → Bool → Bool → Bool → Bool → Bool → Step → Event
 eventBy a b c d e f r =
-    cond a (enters (r .x) (r .y))
-    (cond b (withdraws (r .x))
+    cond a (enters result (r .x) (r .y))
+    (cond b (enters withdrawn (r .x) 0)
     (cond c (carries (r .x) (r .y)) (cond d (starts (r .x)) (cond e (steps (r .x)) (cond f (cancels (r .x)) asks)))))
 
 -- Either they are one, or the step is unknown.
@@ -100,35 +103,28 @@ run-event z list place = go (run-way z list place)
     go (inl e) = ap (λ (o : Outcome). o .store) e
     go (inr w) = w .1 ∙ sym (ap (λ (e : Event). onEvent e z .store) (w .0) ∙ asks-nothing z)
 
--- Every outcome of fresh has a good store, a refused one too.
-fresh-outcome-good : (plan : ℕ) → goodStore (freshOutcome plan .store) ≡ true
+-- Every outcome of fresh, a refused one too, has the fresh store of a plan of the table.
+fresh-outcome : (plan : ℕ) (P : Store → Type 0) → ((n : ℕ) → 1 ≤ n → n ≤ plans → P (freshStore n)) → P (freshOutcome plan .store)
 unfolding freshOutcome planNumberTest
-fresh-outcome-good plan = go (bool? (planNumberTest plan))
+fresh-outcome plan P f = go (bool? (planNumberTest plan))
   where
-    go : (planNumberTest plan ≡ true) ⊎ (planNumberTest plan ≡ false) → goodStore (freshOutcome plan .store) ≡ true
-    go (inl t) = let w = both-le 1 plan plan plans t in rw t (fresh-good plan (w .0) (w .1))
-    go (inr t) = rw t (fresh-good 1 (omega arith) (omega (arith, plans-three)))
-
-fresh-outcome-idle : (plan : ℕ) → AllIdle (freshOutcome plan .store)
-unfolding freshOutcome
-fresh-outcome-idle plan = go (bool? (planNumberTest plan))
-  where
-    go : (planNumberTest plan ≡ true) ⊎ (planNumberTest plan ≡ false) → AllIdle (freshOutcome plan .store)
-    go (inl t) = rw t (fresh-idle plan .all-idle)
-    go (inr t) = rw t (fresh-idle 1 .all-idle)
+    go : (planNumberTest plan ≡ true) ⊎ (planNumberTest plan ≡ false) → P (freshOutcome plan .store)
+    go (inl t) = let w = both-le 1 plan plan plans t in rw t (f plan (w .0) (w .1))
+    go (inr t) = rw t (f 1 (omega arith) (omega (arith, plans-three)))
 
 -- A call is its event on the store, of any store; or it is a fresh or a load, and gives an outcome of its own.
 pub record OwnOutcome (c : Call) : Type 0 where
   pub outcome : Outcome
-  pub replaces : replacement c ≡ storeIfAccepted outcome
+  pub is : ownOutcome c ≡ some outcome
   pub leaves : (z : Store) → storeAfter c z ≡ replaced outcome z
   pub answers : (z : Store) → answerTo c z ≡ some (outcome .answer)
   pub good : goodStore (outcome .store) ≡ true
   pub idles : AllIdle (outcome .store)
+  pub declared : DeclaredCall c → Declared (outcome .store)
   pub else-nothing : eventOf c ≡ asks
 
 pub record OnEvent (c : Call) : Type 0 where
-  pub replaces-none : replacement c ≡ none
+  pub none-own : ownOutcome c ≡ none
   pub leaves : (z : Store) → storeAfter c z ≡ onEvent (eventOf c) z .store
   pub answers : (z : Store) → (answerTo c z ≡ some (onEvent (eventOf c) z .answer)) ⊎ (eventOf c ≡ asks)
 
@@ -145,42 +141,45 @@ run-answer z list place = go (run-way z list place)
     go (inr w) = inr (w .0)
 
 pub call-way : (c : Call) → OnEvent c ⊎ OwnOutcome c
-unfolding storeAfter answerTo replacement eventOf onEvent effect
+unfolding storeAfter answerTo ownOutcome eventOf onEvent effect
 call-way (fresh plan) =
     inr
     (record {
       outcome = freshOutcome plan;
-      replaces = refl;
+      is = refl;
       leaves = λ z. refl;
       answers = λ z. refl;
-      good = fresh-outcome-good plan;
-      idles = fresh-outcome-idle plan;
+      good = fresh-outcome plan (λ (y : Store). goodStore y ≡ true) fresh-good;
+      idles = fresh-outcome plan AllIdle (λ n low high. fresh-idle n .all-idle);
+      declared = λ d. fresh-outcome plan Declared (λ n low high. fresh-idle n .declared);
       else-nothing = refl;
     })
 call-way (load bytes) =
     inr
     (record {
       outcome = loadOutcome bytes;
-      replaces = refl;
+      is = refl;
       leaves = λ z. refl;
       answers = λ z. refl;
       good = load-good bytes;
       idles = load-all-idle bytes;
+      declared = λ d. load-idle bytes d .declared;
       else-nothing = refl;
     })
-call-way (enter k v) = inl (record { replaces-none = refl; leaves = λ z. refl; answers = λ z. inl refl })
-call-way (withdraw k) = inl (record { replaces-none = refl; leaves = λ z. refl; answers = λ z. inl refl })
-call-way (carry n i) = inl (record { replaces-none = refl; leaves = λ z. refl; answers = λ z. inl refl })
-call-way (start k) = inl (record { replaces-none = refl; leaves = λ z. refl; answers = λ z. inl refl })
-call-way (step i) = inl (record { replaces-none = refl; leaves = λ z. refl; answers = λ z. inl refl })
-call-way (cancel i) = inl (record { replaces-none = refl; leaves = λ z. refl; answers = λ z. inl refl })
-call-way (look k) = inl (record { replaces-none = refl; leaves = λ z. sym (asks-nothing z); answers = λ z. inr refl })
-call-way save = inl (record { replaces-none = refl; leaves = λ z. sym (asks-nothing z); answers = λ z. inr refl })
-call-way (page sample) = inl (record { replaces-none = refl; leaves = λ z. sym (asks-nothing z); answers = λ z. inr refl })
-call-way (serve sample) = inl (record { replaces-none = refl; leaves = λ z. sym (asks-nothing z); answers = λ z. inr refl })
-call-way (run list place) = inl (record { replaces-none = refl; leaves = λ z. run-event z list place; answers = λ z. run-answer z list place })
+call-way (enter kind k v) = inl (record { none-own = refl; leaves = λ z. refl; answers = λ z. inl refl })
+call-way (carry n i) = inl (record { none-own = refl; leaves = λ z. refl; answers = λ z. inl refl })
+call-way (start k) = inl (record { none-own = refl; leaves = λ z. refl; answers = λ z. inl refl })
+call-way (step i) = inl (record { none-own = refl; leaves = λ z. refl; answers = λ z. inl refl })
+call-way (cancel i) = inl (record { none-own = refl; leaves = λ z. refl; answers = λ z. inl refl })
+call-way (reads r) = inl (record { none-own = refl; leaves = λ z. sym (asks-nothing z); answers = λ z. inr refl })
+call-way (run list place) = inl (record { none-own = refl; leaves = λ z. run-event z list place; answers = λ z. run-answer z list place })
 
--- A call that is one of the six steps does not replace the store, leaves what the step leaves, and answers as it does.
+-- What takes the store's place, by the outcome of the call's own.
+replacement-is : (c : Call) (o : Option Outcome) → ownOutcome c ≡ o → replacement c ≡ storeIfAccepted o
+unfolding replacement
+replacement-is c o e = ap storeIfAccepted e
+
+-- A call that is a step does not replace the store, leaves what the step leaves, and answers as it does.
 pub record Acts (c : Call) (e : Event) : Type 0 where
   pub replaces-none : replacement c ≡ none
   pub leaves : (z : Store) → storeAfter c z ≡ onEvent e z .store
@@ -200,17 +199,16 @@ acts-as c e is acts = go (call-way c)
     go : OnEvent c ⊎ OwnOutcome c → Acts c e
     go (inl w) =
         record {
-          replaces-none = w .replaces-none;
+          replaces-none = replacement-is c none (w .none-own);
           leaves = λ z. w .leaves z ∙ ap (λ (d : Event). onEvent d z .store) is;
           answers = λ z. said w z ∙ ap (λ (d : Event). some (onEvent d z .answer)) is;
         }
     go (inr w) = absurd (acts (sym is ∙ w .else-nothing))
 
--- The six steps are none that only ask.
+-- A step is no event that only asks.
 isAsk : Event → Bool
 isAsk asks = true
-isAsk (enters k v) = false
-isAsk (withdraws k) = false
+isAsk (enters kind k v) = false
 isAsk (carries n i) = false
 isAsk (starts k) = false
 isAsk (steps i) = false
@@ -232,7 +230,7 @@ step-acts i e = not-both (ap isAsk e) refl
 pub event-on : (c : Call) (z : Store) → replacement c ≡ none → storeAfter c z ≡ onEvent (eventOf c) z .store
 event-on c z e = go (call-way c)
   where
-    refused : (o : Outcome) → storeIfAccepted o ≡ none → replaced o z ≡ z
+    refused : (o : Outcome) → storeIfAccepted (some o) ≡ none → replaced o z ≡ z
     refused o e = at (accepted (o .answer)) e
       where
         at : (b : Bool) → cond b (some (o .store)) none ≡ none → cond b (o .store) z ≡ z
@@ -243,16 +241,17 @@ event-on c z e = go (call-way c)
     go (inl w) = w .leaves z
     go (inr w) =
         w .leaves z
-        ∙ (refused (w .outcome) (sym (w .replaces) ∙ e)
+        ∙ (refused (w .outcome) (sym (replacement-is c (some (w .outcome)) (w .is)) ∙ e)
         ∙ sym (ap (λ (d : Event). onEvent d z .store) (w .else-nothing) ∙ asks-nothing z))
 
--- One that does leaves its replacement, a good store with all slots idle.
+-- One that does leaves its replacement, a good store with all slots idle, of the declared type if the call's numbers are.
 pub record Replaced (c : Call) (y : Store) : Type 0 where
   pub leaves : (z : Store) → storeAfter c z ≡ y
   pub good : goodStore y ≡ true
   pub all-idle : AllIdle y
+  pub declared : DeclaredCall c → Declared y
 
-pub accepted-store : (o : Outcome) (y : Store) → storeIfAccepted o ≡ some y → (o .store ≡ y) × ((z : Store) → replaced o z ≡ y)
+accepted-store : (o : Outcome) (y : Store) → storeIfAccepted (some o) ≡ some y → (o .store ≡ y) × ((z : Store) → replaced o z ≡ y)
 accepted-store o y e = go (accepted (o .answer)) e
   where
     go : (b : Bool) → cond b (some (o .store)) none ≡ some y → (o .store ≡ y) × ((z : Store) → cond b (o .store) z ≡ y)
@@ -263,13 +262,14 @@ pub replaced-by : (c : Call) (y : Store) → replacement c ≡ some y → Replac
 replaced-by c y e = go (call-way c)
   where
     go : OnEvent c ⊎ OwnOutcome c → Replaced c y
-    go (inl w) = absurd (not-none-and-some (w .replaces-none) e)
+    go (inl w) = absurd (not-none-and-some (replacement-is c none (w .none-own)) e)
     go (inr w) =
-        let a = accepted-store (w .outcome) y (sym (w .replaces) ∙ e) in
+        let a = accepted-store (w .outcome) y (sym (replacement-is c (some (w .outcome)) (w .is)) ∙ e) in
         record {
           leaves = λ z. w .leaves z ∙ a .1 z;
           good = subst (λ (z : Store). goodStore z ≡ true) (a .0) (w .good);
           all-idle = subst AllIdle (a .0) (w .idles);
+          declared = λ d. subst Declared (a .0) (w .declared d);
         }
 
 -- An event keeps the rules, as a step.
@@ -277,9 +277,9 @@ effect-keeps : (e : Event) → Keeps (λ p s. effect p e s)
 effect-keeps e p rules s good = event-keeps p rules e s good
 
 module _ (e : Event) (z : Store) where
-  pub event-keeps-plan : onEvent e z .store .plan ≡ z .plan
+  pub event-keeps-plan : planOf (onEvent e z .store) ≡ planOf z
   unfolding onEvent
-  event-keeps-plan = plan-stays (λ p s. effect p e s) z
+  event-keeps-plan = ap planNumbered (plan-stays (λ p s. effect p e s) z)
 
   pub event-on-bad : goodStore z ≡ false → onEvent e z .store ≡ z
   unfolding onEvent
@@ -329,8 +329,8 @@ after-append (c ∷ cs) ds z = after-append cs ds (storeAfter c z)
 
 -- Over a sequence in which the store is not replaced, its state follows the events, and its plan stays.
 pub record FollowsEvents (cs : List Call) (z : Store) : Type 0 where
-  pub plan : storeAfterAll cs z .plan ≡ z .plan
-  pub state : stateOf (storeAfterAll cs z) ≡ runEvents (planOf z) (eventsOf cs) (stateOf z)
+  pub plan : planOf (storeAfterAll cs z) ≡ planOf z
+  pub state : stateOf (storeAfterAll cs z) ≡ stateAfterAll (planOf z) (eventsOf cs) (stateOf z)
 
 -- The first call of such a sequence does not replace it.
 pub first-stays : (c : Call) (cs : List Call) → sameStore (c ∷ cs) ≡ true → replacement c ≡ none
@@ -346,11 +346,11 @@ unfolding sameStore
 rest-stays c cs t = and-right (not (isSome (replacement c))) (sameStore cs) t
 
 pub follows-events : (cs : List Call) (z : Store) → goodStore z ≡ true → sameStore cs ≡ true → FollowsEvents cs z
-unfolding storeAfterAll eventsOf runEvents
+unfolding storeAfterAll eventsOf stateAfterAll
 follows-events [] z good t = record { plan = refl; state = refl }
 follows-events (c ∷ cs) z good t =
     let is : storeAfter c z ≡ onEvent (eventOf c) z .store = event-on c z (first-stays c cs t) in
-    let plan : storeAfter c z .plan ≡ z .plan = ap (λ (y : Store). y .plan) is ∙ event-keeps-plan (eventOf c) z in
+    let plan : planOf (storeAfter c z) ≡ planOf z = ap (λ (y : Store). planOf y) is ∙ event-keeps-plan (eventOf c) z in
     let state : stateOf (storeAfter c z) ≡ after (planOf z) (eventOf c) (stateOf z) =
     ap stateOf is ∙ event-state (eventOf c) z good in
     let again = follows-events cs (storeAfter c z) (call-keeps-good c z good) (rest-stays c cs t) in

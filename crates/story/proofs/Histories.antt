@@ -13,12 +13,12 @@ use Rattle.plan.specs.PlanTable.{planNumbered, plans}
 use Rattle.store.specs.declared.Store.{Store}
 use Rattle.store.specs.Copies.{isSome}
 use Rattle.store.specs.State.{State, line}
-use Rattle.store.specs.Layout.{planOf, planOf, stateOf, freshStore}
+use Rattle.store.specs.Layout.{planOf, stateOf, freshStore}
 use Rattle.store.specs.StoreRules.{goodStore}
 use Rattle.store.proofs.Lifting.{plan-good, state-good, fresh-back}
 use Rattle.steps.specs.Carries.{bit}
-use Rattle.theory.specs.Events.{Event, after, entryOf, optionList, entered, held, carriesLine, carried}
-use Rattle.theory.specs.Events.Event.{enters, withdraws, carries, starts, steps, cancels, asks}
+use Rattle.theory.specs.Events.{Event, after, entryOf, optionList, enteredCopies, held, carriesLine, carried}
+use Rattle.theory.specs.Events.Event.{enters, carries, starts, steps, cancels, asks}
 use Rattle.theory.specs.Paper.{History, Multicopy}
 use Rattle.theory.proofs.Invariants.{held-fresh, multicopy-held, multicopy-event}
 use Rattle.story.specs.PublicCalls.{Call, storeAfter, storeAfterAll}
@@ -38,8 +38,7 @@ use Rattle.story.proofs.Follows.{
 -- On a good store, what an event enters and carries is what it enters and carries of the state;
 pub entered-same : (e : Event) (z : Store) → goodStore z ≡ true → enteredBy e z ≡ entryOf (planOf z) e (stateOf z)
 unfolding enteredBy entryOf stateOf
-entered-same (enters k v) z good = rw (event-answer (enters k v) z good)
-entered-same (withdraws k) z good = rw (event-answer (withdraws k) z good)
+entered-same (enters kind k v) z good = rw (event-answer (enters kind k v) z good)
 entered-same (carries n i) z good = refl
 entered-same (starts k) z good = refl
 entered-same (steps i) z good = refl
@@ -50,8 +49,7 @@ pub carried-same : (k : ℕ) (e : Event) (z : Store) → goodStore z ≡ true �
 unfolding carriedBy carriesLine
 carried-same k (carries n i) z good =
     ap (λ (s : State). isSome (line (stateOf z) k n) && not (isSome (line s k n))) (event-state (carries n i) z good)
-carried-same k (enters j v) z good = refl
-carried-same k (withdraws j) z good = refl
+carried-same k (enters kind j v) z good = refl
 carried-same k (starts j) z good = refl
 carried-same k (steps i) z good = refl
 carried-same k (cancels i) z good = refl
@@ -67,8 +65,7 @@ nothing-carried k (carries n i) z bad =
     never : (b : Bool) → (b && not b) ≡ false
     never true = refl
     never false = refl
-nothing-carried k (enters j v) z bad = refl
-nothing-carried k (withdraws j) z bad = refl
+nothing-carried k (enters kind j v) z bad = refl
 nothing-carried k (starts j) z bad = refl
 nothing-carried k (steps i) z bad = refl
 nothing-carried k (cancels i) z bad = refl
@@ -113,18 +110,18 @@ fresh-history plan low high = ap held (fresh-back plan low high) ∙ held-fresh 
 
 -- Where the store is not replaced, history and carries are those of the events.
 pub same-history : (cs : List Call) (z : Store) → goodStore z ≡ true → sameStore cs ≡ true → (h : History)
-    → history cs z h ≡ h ++ entered (planOf z) (eventsOf cs) (stateOf z)
-unfolding history entered eventsOf
+    → history cs z h ≡ h ++ enteredCopies (planOf z) (eventsOf cs) (stateOf z)
+unfolding history enteredCopies eventsOf
 same-history [] z good t h = sym (append-nil h)
 same-history (c ∷ cs) z good t h =
     let e = first-stays c cs t in
     let x = entryOf (planOf z) (eventOf c) (stateOf z) in
     let s′ = after (planOf z) (eventOf c) (stateOf z) in
-    let again : history cs (storeAfter c z) (h ++ optionList x) ≡ (h ++ optionList x) ++ entered (planOf z) (eventsOf cs) s′ =
+    let again : history cs (storeAfter c z) (h ++ optionList x) ≡ (h ++ optionList x) ++ enteredCopies (planOf z) (eventsOf cs) s′ =
     same-history cs (storeAfter c z) (call-keeps-good c z good) (rest-stays c cs t) (h ++ optionList x)
-    ∙ ap (λ (y : Store). (h ++ optionList x) ++ entered (planOf y) (eventsOf cs) (stateOf y)) (event-on c z e)
+    ∙ ap (λ (y : Store). (h ++ optionList x) ++ enteredCopies (planOf y) (eventsOf cs) (stateOf y)) (event-on c z e)
     ∙ rw (event-state (eventOf c) z good, event-keeps-plan (eventOf c) z) in
-    rw (e, entered-same (eventOf c) z good) (again ∙ append-assoc h (optionList x) (entered (planOf z) (eventsOf cs) s′))
+    rw (e, entered-same (eventOf c) z good) (again ∙ append-assoc h (optionList x) (enteredCopies (planOf z) (eventsOf cs) s′))
 
 pub same-carries : (k : ℕ) (cs : List Call) (z : Store) → goodStore z ≡ true → sameStore cs ≡ true → (n : ℕ)
     → carriesSince k cs z n ≡ carried (planOf z) k (eventsOf cs) (stateOf z) + n

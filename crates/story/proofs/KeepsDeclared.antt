@@ -16,12 +16,12 @@ use Rattle.plan.specs.Plan.{size}
 use Rattle.store.specs.declared.Copy.{Copy}
 use Rattle.store.specs.declared.Store.{Store}
 use Rattle.store.specs.Answers.{answer}
-use Rattle.store.specs.Copies.{WITHDRAWN, RESULT, copy, noCopy}
+use Rattle.store.specs.Copies.{kindNumber, valueHeld, copy, noCopy}
+use Rattle.store.specs.Copies.Kind.{withdrawn, result}
 use Rattle.store.specs.State.{State, nodeAt, copyAt, line}
 use Rattle.store.specs.StateRules.{HeldAt}
-use Rattle.store.specs.Layout.{planOf, planOf, stateOf}
-use Rattle.store.specs.StoreRules.{planNumberTest, goodStore}
-use Rattle.store.specs.Promises.{freshOutcome}
+use Rattle.store.specs.Layout.{planOf, stateOf}
+use Rattle.store.specs.StoreRules.{goodStore}
 use Rattle.store.proofs.Laying.{state-past}
 use Rattle.store.proofs.Ruling.{good-rules}
 use Rattle.store.proofs.Lifting.{plan-good, state-good, good-back}
@@ -32,18 +32,18 @@ use Rattle.image.specs.Promises.{saveBuffer}
 use Rattle.trips.specs.Trips.{loadedAsItself}
 use Rattle.trips.proofs.ImageParts.{Small, small-none}
 use Rattle.trips.proofs.ImageReads.{nodes-writable}
-use Rattle.trips.proofs.RoundTrips.{saved-loads, buffer-loads, images-apart, stored-declared, fresh-idle, load-idle}
+use Rattle.trips.proofs.RoundTrips.{saved-loads, buffer-loads, images-apart, stored-declared}
 use Rattle.schedule.specs.declared.Step.{Step}
 use Rattle.schedule.specs.Schedule.{ENTER, WITHDRAW, CARRY, START, STEP, CANCEL}
 use Rattle.theory.specs.Events.{Event, optionList, held}
-use Rattle.theory.specs.Events.Event.{enters, withdraws, carries, starts, steps, cancels, asks}
+use Rattle.theory.specs.Events.Event.{enters, carries, starts, steps, cancels, asks}
 use Rattle.theory.specs.Paper.{History, Multicopy}
 use Rattle.theory.proofs.Invariants.{history-in, member-option, line-in-held, held-in-line}
 use Rattle.story.specs.PublicCalls.{Call, accepted, storeAfter, storeAfterAll}
-use Rattle.story.specs.PublicCalls.Call.{fresh, load, enter, withdraw, carry, start, step, cancel, look, save, page, serve, run}
+use Rattle.story.specs.PublicCalls.Call.{fresh, load, enter, carry, start, step, cancel, reads, run}
 use Rattle.story.specs.Following.{eventOfRecord, eventOf, onEvent, replacement, enteredBy, historyWith, history}
 use Rattle.story.specs.DeclaredNumbers.{DeclaredStep, DeclaredCall, DeclaredCalls}
-use Rattle.story.proofs.Follows.{event-on, event-on-bad, accepted-store, replaced-by, calls-keep-good}
+use Rattle.story.proofs.Follows.{event-on, event-on-bad, replaced-by, calls-keep-good}
 use Rattle.story.proofs.Histories.{store-story}
 
 -- ---- stores
@@ -92,8 +92,7 @@ module _ (z : Store) (good : goodStore z ≡ true) where
 
 -- The numbers that an event puts into a copy.
 abbrev SmallEvent : Event → Type 0
-SmallEvent (enters k v) = (t : ℕ) → Small (copy k RESULT v t)
-SmallEvent (withdraws k) = (t : ℕ) → Small (copy k WITHDRAWN 0 t)
+SmallEvent (enters kind k v) = (t : ℕ) → Small (copy k (kindNumber kind) (valueHeld kind v) t)
 SmallEvent (carries n i) = Unit {0}
 SmallEvent (starts k) = Unit {0}
 SmallEvent (steps i) = Unit {0}
@@ -106,8 +105,9 @@ made false y x q = absurd (not-none-and-some refl q)
 
 entered-small : (e : Event) → SmallEvent e → (z : Store) (x : Copy) → enteredBy e z ≡ some x → Small x
 unfolding enteredBy
-entered-small (enters k v) small z x q = subst Small (made (accepted (onEvent (enters k v) z .answer)) (copy k RESULT v (z .clock)) x q) (small (z .clock))
-entered-small (withdraws k) small z x q = subst Small (made (accepted (onEvent (withdraws k) z .answer)) (copy k WITHDRAWN 0 (z .clock)) x q) (small (z .clock))
+entered-small (enters kind k v) small z x q =
+    subst Small (made (accepted (onEvent (enters kind k v) z .answer)) (copy k (kindNumber kind) (valueHeld kind v) (z .clock)) x q)
+    (small (z .clock))
 entered-small (carries n i) small z x q = absurd (not-none-and-some refl q)
 entered-small (starts k) small z x q = absurd (not-none-and-some refl q)
 entered-small (steps i) small z x q = absurd (not-none-and-some refl q)
@@ -122,8 +122,9 @@ small-record r d =
   where
     go : (a b c e f g : Bool)
         → SmallEvent
-        (cond a (enters (r .x) (r .y))
-        (cond b (withdraws (r .x)) (cond c (carries (r .x) (r .y)) (cond e (starts (r .x)) (cond f (steps (r .x)) (cond g (cancels (r .x)) asks))))))
+        (cond a (enters result (r .x) (r .y))
+        (cond b (enters withdrawn (r .x) 0)
+        (cond c (carries (r .x) (r .y)) (cond e (starts (r .x)) (cond f (steps (r .x)) (cond g (cancels (r .x)) asks))))))
     go true b c e f g = λ t. record { key = d .0; value = d .1 }
     go false true c e f g = λ t. record { key = d .0; value = omega arith }
     go false false true e f g = tt
@@ -134,8 +135,7 @@ small-record r d =
 
 small-call : (c : Call) → DeclaredCall c → SmallEvent (eventOf c)
 unfolding eventOf
-small-call (enter k v) d = λ t. record { key = d .0; value = d .1 }
-small-call (withdraw k) d = λ t. record { key = d; value = omega arith }
+small-call (enter kind k v) d = λ t. record { key = d .0; value = d .1 }
 small-call (run list place) d = small-record _ d
 small-call (fresh plan) d = tt
 small-call (load bytes) d = tt
@@ -143,37 +143,9 @@ small-call (carry n i) d = tt
 small-call (start k) d = tt
 small-call (step i) d = tt
 small-call (cancel i) d = tt
-small-call (look k) d = tt
-small-call save d = tt
-small-call (page sample) d = tt
-small-call (serve sample) d = tt
+small-call (reads r) d = tt
 
--- The store that takes another's place is of the declared type.
-fresh-declared : (plan : ℕ) → Declared (freshOutcome plan .store)
-unfolding freshOutcome
-fresh-declared plan = go (bool? (planNumberTest plan))
-  where
-    go : (planNumberTest plan ≡ true) ⊎ (planNumberTest plan ≡ false) → Declared (freshOutcome plan .store)
-    go (inl t) = rw t (fresh-idle plan .declared)
-    go (inr t) = rw t (fresh-idle 1 .declared)
-
-replaced-declared : (c : Call) → DeclaredCall c → (y : Store) → replacement c ≡ some y → Declared y
-unfolding replacement
-replaced-declared (fresh plan) d y e = subst Declared (accepted-store (freshOutcome plan) y e .0) (fresh-declared plan)
-replaced-declared (load bytes) d y e = subst Declared (accepted-store (loadOutcome bytes) y e .0) (load-idle bytes d .declared)
-replaced-declared (enter k v) d y e = absurd (not-none-and-some refl e)
-replaced-declared (withdraw k) d y e = absurd (not-none-and-some refl e)
-replaced-declared (carry n i) d y e = absurd (not-none-and-some refl e)
-replaced-declared (start k) d y e = absurd (not-none-and-some refl e)
-replaced-declared (step i) d y e = absurd (not-none-and-some refl e)
-replaced-declared (cancel i) d y e = absurd (not-none-and-some refl e)
-replaced-declared (look k) d y e = absurd (not-none-and-some refl e)
-replaced-declared save d y e = absurd (not-none-and-some refl e)
-replaced-declared (page sample) d y e = absurd (not-none-and-some refl e)
-replaced-declared (serve sample) d y e = absurd (not-none-and-some refl e)
-replaced-declared (run list place) d y e = absurd (not-none-and-some refl e)
-
--- What it adds to a history is small.
+-- What a call adds to a history is small.
 history-with : (c : Call) → DeclaredCall c → (z : Store) (h : History) → SmallIn h
     → SmallIn (historyWith (replacement c) (enteredBy (eventOf c) z) h)
 history-with c d z h small = go (option? (replacement c))
@@ -189,7 +161,7 @@ history-with c d z h small = go (option? (replacement c))
         at x (inr m) = entered-small (eventOf c) (small-call c d) z x (member-option (enteredBy (eventOf c) z) x m)
     go (inr w) =
         subst (λ (o : Option Store). SmallIn (historyWith o (enteredBy (eventOf c) z) h)) (sym (w .1))
-        (declared-small (w .0) (replaced-by c (w .0) (w .1) .good) (replaced-declared c d (w .0) (w .1)))
+        (let r = replaced-by c (w .0) (w .1) in declared-small (w .0) (r .good) (r .declared d))
 
 -- ---- sequences
 
@@ -228,7 +200,7 @@ call-keeps-declared c d z declared = go (bool? (goodStore z)) (option? (replacem
   where
     go : (goodStore z ≡ true) ⊎ (goodStore z ≡ false) → (replacement c ≡ none) ⊎ ((y : Store) × (replacement c ≡ some y))
         → Declared (storeAfter c z)
-    go w (inr r) = rw (replaced-by c (r .0) (r .1) .leaves z) (replaced-declared c d (r .0) (r .1))
+    go w (inr x) = let r = replaced-by c (x .0) (x .1) in rw (r .leaves z) (r .declared d)
     go (inr bad) (inl e) = rw (event-on c z e, event-on-bad (eventOf c) z bad) declared
     go (inl good) (inl e) = unfold storeAfterAll in good-stays-declared (c ∷ []) (λ b m. subst DeclaredCall (sym (List·Memᴰ·eq-of-singleton m)) d) z good declared
 

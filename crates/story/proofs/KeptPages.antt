@@ -18,7 +18,7 @@ use Rattle.store.specs.declared.Store.{Store}
 use Rattle.store.specs.Copies.{WITHDRAWN, RESULT}
 use Rattle.store.specs.State.{State, current}
 use Rattle.store.specs.StateRules.{StateRules}
-use Rattle.store.specs.Layout.{planOf, planOf, stateOf}
+use Rattle.store.specs.Layout.{planOf, stateOf}
 use Rattle.store.specs.StoreRules.{goodStore}
 use Rattle.store.proofs.Lifting.{plan-good, state-good}
 use Rattle.page.specs.Page.{analytes, lastSample, keyFor, pageOf, begins}
@@ -26,9 +26,9 @@ use Rattle.page.specs.Promises.{pageNow, stillTrue, served}
 use Rattle.page.proofs.PageBytes.{rest-begins}
 use Rattle.page.proofs.PageLines.{Bounded}
 use Rattle.page.proofs.Stale.{stale-by-result, stale-by-withdrawal, same-page, serves-kept, serves-notice}
-use Rattle.theory.specs.Events.{run as runEvents, entered, held}
+use Rattle.theory.specs.Events.{stateAfterAll, enteredCopies, held}
 use Rattle.theory.specs.Paper.{History, Multicopy}
-use Rattle.theory.proofs.EventSteps.{run-keeps}
+use Rattle.theory.proofs.EventSteps.{events-keep}
 use Rattle.theory.proofs.Invariants.{history-in, multicopy-held, multicopy, entered-late, currents-stay}
 use Rattle.story.specs.PublicCalls.{Call, storeAfterAll}
 use Rattle.story.specs.Following.{eventsOf, sameStore, history}
@@ -60,7 +60,7 @@ module _ (z : Store) (good : goodStore z ≡ true) (cs : List Call) (stays : sam
   s = stateOf z
 
   abbrev t : State
-  t = runEvents p (eventsOf cs) s
+  t = stateAfterAll p (eventsOf cs) s
 
   good-y : goodStore y ≡ true
   good-y = calls-keep-good cs z good
@@ -75,7 +75,7 @@ module _ (z : Store) (good : goodStore z ≡ true) (cs : List Call) (stays : sam
   page-then = let f = follows-events cs z good stays in rw (f .state, f .plan)
 
   -- The copies entered by the calls.
-  entered-since : history cs z [] ≡ entered p (eventsOf cs) s
+  entered-since : history cs z [] ≡ enteredCopies p (eventsOf cs) s
   entered-since = same-history cs z good stays []
 
   -- While nothing was entered, whatever was carried and searched, the kept page is served.
@@ -106,7 +106,7 @@ module _ (z : Store) (good : goodStore z ≡ true) (cs : List Call) (stays : sam
 
     now : Bounded p t
     now =
-        bounded p t (held s ++ entered p (eventsOf cs) s) (run-keeps p rules (eventsOf cs) s (state-good z good))
+        bounded p t (held s ++ enteredCopies p (eventsOf cs) s) (events-keep p rules (eventsOf cs) s (state-good z good))
         (multicopy p rules (eventsOf cs) s (state-good z good))
         (λ x m.
         history-small cs calls z (held s) (declared-small z good declared) x

@@ -17,10 +17,10 @@ use Rattle.store.specs.declared.Store.{Store}
 use Rattle.store.specs.Answers.{DONE, answer}
 use Rattle.store.specs.Copies.{isSome}
 use Rattle.store.specs.State.{State, line, current}
-use Rattle.store.specs.Layout.{planOf, planOf, stateOf}
+use Rattle.store.specs.Layout.{planOf, stateOf}
 use Rattle.store.specs.StoreRules.{goodStore}
 use Rattle.store.proofs.Lifting.{plan-good, state-good}
-use Rattle.theory.specs.Events.{Event, after, answerOf, run as runEvents, entered, held, goesOn, ownSteps, notCancelled, EndsIn}
+use Rattle.theory.specs.Events.{Event, after, answerOf, stateAfterAll, enteredCopies, held, stillRuns, ownSteps, notCancelled, EndsIn}
 use Rattle.theory.specs.Events.Event.{starts, steps}
 use Rattle.theory.specs.Paper.{History, InHistory, Multicopy, SearchRecency}
 use Rattle.theory.proofs.Invariants.{in-history, history-in, held-in-line}
@@ -104,19 +104,19 @@ module _ (z : Store) (good : goodStore z ≡ true) (c : Call) (k i : ℕ) (is-st
   state-y : stateOf y ≡ after p (starts k) (stateOf z)
   state-y = ap stateOf (its .leaves z) ∙ event-state (starts k) z good
 
-  plan-y : y .plan ≡ z .plan
-  plan-y = ap (λ (x : Store). x .plan) (its .leaves z) ∙ event-keeps-plan (starts k) z
+  plan-y : planOf y ≡ planOf z
+  plan-y = ap (λ (x : Store). planOf x) (its .leaves z) ∙ event-keeps-plan (starts k) z
 
   module _ (cs : List Call) (stays : sameStore cs ≡ true) where
-    state-after : stateOf (storeAfterAll cs y) ≡ runEvents p (eventsOf cs) (after p (starts k) (stateOf z))
+    state-after : stateOf (storeAfterAll cs y) ≡ stateAfterAll p (eventsOf cs) (after p (starts k) (stateOf z))
     state-after = follows-events cs y good-y stays .state ∙ rw (state-y, plan-y)
 
-    plan-after : storeAfterAll cs y .plan ≡ z .plan
+    plan-after : planOf (storeAfterAll cs y) ≡ planOf z
     plan-after = follows-events cs y good-y stays .plan ∙ plan-y
 
     -- A step of the search after the calls answers as on the state.
     step-answer : onEvent (steps i) (storeAfterAll cs y) .answer
-        ≡ answerOf p (steps i) (runEvents p (eventsOf cs) (after p (starts k) (stateOf z)))
+        ≡ answerOf p (steps i) (stateAfterAll p (eventsOf cs) (after p (starts k) (stateOf z)))
     step-answer = event-answer (steps i) (storeAfterAll cs y) (calls-keep-good cs y good-y) ∙ rw (state-after, plan-after)
 
     -- A search that is not cancelled ends within as many own steps as its key's path has nodes, whatever is called between.
@@ -176,26 +176,26 @@ module _ (z : Store) (good : goodStore z ≡ true) (before : List Call) (c : Cal
   good₂ : goodStore z₂ ≡ true
   good₂ = call-keeps-good c z₁ good₁
 
-  state-then : (cs : List Call) → sameStore cs ≡ true → stateOf (storeAfterAll cs z₂) ≡ runEvents q (eventsOf cs) (after q (starts k) (stateOf z₁))
+  state-then : (cs : List Call) → sameStore cs ≡ true → stateOf (storeAfterAll cs z₂) ≡ stateAfterAll q (eventsOf cs) (after q (starts k) (stateOf z₁))
   state-then cs t = state-after z₁ good₁ c k i (runs .is-start) (runs .starting) cs t
 
-  plan-then : (cs : List Call) → sameStore cs ≡ true → storeAfterAll cs z₂ .plan ≡ z₁ .plan
+  plan-then : (cs : List Call) → sameStore cs ≡ true → planOf (storeAfterAll cs z₂) ≡ planOf z₁
   plan-then cs t = plan-after z₁ good₁ c k i (runs .is-start) (runs .starting) cs t
 
   -- It ends by a call that is a step of its own.
   module _ (d : Call) (is-step : eventOf d ≡ steps i) (done : Done d z₃) where
-    says₃ : answerTo d z₃ ≡ some (answerOf q (steps i) (runEvents q es (after q (starts k) (stateOf z₁))))
+    says₃ : answerTo d z₃ ≡ some (answerOf q (steps i) (stateAfterAll q es (after q (starts k) (stateOf z₁))))
     says₃ =
         acts-as d (steps i) is-step (step-acts i) .answers z₃
         ∙ ap some (step-answer z₁ good₁ c k i (runs .is-start) (runs .starting) between (runs .stays))
 
     -- The search, on the state at its start.
     on-states : SearchRecency q (stateOf z₁) [] es k i
-    unfolding runEvents
+    unfolding stateAfterAll
     on-states =
         search-recency q (plan-good z₁ good₁) (stateOf z₁) (state-good z₁ good₁) [] es k i
         (state-starts z₁ good₁ c k i (runs .is-start) (runs .starting))
-        (subst (λ (s : State). goesOn q i es s ≡ true) (state-y z₁ good₁ c k i (runs .is-start) (runs .starting)) (runs .goes-on))
+        (subst (λ (s : State). stillRuns q i es s ≡ true) (state-y z₁ good₁ c k i (runs .is-start) (runs .starting)) (runs .still-runs))
         (ap (λ (a : Answer). a .number) (one-some says₃ (done .1)) ∙ done .2)
 
     -- The history at the search's start, and since.
@@ -203,7 +203,7 @@ module _ (z : Store) (good : goodStore z ≡ true) (before : List Call) (c : Cal
     h₁ = history before z (held (stateOf z))
 
     abbrev since : History
-    since = entered q (starts k ∷ es) (stateOf z₁)
+    since = enteredCopies q (starts k ∷ es) (stateOf z₁)
 
     same-all : sameStore (c ∷ between) ≡ true
     unfolding sameStore
@@ -214,10 +214,10 @@ module _ (z : Store) (good : goodStore z ≡ true) (before : List Call) (c : Cal
     whole-history =
         history-append before (c ∷ between) z (held (stateOf z))
         ∙ same-history (c ∷ between) z₁ good₁ same-all h₁
-        ∙ ap (λ (e : Event). h₁ ++ entered q (e ∷ es) (stateOf z₁)) (runs .is-start)
+        ∙ ap (λ (e : Event). h₁ ++ enteredCopies q (e ∷ es) (stateOf z₁)) (runs .is-start)
 
     -- The copies entered between.
-    between-history : history between z₂ [] ≡ entered q es (after q (starts k) (stateOf z₁))
+    between-history : history between z₂ [] ≡ enteredCopies q es (after q (starts k) (stateOf z₁))
     between-history =
         same-history between z₂ good₂ (runs .stays) []
         ∙ rw (state-y z₁ good₁ c k i (runs .is-start) (runs .starting), plan-y z₁ good₁ c k i (runs .is-start) (runs .starting))
@@ -238,7 +238,7 @@ module _ (z : Store) (good : goodStore z ≡ true) (before : List Call) (c : Cal
 
     -- Search recency, over all sequences of public calls.
     pub store-recency : StoreRecency z before c between d k i
-    unfolding runEvents
+    unfolding stateAfterAll
     store-recency =
         let r = on-states in
         record {
@@ -255,13 +255,13 @@ module _ (z : Store) (good : goodStore z ≡ true) (before : List Call) (c : Cal
         }
       where
         then-or-since : (found : Option Copy)
-            → (found ≡ currentIn z₁ k) ⊎ ((x : Copy) × (found ≡ some x) × List·Memᴰ x (entered q es (after q (starts k) (stateOf z₁))))
+            → (found ≡ currentIn z₁ k) ⊎ ((x : Copy) × (found ≡ some x) × List·Memᴰ x (enteredCopies q es (after q (starts k) (stateOf z₁))))
             → (found ≡ currentIn z₁ k) ⊎ ((x : Copy) × (found ≡ some x) × List·Memᴰ x (history between z₂ []))
         then-or-since found (inl e) = inl e
         then-or-since found (inr w) = inr (w .0, w .1, subst (λ (h : History). List·Memᴰ (w .0) h) (sym between-history) (w .2))
 
         point : (first rest : List Event) → es ≡ first ++ rest → (found : Option Copy)
-            → found ≡ current q (runEvents q first (after q (starts k) (stateOf z₁))) k
+            → found ≡ current q (stateAfterAll q first (after q (starts k) (stateOf z₁))) k
             → (ds rs : List Call) × (between ≡ ds ++ rs) × (found ≡ currentIn (storeAfterAll ds z₂) k)
         point first rest e found f =
             let w = calls-split between first rest e in

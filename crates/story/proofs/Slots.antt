@@ -1,4 +1,4 @@
--- A slot, event by event: one in which no search runs gets one by a start alone, and one whose search does not go on gets idle. Assumes
+-- A slot, event by event: one in which no search runs gets one by a start alone, and one whose search does not run on gets idle. Assumes
 -- nothing.
 use mathlib.Core.Path.{_≡_, refl, sym, ap, _∙_, subst}
 use mathlib.Core.Bool.{Bool, true, false, not, _||_}
@@ -14,7 +14,7 @@ use Rattle.lists.proofs.Truths.{not-both}
 use Rattle.plan.specs.Plan.{Plan}
 use Rattle.store.specs.declared.Slot.{Slot}
 use Rattle.store.specs.Answers.{DONE, GOING, answer}
-use Rattle.store.specs.Copies.{WITHDRAWN, RESULT}
+use Rattle.store.specs.Copies.{kindNumber, valueHeld}
 use Rattle.store.specs.State.{State, slotAt, idle}
 use Rattle.store.specs.Calls.{Effect}
 use Rattle.steps.specs.Searches.{running, withSlot}
@@ -24,8 +24,8 @@ use Rattle.steps.proofs.WaysOut.RunningWay.{no-slot, slot-idle, slot-runs}
 use Rattle.steps.proofs.WaysOut.Visit.{finds, never, goes}
 use Rattle.steps.proofs.WaysOut.Freed.{freed}
 use Rattle.steps.proofs.LineSteps.{slot-set, slot-other, entry-slots, carry-slots}
-use Rattle.theory.specs.Events.{Event, effect, after, answerOf, goesOnThrough}
-use Rattle.theory.specs.Events.Event.{enters, withdraws, carries, starts, steps, cancels, asks}
+use Rattle.theory.specs.Events.{Event, effect, after, answerOf, stillRunsAfter}
+use Rattle.theory.specs.Events.Event.{enters, carries, starts, steps, cancels, asks}
 
 -- No search runs in slot i.
 abbrev pub Idles : State → ℕ → Type 0
@@ -44,7 +44,7 @@ module _ (s : State) (i : ℕ) where
   other-slot j q h e = ap (λ (r : Slot). r .running) (slot-other j q s i h) ∙ e
 
 module _ (p : Plan) (s : State) (i : ℕ) where
-  -- An event through which the slot's search does not go on leaves no search in it.
+  -- An event after which the slot's search does not still run leaves no search in it.
   stepped-idle : {o : Effect} → RunningWay (Visit i p s) i s o → eqb (o .answer .number) GOING ≡ false → Idles (o .after) i
   stepped-idle (no-slot h) t = past-slots s i h
   stepped-idle (slot-idle h g) t = g
@@ -57,8 +57,8 @@ module _ (p : Plan) (s : State) (i : ℕ) where
   cancelled-idle (slot-idle h g) = g
   cancelled-idle (slot-runs h g freed) = made-idle s i h
 
-  pub stopped-idle : (e : Event) → goesOnThrough p i e s ≡ false → Idles (after p e s) i
-  unfolding effect goesOnThrough
+  pub stopped-idle : (e : Event) → stillRunsAfter p i e s ≡ false → Idles (after p e s) i
+  unfolding effect stillRunsAfter
   stopped-idle (steps j) t = go (ℕ-discrete j i)
     where
       second : (b : Bool) → not b || eqb (answerOf p (steps j) s .number) GOING ≡ false → b ≡ true
@@ -82,8 +82,7 @@ module _ (p : Plan) (s : State) (i : ℕ) where
       is : (b : Bool) → not b ≡ false → b ≡ true
       is true t = refl
       is false t = absurd (not-both refl t)
-  stopped-idle (enters k v) t = absurd (not-both refl t)
-  stopped-idle (withdraws k) t = absurd (not-both refl t)
+  stopped-idle (enters kind k v) t = absurd (not-both refl t)
   stopped-idle (carries n j) t = absurd (not-both refl t)
   stopped-idle (starts k) t = absurd (not-both refl t)
   stopped-idle asks t = absurd (not-both refl t)
@@ -101,8 +100,8 @@ module _ (p : Plan) (s : State) (i : ℕ) where
 
     pub still-idle : (e : Event) → Idles (after p e s) i ⊎ StartsIn e
     unfolding effect
-    still-idle (enters k v) = inl (ap (λ (qs : List Slot). getD qs i idle .running) (entry-slots RESULT k v p s) ∙ idles)
-    still-idle (withdraws k) = inl (ap (λ (qs : List Slot). getD qs i idle .running) (entry-slots WITHDRAWN k 0 p s) ∙ idles)
+    still-idle (enters kind k v) =
+        inl (ap (λ (qs : List Slot). getD qs i idle .running) (entry-slots (kindNumber kind) k (valueHeld kind v) p s) ∙ idles)
     still-idle (carries n j) = inl (ap (λ (qs : List Slot). getD qs i idle .running) (carry-slots n j p s) ∙ idles)
     still-idle (starts k) = go (start-way k p s)
       where

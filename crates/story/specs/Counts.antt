@@ -7,7 +7,7 @@ use Rattle.store.specs.declared.Store.{Store}
 use Rattle.store.specs.Answers.{DONE, answer}
 use Rattle.store.specs.Copies.{keyOf}
 use Rattle.store.specs.State.{lastClock}
-use Rattle.store.specs.Layout.{planOf, planOf, countOf, nodeOf}
+use Rattle.store.specs.Layout.{planOf, countOf, nodeOf}
 use Rattle.steps.specs.Carries.{countHeld}
 use Rattle.story.specs.PublicCalls.{Call, storeAfter, answerTo}
 

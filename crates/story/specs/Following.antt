@@ -6,13 +6,13 @@ use mathlib.Core.Option.{Option, none, some}
 use Prim.Native.Nat.{ℕ, _+_}
 use lib.Dec.{eqb}
 use lib.ListN.{getD}
-use Rattle.plan.specs.PlanTable.{planNumbered}
 use Rattle.store.specs.declared.Copy.{Copy}
 use Rattle.store.specs.declared.Outcome.{Outcome}
 use Rattle.store.specs.declared.Store.{Store}
-use Rattle.store.specs.Copies.{WITHDRAWN, RESULT, copy, isSome}
+use Rattle.store.specs.Copies.{kindNumber, valueHeld, copy, isSome}
+use Rattle.store.specs.Copies.Kind.{withdrawn, result}
 use Rattle.store.specs.State.{line}
-use Rattle.store.specs.Layout.{stateOf}
+use Rattle.store.specs.Layout.{planOf, stateOf, freshStore}
 use Rattle.store.specs.Calls.{onStore}
 use Rattle.store.specs.Promises.{freshOutcome}
 use Rattle.steps.specs.Carries.{bit}
@@ -21,15 +21,16 @@ use Rattle.schedule.specs.declared.Step.{Step}
 use Rattle.schedule.specs.Schedule.{ENTER, WITHDRAW, CARRY, START, STEP, CANCEL}
 use Rattle.schedule.specs.Running.{noStep}
 use Rattle.theory.specs.Events.{Event, effect, optionList, held, rounds}
-use Rattle.theory.specs.Events.Event.{enters, withdraws, carries, starts, steps, cancels, asks}
+use Rattle.theory.specs.Events.Event.{enters, carries, starts, steps, cancels, asks}
 use Rattle.story.specs.PublicCalls.{Call, accepted, storeAfter}
-use Rattle.story.specs.PublicCalls.Call.{fresh, load, enter, withdraw, carry, start, step, cancel, look, save, page, serve, run}
+use Rattle.story.specs.PublicCalls.Call.{fresh, load, enter, carry, start, step, cancel, reads, run}
+use Rattle.story.specs.PublicCalls.Reading.{save}
 
 -- The event of a step record; an unknown step does nothing.
 unfoldable pub eventOfRecord : Step → Event
 eventOfRecord r =
-    cond (eqb (r .number) ENTER) (enters (r .x) (r .y))
-    (cond (eqb (r .number) WITHDRAW) (withdraws (r .x))
+    cond (eqb (r .number) ENTER) (enters result (r .x) (r .y))
+    (cond (eqb (r .number) WITHDRAW) (enters withdrawn (r .x) 0)
     (cond (eqb (r .number) CARRY) (carries (r .x) (r .y))
     (cond (eqb (r .number) START) (starts (r .x))
     (cond (eqb (r .number) STEP) (steps (r .x))
@@ -37,8 +38,7 @@ eventOfRecord r =
 
 -- What a call is to the state of the store that it is given.
 unfoldable pub eventOf : Call → Event
-eventOf (enter k v) = enters k v
-eventOf (withdraw k) = withdraws k
+eventOf (enter kind k v) = enters kind k v
 eventOf (carry n i) = carries n i
 eventOf (start k) = starts k
 eventOf (step i) = steps i
@@ -46,10 +46,7 @@ eventOf (cancel i) = cancels i
 eventOf (run list place) = eventOfRecord (getD list place noStep)
 eventOf (fresh plan) = asks
 eventOf (load bytes) = asks
-eventOf (look k) = asks
-eventOf save = asks
-eventOf (page sample) = asks
-eventOf (serve sample) = asks
+eventOf (reads r) = asks
 
 -- The events of a sequence.
 unfoldable pub eventsOf : List Call → List Event
@@ -60,25 +57,26 @@ eventsOf (c ∷ cs) = eventOf c ∷ eventsOf cs
 unfoldable pub onEvent : Event → Store → Outcome
 onEvent e z = onStore (λ p s. effect p e s) z
 
--- The store of an accepted outcome.
-abbrev pub storeIfAccepted : Outcome → Option Store
-storeIfAccepted o = cond (accepted (o .answer)) (some (o .store)) none
+-- The outcome of a fresh or load, which is given no store; no other call has one of its own.
+unfoldable pub ownOutcome : Call → Option Outcome
+ownOutcome (fresh plan) = some (freshOutcome plan)
+ownOutcome (load bytes) = some (loadOutcome bytes)
+ownOutcome (enter kind k v) = none
+ownOutcome (carry n i) = none
+ownOutcome (start k) = none
+ownOutcome (step i) = none
+ownOutcome (cancel i) = none
+ownOutcome (reads r) = none
+ownOutcome (run list place) = none
+
+-- The store of an outcome, if there is one and it is accepted.
+abbrev pub storeIfAccepted : Option Outcome → Option Store
+storeIfAccepted none = none
+storeIfAccepted (some o) = cond (accepted (o .answer)) (some (o .store)) none
 
 -- The store that takes another's place: of an accepted fresh or load, and of no other call.
 unfoldable pub replacement : Call → Option Store
-replacement (fresh plan) = storeIfAccepted (freshOutcome plan)
-replacement (load bytes) = storeIfAccepted (loadOutcome bytes)
-replacement (enter k v) = none
-replacement (withdraw k) = none
-replacement (carry n i) = none
-replacement (start k) = none
-replacement (step i) = none
-replacement (cancel i) = none
-replacement (look k) = none
-replacement save = none
-replacement (page sample) = none
-replacement (serve sample) = none
-replacement (run list place) = none
+replacement c = storeIfAccepted (ownOutcome c)
 
 -- No call of a sequence replaces the store.
 unfoldable pub sameStore : List Call → Bool
@@ -87,8 +85,8 @@ sameStore (c ∷ cs) = not (isSome (replacement c)) && sameStore cs
 
 -- The copy that an event enters, if it is an accepted entry.
 unfoldable pub enteredBy : Event → Store → Option Copy
-enteredBy (enters k v) z = cond (accepted (onEvent (enters k v) z .answer)) (some (copy k RESULT v (z .clock))) none
-enteredBy (withdraws k) z = cond (accepted (onEvent (withdraws k) z .answer)) (some (copy k WITHDRAWN 0 (z .clock))) none
+enteredBy (enters kind k v) z =
+    cond (accepted (onEvent (enters kind k v) z .answer)) (some (copy k (kindNumber kind) (valueHeld kind v) (z .clock))) none
 enteredBy (carries n i) z = none
 enteredBy (starts k) z = none
 enteredBy (steps i) z = none
@@ -102,8 +100,7 @@ hasLine z k n = isSome (line (stateOf z) k n)
 -- "A carry carries a line exactly when the node had its copy before and lacks it after."
 unfoldable pub carriedBy : ℕ → Event → Store → Bool
 carriedBy k (carries n i) z = hasLine z k n && not (hasLine (onEvent (carries n i) z .store) k n)
-carriedBy k (enters j v) z = false
-carriedBy k (withdraws j) z = false
+carriedBy k (enters kind j v) z = false
 carriedBy k (starts j) z = false
 carriedBy k (steps i) z = false
 carriedBy k (cancels i) z = false
@@ -131,13 +128,12 @@ carriesSince k (c ∷ cs) z n = carriesSince k cs (storeAfter c z) (carriesWith 
 
 -- The call of an event.
 unfoldable pub callOf : Event → Call
-callOf (enters k v) = enter k v
-callOf (withdraws k) = withdraw k
+callOf (enters kind k v) = enter kind k v
 callOf (carries n i) = carry n i
 callOf (starts k) = start k
 callOf (steps i) = step i
 callOf (cancels i) = cancel i
-callOf asks = save
+callOf asks = reads save
 
 -- The calls of some events.
 unfoldable pub callsOf : List Event → List Call
@@ -146,4 +142,4 @@ callsOf (e ∷ es) = callOf e ∷ callsOf es
 
 -- The calls that reach demand 3's bound: a fresh store of the plan, then the line entered and carried down its path, so many times.
 unfoldable pub roundCalls : ℕ → ℕ → ℕ → ℕ → List Call
-roundCalls plan k v r = fresh plan ∷ callsOf (rounds (planNumbered plan) k v r)
+roundCalls plan k v r = fresh plan ∷ callsOf (rounds (planOf (freshStore plan)) k v r)

@@ -1,4 +1,4 @@
--- Search recency on the declared store: a search for key k in slot i, started by a call after the calls `before`, that went on through the
+-- Search recency on the declared store: a search for key k in slot i, started by a call after the calls `before`, that ran on through the
 -- calls `between`, in which the store was not replaced, and then ended by a call that is a step of its own.
 use mathlib.Core.Path.{_≡_}
 use mathlib.Core.Bool.{true}
@@ -13,9 +13,9 @@ use Rattle.store.specs.declared.Store.{Store}
 use Rattle.store.specs.Answers.{DONE, answer}
 use Rattle.store.specs.Copies.{stampOf}
 use Rattle.store.specs.State.{current}
-use Rattle.store.specs.Layout.{planOf, planOf, stateOf}
+use Rattle.store.specs.Layout.{planOf, stateOf}
 use Rattle.steps.specs.Searches.{ended}
-use Rattle.theory.specs.Events.{held, goesOn, ownSteps}
+use Rattle.theory.specs.Events.{held, stillRuns, ownSteps}
 use Rattle.theory.specs.Events.Event.{starts, steps}
 use Rattle.theory.specs.Paper.{InHistory, ContentsInReach}
 use Rattle.story.specs.PublicCalls.{Call, storeAfter, answerTo, Done, storeAfterAll}
@@ -41,12 +41,12 @@ started z before c = storeAfter c (atStart z before)
 abbrev pub atEnd : Store → List Call → Call → List Call → Store
 atEnd z before c between = storeAfterAll between (started z before c)
 
--- A search that runs: a call started it in its slot, and it went on through the calls since, in which the store was not replaced.
+-- A search that runs: a call started it in its slot, and it still runs after the calls since, in which the store was not replaced.
 pub record SearchRuns (z : Store) (before : List Call) (c : Call) (between : List Call) (k i : ℕ) : Type 0 where
   pub is-start : eventOf c ≡ starts k
   pub starting : answerTo c (atStart z before) ≡ some (answer DONE i 0 0 0)
   pub stays : sameStore between ≡ true
-  pub goes-on : goesOn (planOf (atStart z before)) i (eventsOf between) (stateOf (started z before c)) ≡ true
+  pub still-runs : stillRuns (planOf (atStart z before)) i (eventsOf between) (stateOf (started z before c)) ≡ true
 
 -- What is said of a search whose last step is the call d.
 pub record StoreRecency (z : Store) (before : List Call) (c : Call) (between : List Call) (d : Call) (k i : ℕ) : Type 0 where
@@ -75,7 +75,7 @@ pub record Finished (z : Store) (cs : List Call) (d : Call) (i : ℕ) : Type 0 w
   pub runs : SearchRuns z before begins between key i
   pub recency : StoreRecency z before begins between d key i
 
--- The search in slot i of a store ends in a sequence of calls: by one of them that is a step of its own and says DONE, having gone on until
+-- The search in slot i of a store ends in a sequence of calls: by one of them that is a step of its own and says DONE, having run until
 -- then.
 pub record EndsByCall (z : Store) (i : ℕ) (cs : List Call) : Type 0 where
   pub earlier : List Call
@@ -83,5 +83,5 @@ pub record EndsByCall (z : Store) (i : ℕ) (cs : List Call) : Type 0 where
   pub later : List Call
   pub parts : cs ≡ earlier ++ call ∷ later
   pub is-step : eventOf call ≡ steps i
-  pub until : goesOn (planOf z) i (eventsOf earlier) (stateOf z) ≡ true
+  pub until : stillRuns (planOf z) i (eventsOf earlier) (stateOf z) ≡ true
   pub done : Done call (storeAfterAll earlier z)

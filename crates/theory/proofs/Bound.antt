@@ -25,7 +25,7 @@ use Rattle.store.proofs.Lifting.{fresh-rules}
 use Rattle.steps.specs.Carries.{bit}
 use Rattle.steps.proofs.LineSteps.{Line, Entered, Carried, LineStep}
 use Rattle.steps.proofs.LineSteps.LineStep.{same, enters, carries}
-use Rattle.theory.specs.Events.{Event, after, run, entryOf, optionList, entered, ofLine, held, copiesOf, heldOf, entries, carriesLine, carried, worthOn, worth}
+use Rattle.theory.specs.Events.{Event, after, stateAfterAll, entryOf, optionList, enteredCopies, ofLine, held, copiesOf, heldOf, entries, carriesLine, carried, worthOn, worth}
 use Rattle.theory.proofs.EventSteps.{event-keeps, event-line}
 use Rattle.theory.proofs.Invariants.{line-led-to, held-fresh}
 
@@ -133,13 +133,13 @@ copies-option k (some x) = add-zero (bit (eqb (x .key) k))
 pub copies-with : (k : ℕ) (xs : List Copy) (o : Option Copy) → copiesOf k (xs ++ optionList o) ≡ copiesOf k xs + bit (ofLine k o)
 copies-with k xs o = copies-append k xs (optionList o) ∙ ap (λ (n : ℕ). copiesOf k xs + n) (copies-option k o)
 
-pub copies-entered : (p : Plan) (k : ℕ) (es : List Event) (s : State) → copiesOf k (entered p es s) ≡ entries p k es s
-unfolding entered entries copiesOf
+pub copies-entered : (p : Plan) (k : ℕ) (es : List Event) (s : State) → copiesOf k (enteredCopies p es s) ≡ entries p k es s
+unfolding enteredCopies entries copiesOf
 copies-entered p k [] s = refl
 copies-entered p k (e ∷ es) s =
     omega (
       arith,
-      copies-append k (optionList (entryOf p e s)) (entered p es (after p e s)),
+      copies-append k (optionList (entryOf p e s)) (enteredCopies p es (after p e s)),
       copies-option k (entryOf p e s),
       copies-entered p k es (after p e s),
     )
@@ -191,8 +191,8 @@ module _ (p : Plan) (rules : PlanRules p) (k : ℕ) where
 
   -- and through a sequence.
   pub account : (es : List Event) (s : State) → StateRules p s
-      → carried p k es s + worth p k (run p es s) ≤ worth p k s + edgesOn p k * entries p k es s
-  unfolding carried entries run
+      → carried p k es s + worth p k (stateAfterAll p es s) ≤ worth p k s + edgesOn p k * entries p k es s
+  unfolding carried entries stateAfterAll
   account [] s good = rw mul-zero (omega arith)
   account (e ∷ es) s good =
       omega (

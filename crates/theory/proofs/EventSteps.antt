@@ -13,12 +13,11 @@ use Rattle.plan.specs.Plan.{Plan}
 use Rattle.plan.specs.PlanRules.{PlanRules}
 use Rattle.store.specs.declared.Copy.{Copy}
 use Rattle.store.specs.Answers.{DONE}
-use Rattle.store.specs.Copies.{WITHDRAWN, RESULT, copy}
-use Rattle.store.specs.Copies.Kind.{withdrawn, result}
+use Rattle.store.specs.Copies.{kindNumber, valueHeld, copy}
 use Rattle.store.specs.State.{State, line}
 use Rattle.store.specs.StateRules.{StateRules}
 use Rattle.store.specs.Calls.{Effect}
-use Rattle.steps.specs.Entries.{entered as enteredInto, entry}
+use Rattle.steps.specs.Entries.{entered, entry}
 use Rattle.steps.specs.Carries.{bit}
 use Rattle.steps.proofs.WaysOut.{EntryWay, entry-way}
 use Rattle.steps.proofs.WaysOut.EntryWay.{at-last-clock, root-full, enters as copy-enters}
@@ -28,8 +27,8 @@ use Rattle.steps.proofs.LinesKept.{Came, came, clock-grows}
 use Rattle.steps.proofs.LinesKept.Came.{stood, moved, entered as came-in}
 use Rattle.steps.proofs.Keeping.{kind-keeps, carry-keeps, start-keeps, step-keeps, cancel-keeps}
 use Rattle.steps.proofs.Refusals.{Unaltered, entry-unaltered, carry-unaltered, start-unaltered, step-unaltered, cancel-unaltered}
-use Rattle.theory.specs.Events.{Event, effect, after, run, entryOf, ofLine, carriesLine}
-use Rattle.theory.specs.Events.Event.{enters, withdraws, carries, starts, steps, cancels, asks}
+use Rattle.theory.specs.Events.{Event, effect, after, stateAfterAll, entryOf, ofLine, carriesLine}
+use Rattle.theory.specs.Events.Event.{enters, carries, starts, steps, cancels, asks}
 
 bit-one : (b : Bool) → bit b ≡ 1 → b ≡ true
 bit-one true e = refl
@@ -48,7 +47,7 @@ of-line k (some x) t = (x, refl, eqb-true (x .key) k t)
 -- The two ways of an entry, by what it enters: the copy has the clock as its stamp, and is put into the root.
 record EntersCopy (s s′ : State) (x : Copy) : Type 0 where
   stamp : x .stamp ≡ s .clock
-  puts : s′ ≡ enteredInto x s
+  puts : s′ ≡ entered x s
 
 entry-enters : (kind k v : ℕ) (p : Plan) (s : State) (x : Copy)
     → cond (eqb (entry kind k v p s .answer .number) DONE) (some (copy k kind v (s .clock))) none ≡ some x
@@ -61,14 +60,13 @@ entry-enters kind k v p s x = go (entry-way kind k v p s)
     go (root-full h f g) e = absurd (not-none-and-some refl e)
     go (copy-enters h f) e =
         let is : copy k kind v (s .clock) ≡ x = one-some refl e in
-        record { stamp = ap (λ (y : Copy). y .stamp) (sym is); puts = ap (λ (y : Copy). enteredInto y s) is }
+        record { stamp = ap (λ (y : Copy). y .stamp) (sym is); puts = ap (λ (y : Copy). entered y s) is }
 
 module _ (p : Plan) where
   -- An accepted entry puts its copy, stamped with the clock, into the root.
   enters-copy : (e : Event) (s : State) (x : Copy) → entryOf p e s ≡ some x → EntersCopy s (after p e s) x
   unfolding effect entryOf
-  enters-copy (enters k v) s x e = entry-enters RESULT k v p s x e
-  enters-copy (withdraws k) s x e = entry-enters WITHDRAWN k 0 p s x e
+  enters-copy (enters kind k v) s x e = entry-enters (kindNumber kind) k (valueHeld kind v) p s x e
   enters-copy (carries n i) s x e = absurd (not-none-and-some refl e)
   enters-copy (starts k) s x e = absurd (not-none-and-some refl e)
   enters-copy (steps i) s x e = absurd (not-none-and-some refl e)
@@ -79,20 +77,19 @@ module _ (p : Plan) where
   entry-stamp e s x q = enters-copy e s x q .stamp
 
   pub entry-clock : (e : Event) (s : State) (x : Copy) → entryOf p e s ≡ some x → s .clock < after p e s .clock
-  entry-clock e s x q = rw (enters-copy e s x q .puts) (unfold enteredInto in omega arith)
+  entry-clock e s x q = rw (enters-copy e s x q .puts) (unfold entered in omega arith)
 
   -- One sequence after another.
-  pub run-append : (es fs : List Event) (s : State) → run p (es ++ fs) s ≡ run p fs (run p es s)
-  unfolding run
-  run-append [] fs s = refl
-  run-append (e ∷ es) fs s = run-append es fs (after p e s)
+  pub after-all-append : (es fs : List Event) (s : State) → stateAfterAll p (es ++ fs) s ≡ stateAfterAll p fs (stateAfterAll p es s)
+  unfolding stateAfterAll
+  after-all-append [] fs s = refl
+  after-all-append (e ∷ es) fs s = after-all-append es fs (after p e s)
 
 module _ (p : Plan) (rules : PlanRules p) where
   -- Every event keeps all state rules,
   pub event-keeps : (e : Event) (s : State) → StateRules p s → StateRules p (after p e s)
   unfolding effect
-  event-keeps (enters k v) s good = kind-keeps result k v p rules s good
-  event-keeps (withdraws k) s good = kind-keeps withdrawn k 0 p rules s good
+  event-keeps (enters kind k v) s good = kind-keeps kind k v p rules s good
   event-keeps (carries n i) s good = carry-keeps n i p rules s good
   event-keeps (starts k) s good = start-keeps k p rules s good
   event-keeps (steps i) s good = step-keeps i p rules s good
@@ -100,17 +97,16 @@ module _ (p : Plan) (rules : PlanRules p) where
   event-keeps asks s good = good
 
   -- and so does every sequence.
-  pub run-keeps : (es : List Event) (s : State) → StateRules p s → StateRules p (run p es s)
-  unfolding run
-  run-keeps [] s good = good
-  run-keeps (e ∷ es) s good = run-keeps es (after p e s) (event-keeps e s good)
+  pub events-keep : (es : List Event) (s : State) → StateRules p s → StateRules p (stateAfterAll p es s)
+  unfolding stateAfterAll
+  events-keep [] s good = good
+  events-keep (e ∷ es) s good = events-keep es (after p e s) (event-keeps e s good)
 
   module _ (s : State) (good : StateRules p s) where
     -- A refusal (2 and up) leaves the state unaltered.
     pub event-unaltered : (e : Event) → Unaltered s (effect p e s)
     unfolding effect
-    event-unaltered (enters k v) = entry-unaltered p rules s good RESULT k v
-    event-unaltered (withdraws k) = entry-unaltered p rules s good WITHDRAWN k 0
+    event-unaltered (enters kind k v) = entry-unaltered p rules s good (kindNumber kind) k (valueHeld kind v)
     event-unaltered (carries n i) = carry-unaltered p rules s good n i
     event-unaltered (starts k) = start-unaltered p rules s good k
     event-unaltered (steps i) = step-unaltered p rules s good i
@@ -126,8 +122,7 @@ module _ (p : Plan) (rules : PlanRules p) where
     -- For each line an event is nothing, one entry of it, or one carry of it.
     pub event-line : (e : Event) (k : ℕ) → LineThrough p s (effect p e s) k (bit (carriesLine p k e s)) (bit (ofLine k (entryOf p e s)))
     unfolding effect entryOf carriesLine
-    event-line (enters j v) k = entry-of-line RESULT j v k
-    event-line (withdraws j) k = entry-of-line WITHDRAWN j 0 k
+    event-line (enters kind j v) k = entry-of-line (kindNumber kind) j (valueHeld kind v) k
     event-line (carries n i) k = carry-line p rules s good k n i
     event-line (starts j) k = start-line p rules s good k j
     event-line (steps i) k = step-line p rules s good k i

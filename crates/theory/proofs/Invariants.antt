@@ -42,7 +42,7 @@ use Rattle.steps.specs.Carries.{bit}
 use Rattle.steps.proofs.RulesOnLines.{line-rules, line-key, line-held, held-line}
 use Rattle.steps.proofs.LineSteps.{LineThrough}
 use Rattle.steps.proofs.LineSteps.LineStep.{same, enters, carries}
-use Rattle.theory.specs.Events.{Event, effect, after, run, entryOf, optionList, entered, held, ofLine, carriesLine}
+use Rattle.theory.specs.Events.{Event, effect, after, stateAfterAll, entryOf, optionList, enteredCopies, held, ofLine, carriesLine}
 use Rattle.theory.specs.Paper.{ContentsInReach, History, InHistory, HUnique, Logical, Multicopy}
 use Rattle.theory.proofs.EventSteps.{
   event-keeps,
@@ -98,17 +98,17 @@ held-fresh p = flatten-empty (size p)
 
 module _ (p : Plan) (rules : PlanRules p) where
   -- The history after one sequence and another, and so it only grows.
-  pub entered-append : (es fs : List Event) (s : State) → entered p (es ++ fs) s ≡ entered p es s ++ entered p fs (run p es s)
-  unfolding entered run
+  pub entered-append : (es fs : List Event) (s : State) → enteredCopies p (es ++ fs) s ≡ enteredCopies p es s ++ enteredCopies p fs (stateAfterAll p es s)
+  unfolding enteredCopies stateAfterAll
   entered-append [] fs s = refl
   entered-append (e ∷ es) fs s =
       ap (λ (xs : List Copy). optionList (entryOf p e s) ++ xs) (entered-append es fs (after p e s))
-      ∙ sym (append-assoc (optionList (entryOf p e s)) (entered p es (after p e s)) (entered p fs (run p es (after p e s))))
+      ∙ sym (append-assoc (optionList (entryOf p e s)) (enteredCopies p es (after p e s)) (enteredCopies p fs (stateAfterAll p es (after p e s))))
 
-  pub history-grows : (es fs : List Event) (s : State) (x : Copy) → List·Memᴰ x (held s ++ entered p es s) → List·Memᴰ x (held s ++ entered p (es ++ fs) s)
+  pub history-grows : (es fs : List Event) (s : State) (x : Copy) → List·Memᴰ x (held s ++ enteredCopies p es s) → List·Memᴰ x (held s ++ enteredCopies p (es ++ fs) s)
   history-grows es fs s x m =
-      rw (entered-append es fs s, ← (append-assoc (held s) (entered p es s) (entered p fs (run p es s))))
-      (Memᴰ·append-left (entered p fs (run p es s)) m)
+      rw (entered-append es fs s, ← (append-assoc (held s) (enteredCopies p es s) (enteredCopies p fs (stateAfterAll p es s))))
+      (Memᴰ·append-left (enteredCopies p fs (stateAfterAll p es s)) m)
 
   module _ (s : State) (good : StateRules p s) where
     -- The copies that a state holds are those of its lines,
@@ -314,49 +314,49 @@ module _ (p : Plan) (rules : PlanRules p) where
             }
 
   -- What is entered has the clock's stamp or a later one.
-  pub entered-late : (es : List Event) (s : State) → StateRules p s → (x : Copy) → List·Memᴰ x (entered p es s) → s .clock ≤ x .stamp
-  unfolding entered
+  pub entered-late : (es : List Event) (s : State) → StateRules p s → (x : Copy) → List·Memᴰ x (enteredCopies p es s) → s .clock ≤ x .stamp
+  unfolding enteredCopies
   entered-late [] s good x m = absurd (List·Memᴰ·not-nil m)
   entered-late (e ∷ es) s good x m =
       go (List·Memᴰ·append-cases (optionList (entryOf p e s)) m) (entered-late es (after p e s) (event-keeps p rules e s good) x)
     where
-      go : List·Memᴰ x (optionList (entryOf p e s)) ⊎ List·Memᴰ x (entered p es (after p e s))
-          → (List·Memᴰ x (entered p es (after p e s)) → after p e s .clock ≤ x .stamp) → s .clock ≤ x .stamp
+      go : List·Memᴰ x (optionList (entryOf p e s)) ⊎ List·Memᴰ x (enteredCopies p es (after p e s))
+          → (List·Memᴰ x (enteredCopies p es (after p e s)) → after p e s .clock ≤ x .stamp) → s .clock ≤ x .stamp
       go (inl a) again = omega (arith, entry-stamp p e s x (member-option (entryOf p e s) x a))
       go (inr a) again = omega (arith, again a, event-clock p rules s good e)
 
   -- Over every sequence.
-  pub multicopy-run : (es : List Event) (s : State) → StateRules p s → (h : History) → Multicopy p s h → Multicopy p (run p es s) (h ++ entered p es s)
-  unfolding run entered
-  multicopy-run [] s good h c = rw append-nil c
-  multicopy-run (e ∷ es) s good h c =
-      rw (← (append-assoc h (optionList (entryOf p e s)) (entered p es (after p e s))))
-      (multicopy-run es (after p e s) (event-keeps p rules e s good) (h ++ optionList (entryOf p e s)) (multicopy-event s good e h c))
+  pub multicopy-all : (es : List Event) (s : State) → StateRules p s → (h : History) → Multicopy p s h → Multicopy p (stateAfterAll p es s) (h ++ enteredCopies p es s)
+  unfolding stateAfterAll enteredCopies
+  multicopy-all [] s good h c = rw append-nil c
+  multicopy-all (e ∷ es) s good h c =
+      rw (← (append-assoc h (optionList (entryOf p e s)) (enteredCopies p es (after p e s))))
+      (multicopy-all es (after p e s) (event-keeps p rules e s good) (h ++ optionList (entryOf p e s)) (multicopy-event s good e h c))
 
   -- From any state that meets the rules, with each copy that it holds as an entry: the paper's structure holds at all times.
-  pub multicopy : (es : List Event) (s : State) → StateRules p s → Multicopy p (run p es s) (held s ++ entered p es s)
-  multicopy es s good = multicopy-run es s good (held s) (multicopy-held s good)
+  pub multicopy : (es : List Event) (s : State) → StateRules p s → Multicopy p (stateAfterAll p es s) (held s ++ enteredCopies p es s)
+  multicopy es s good = multicopy-all es s good (held s) (multicopy-held s good)
 
   -- From a fresh state the history is what was entered.
-  pub multicopy-fresh : (es : List Event) → Multicopy p (run p es (fresh p)) (entered p es (fresh p))
+  pub multicopy-fresh : (es : List Event) → Multicopy p (stateAfterAll p es (fresh p)) (enteredCopies p es (fresh p))
   multicopy-fresh es =
-      subst (λ (h : History). Multicopy p (run p es (fresh p)) (h ++ entered p es (fresh p))) (held-fresh p)
+      subst (λ (h : History). Multicopy p (stateAfterAll p es (fresh p)) (h ++ enteredCopies p es (fresh p))) (held-fresh p)
       (multicopy es (fresh p) (fresh-rules p))
 
-  pub reach-increases-run : (es : List Event) (s : State) → StateRules p s → (n k : ℕ) → n < size p
-      → stampOf (ContentsInReach p s n k) ≤ stampOf (ContentsInReach p (run p es s) n k)
-  unfolding run
-  reach-increases-run [] s good n k h = omega arith
-  reach-increases-run (e ∷ es) s good n k h =
+  pub reach-increases-all : (es : List Event) (s : State) → StateRules p s → (n k : ℕ) → n < size p
+      → stampOf (ContentsInReach p s n k) ≤ stampOf (ContentsInReach p (stateAfterAll p es s) n k)
+  unfolding stateAfterAll
+  reach-increases-all [] s good n k h = omega arith
+  reach-increases-all (e ∷ es) s good n k h =
       omega (
         arith,
         reach-increases s good e n k h,
-        reach-increases-run es (after p e s) (event-keeps p rules e s good) n k h,
+        reach-increases-all es (after p e s) (event-keeps p rules e s good) n k h,
       )
 
   -- Where nothing is entered, no line's current result changes.
-  pub currents-stay : (es : List Event) (s : State) → StateRules p s → entered p es s ≡ [] → (k : ℕ) → current p (run p es s) k ≡ current p s k
+  pub currents-stay : (es : List Event) (s : State) → StateRules p s → enteredCopies p es s ≡ [] → (k : ℕ) → current p (stateAfterAll p es s) k ≡ current p s k
   currents-stay es s good e k =
-      let c : Multicopy p (run p es s) (held s) =
-      subst (λ (h : History). Multicopy p (run p es s) h) (ap (λ (xs : List Copy). held s ++ xs) e ∙ append-nil (held s)) (multicopy es s good) in
-      logical-one (held s) k (current p (run p es s) k) (current p s k) (c .h-unique) (c .invariant-1 k) (multicopy-held s good .invariant-1 k)
+      let c : Multicopy p (stateAfterAll p es s) (held s) =
+      subst (λ (h : History). Multicopy p (stateAfterAll p es s) h) (ap (λ (xs : List Copy). held s ++ xs) e ∙ append-nil (held s)) (multicopy es s good) in
+      logical-one (held s) k (current p (stateAfterAll p es s) k) (current p s k) (c .h-unique) (c .invariant-1 k) (multicopy-held s good .invariant-1 k)

@@ -22,11 +22,12 @@ use Rattle.plan.proofs.PathLaws.{path-is}
 use Rattle.store.specs.declared.Copy.{Copy}
 use Rattle.store.specs.Answers.{DONE, answer}
 use Rattle.store.specs.Copies.{RESULT, copy, keyOf, find}
+use Rattle.store.specs.Copies.Kind.{result}
 use Rattle.store.specs.State.{State, lastClock, nodeAt, line, fresh}
 use Rattle.store.specs.StateRules.{StateRules}
 use Rattle.store.specs.Calls.{Effect}
 use Rattle.store.proofs.Lifting.{fresh-node, fresh-rules}
-use Rattle.steps.specs.Entries.{put, room, entered as enteredInto, entry}
+use Rattle.steps.specs.Entries.{put, room, entered, entry}
 use Rattle.steps.specs.Carries.{Merged, bit, carries as carriesCopy, merge, mergeAlong, carriedTo}
 use Rattle.steps.proofs.NodeLists.{find-same, find-empty, put-over, room-has, room-free}
 use Rattle.steps.proofs.Merges.{merge-carry}
@@ -36,7 +37,7 @@ use Rattle.theory.specs.Events.{
   Event,
   effect,
   after,
-  run,
+  stateAfterAll,
   entryOf,
   ofLine,
   entries,
@@ -47,7 +48,7 @@ use Rattle.theory.specs.Events.{
   rounds,
 }
 use Rattle.theory.specs.Events.Event.{enters, carries}
-use Rattle.theory.proofs.EventSteps.{event-keeps, run-append}
+use Rattle.theory.proofs.EventSteps.{event-keeps, after-all-append}
 
 -- A node that holds at most the line's copy.
 data Alone (k : ℕ) : List Copy → Type 0 where
@@ -93,13 +94,13 @@ edge-for (d ∷ es) k t e = go (bool? (holds d k)) (edge-for es k t)
 
 -- One sequence after another.
 module _ (p : Plan) (k : ℕ) where
-  pub carried-append : (es fs : List Event) (s : State) → carried p k (es ++ fs) s ≡ carried p k es s + carried p k fs (run p es s)
-  unfolding run carried
+  pub carried-append : (es fs : List Event) (s : State) → carried p k (es ++ fs) s ≡ carried p k es s + carried p k fs (stateAfterAll p es s)
+  unfolding stateAfterAll carried
   carried-append [] fs s = omega arith
   carried-append (e ∷ es) fs s = omega (arith, carried-append es fs (after p e s))
 
-  pub entries-append : (es fs : List Event) (s : State) → entries p k (es ++ fs) s ≡ entries p k es s + entries p k fs (run p es s)
-  unfolding run entries
+  pub entries-append : (es fs : List Event) (s : State) → entries p k (es ++ fs) s ≡ entries p k es s + entries p k fs (stateAfterAll p es s)
+  unfolding stateAfterAll entries
   entries-append [] fs s = omega arith
   entries-append (e ∷ es) fs s = omega (arith, entries-append es fs (after p e s))
 
@@ -110,20 +111,20 @@ module _ (p : Plan) (rules : PlanRules p) (k : ℕ) where
     alone : (n : ℕ) → Alone k (nodeAt s n)
 
   -- What an event leads to: a ready state with the line's copy in one node; and what was counted.
-  record Leads (n : ℕ) (x : Copy) (s : State) (e : Event) (moves entered ticks : ℕ) : Type 0 where
+  record Leads (n : ℕ) (x : Copy) (s : State) (e : Event) (moves joins ticks : ℕ) : Type 0 where
     ready : Ready (after p e s)
     stands : nodeAt (after p e s) n ≡ x ∷ []
     counts-moves : bit (carriesLine p k e s) ≡ moves
-    counts-entered : bit (ofLine k (entryOf p e s)) ≡ entered
+    counts-entered : bit (ofLine k (entryOf p e s)) ≡ joins
     clock : after p e s .clock ≡ ticks + s .clock
 
-  enters-alone : (s : State) → Ready s → (v : ℕ) → s .clock < lastClock → Leads 0 (copy k RESULT v (s .clock)) s (enters k v) 0 1 1
+  enters-alone : (s : State) → Ready s → (v : ℕ) → s .clock < lastClock → Leads 0 (copy k RESULT v (s .clock)) s (enters result k v) 0 1 1
   unfolding effect entryOf carriesLine
   enters-alone s r v h =
       record {
         ready =
             record {
-              good = event-keeps p rules (enters k v) s (r .good);
+              good = event-keeps p rules (enters result k v) s (r .good);
               alone =
                   rw went
                   (every-node-entered x s root (λ j xs. Alone k xs)
@@ -133,7 +134,7 @@ module _ (p : Plan) (rules : PlanRules p) (k : ℕ) where
         counts-moves = refl;
         counts-entered =
             ap (λ (o : Effect). bit (ofLine k (cond (eqb (o .answer .number) DONE) (some x) none))) was ∙ ap bit (eq-eqb k k refl);
-        clock = rw went (unfold enteredInto in omega arith);
+        clock = rw went (unfold entered in omega arith);
       }
     where
       x : Copy
@@ -142,7 +143,7 @@ module _ (p : Plan) (rules : PlanRules p) (k : ℕ) where
       root : 0 < length (s .nodes)
       root = omega (arith, r .good .a-list-for-each-node, rules .nodes-within)
 
-      was : entry RESULT k v p s ≡ record { answer = answer DONE (s .clock) 0 0 0; after = enteredInto x s }
+      was : entry RESULT k v p s ≡ record { answer = answer DONE (s .clock) 0 0 0; after = entered x s }
       was =
           unfold entry in
           rw (
@@ -150,7 +151,7 @@ module _ (p : Plan) (rules : PlanRules p) (k : ℕ) where
             alone-room k (capacityOf p 0) (r .alone 0) (rules .capacity-within 0 (root-in-plan p rules) .0),
           )
 
-      went : after p (enters k v) s ≡ enteredInto x s
+      went : after p (enters result k v) s ≡ entered x s
       went = ap (λ (o : Effect). o .after) was
 
   -- The carry that takes the line on from a node.
@@ -218,16 +219,16 @@ module _ (p : Plan) (rules : PlanRules p) (k : ℕ) where
           ∙ find-empty keyOf k)
 
   -- What a sequence leads to.
-  record LeadsOn (s : State) (es : List Event) (moves entered : ℕ) : Type 0 where
-    ready : Ready (run p es s)
+  record LeadsOn (s : State) (es : List Event) (moves joins : ℕ) : Type 0 where
+    ready : Ready (stateAfterAll p es s)
     counts-moves : carried p k es s ≡ moves
-    counts-entered : entries p k es s ≡ entered
-    clock : run p es s .clock ≡ entered + s .clock
+    counts-entered : entries p k es s ≡ joins
+    clock : stateAfterAll p es s .clock ≡ joins + s .clock
 
   -- Down the whole path, the copy is carried along every edge of it.
   carries-down : {n : ℕ} {ns : List ℕ} → IsPath (λ m. next p m k) n ns → (s : State) → Ready s → (x : Copy) → x .key ≡ k
       → nodeAt s n ≡ x ∷ [] → LeadsOn s (carriesDown p k ns) (length ns - 1) 0
-  unfolding carriesDown run carried entries
+  unfolding carriesDown stateAfterAll carried entries
   carries-down (last e) s r x q at = record { ready = r; counts-moves = refl; counts-entered = refl; clock = omega arith }
   carries-down (more {n = n} {t = t} e (last f)) s r x q at =
       let c = carries-alone s r n t e x q at in
@@ -249,16 +250,16 @@ module _ (p : Plan) (rules : PlanRules p) (k : ℕ) where
 
   -- And again, so many times.
   all-rounds : (v r : ℕ) (s : State) → Ready s → r + s .clock ≤ lastClock → LeadsOn s (rounds p k v r) (edgesOn p k * r) r
-  unfolding rounds run carried entries
+  unfolding rounds stateAfterAll carried entries
   all-rounds v zero s y h = record { ready = y; counts-moves = sym (mul-zero (edgesOn p k)); counts-entered = refl; clock = omega arith }
   all-rounds v (suc r) s y h =
       let b = enters-alone s y v (omega arith) in
-      let s₁ : State = after p (enters k v) s in
+      let s₁ : State = after p (enters result k v) s in
       let downward : List Event = carriesDown p k (path p k) in
       let d = carries-down (path-is p rules k 0 (root-in-plan p rules)) s₁ (b .ready) (copy k RESULT v (s .clock)) refl (b .stands) in
-      let f = all-rounds v r (run p downward s₁) (d .ready) (omega (arith, b .clock, d .clock)) in
+      let f = all-rounds v r (stateAfterAll p downward s₁) (d .ready) (omega (arith, b .clock, d .clock)) in
       record {
-        ready = subst Ready (sym (run-append p downward (rounds p k v r) s₁)) (f .ready);
+        ready = subst Ready (sym (after-all-append p downward (rounds p k v r) s₁)) (f .ready);
         counts-moves =
             rw mul-suc
             (omega (arith, carried-append p k downward (rounds p k v r) s₁, b .counts-moves, d .counts-moves, f .counts-moves));
@@ -267,7 +268,7 @@ module _ (p : Plan) (rules : PlanRules p) (k : ℕ) where
         clock =
             omega (
               arith,
-              ap (λ (z : State). z .clock) (run-append p downward (rounds p k v r) s₁),
+              ap (λ (z : State). z .clock) (after-all-append p downward (rounds p k v r) s₁),
               b .clock,
               d .clock,
               f .clock,

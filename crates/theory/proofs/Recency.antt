@@ -29,10 +29,10 @@ use Rattle.store.specs.Copies.{stampOf}
 use Rattle.store.specs.State.{State, line, inReach, current}
 use Rattle.store.specs.StateRules.{StateRules}
 use Rattle.steps.specs.Searches.{ended}
-use Rattle.theory.specs.Events.{Event, after, answerOf, run, entryOf, optionList, entered, held, goesOn, ownSteps, notCancelled, EndsIn}
+use Rattle.theory.specs.Events.{Event, after, answerOf, stateAfterAll, entryOf, optionList, enteredCopies, held, stillRuns, ownSteps, notCancelled, EndsIn}
 use Rattle.theory.specs.Events.Event.{starts, steps}
 use Rattle.theory.specs.Paper.{History, Multicopy, SearchRecency}
-use Rattle.theory.proofs.EventSteps.{event-keeps, run-keeps, run-append}
+use Rattle.theory.proofs.EventSteps.{event-keeps, events-keep, after-all-append}
 use Rattle.theory.proofs.InReach.{in-reach-held}
 use Rattle.theory.proofs.Invariants.{history-in, in-history, member-option, entered-append, multicopy}
 use Rattle.theory.proofs.Updates.{entry-upserts, current-stays}
@@ -44,15 +44,15 @@ record EnteredAt (p : Plan) (es : List Event) (s : State) (x : Copy) : Type 0 wh
   event : Event
   rest : List Event
   parts : es ≡ first ++ event ∷ rest
-  enters : entryOf p event (run p first s) ≡ some x
+  enters : entryOf p event (stateAfterAll p first s) ≡ some x
 
-entered-at : (p : Plan) (es : List Event) (s : State) (x : Copy) → List·Memᴰ x (entered p es s) → EnteredAt p es s x
-unfolding entered run
+entered-at : (p : Plan) (es : List Event) (s : State) (x : Copy) → List·Memᴰ x (enteredCopies p es s) → EnteredAt p es s x
+unfolding enteredCopies stateAfterAll
 entered-at p [] s x m = absurd (List·Memᴰ·not-nil m)
 entered-at p (e ∷ es) s x m = go (List·Memᴰ·append-cases (optionList (entryOf p e s)) m) (entered-at p es (after p e s) x)
   where
-    go : List·Memᴰ x (optionList (entryOf p e s)) ⊎ List·Memᴰ x (entered p es (after p e s))
-        → (List·Memᴰ x (entered p es (after p e s)) → EnteredAt p es (after p e s) x) → EnteredAt p (e ∷ es) s x
+    go : List·Memᴰ x (optionList (entryOf p e s)) ⊎ List·Memᴰ x (enteredCopies p es (after p e s))
+        → (List·Memᴰ x (enteredCopies p es (after p e s)) → EnteredAt p es (after p e s) x) → EnteredAt p (e ∷ es) s x
     go (inl f) again = record { first = []; event = e; rest = es; parts = refl; enters = member-option (entryOf p e s) x f }
     go (inr f) again =
         let w = again f in
@@ -88,31 +88,31 @@ nothing-is p s h c k late = go (current p s k) refl
         absurd (omega (arith, c .h-unique .above-never y (w .1), ap stampOf e))
 
 module _ (p : Plan) (rules : PlanRules p) (s : State) (good : StateRules p s) (before between : List Event) (k i : ℕ)
-    (started : answerOf p (starts k) (run p before s) ≡ answer DONE i 0 0 0)
-    (goes-on : goesOn p i between (after p (starts k) (run p before s)) ≡ true) where
+    (started : answerOf p (starts k) (stateAfterAll p before s) ≡ answer DONE i 0 0 0)
+    (still-runs : stillRuns p i between (after p (starts k) (stateAfterAll p before s)) ≡ true) where
   -- The state at the search's start, after it, and at its last step.
   abbrev s₁ : State
-  s₁ = run p before s
+  s₁ = stateAfterAll p before s
 
   abbrev s₂ : State
   s₂ = after p (starts k) s₁
 
   abbrev s₃ : State
-  s₃ = run p between s₂
+  s₃ = stateAfterAll p between s₂
 
   good₁ : StateRules p s₁
-  good₁ = run-keeps p rules before s good
+  good₁ = events-keep p rules before s good
 
   good₂ : StateRules p s₂
   good₂ = event-keeps p rules (starts k) s₁ good₁
 
   good₃ : StateRules p s₃
-  good₃ = run-keeps p rules between s₂ good₂
+  good₃ = events-keep p rules between s₂ good₂
 
   searches : Searches p k (stampOf (current p s₁ k)) i (ownSteps i between) s₃
   searches =
       rw add-zero at
-      (goes-through-all p rules k (stampOf (current p s₁ k)) i between s₂ good₂ 0 (just-started p rules s₁ good₁ k i started) goes-on)
+      (goes-through-all p rules k (stampOf (current p s₁ k)) i between s₂ good₂ 0 (just-started p rules s₁ good₁ k i started) still-runs)
 
   -- A search that goes on has made fewer own steps than its key's path has nodes,
   pub fewer-steps : ownSteps i between < length (path p k)
@@ -137,19 +137,19 @@ module _ (p : Plan) (rules : PlanRules p) (s : State) (good : StateRules p s) (b
 
   -- The history up to the search's start, and up to its end.
   abbrev h₁ : History
-  h₁ = held s ++ entered p before s
+  h₁ = held s ++ enteredCopies p before s
 
   abbrev h₃ : History
-  h₃ = held s ++ entered p (before ++ starts k ∷ between) s
+  h₃ = held s ++ enteredCopies p (before ++ starts k ∷ between) s
 
-  end-state : run p (before ++ starts k ∷ between) s ≡ s₃
-  end-state = run-append p before (starts k ∷ between) s ∙ (unfold run in refl)
+  end-state : stateAfterAll p (before ++ starts k ∷ between) s ≡ s₃
+  end-state = after-all-append p before (starts k ∷ between) s ∙ (unfold stateAfterAll in refl)
 
-  end-history : h₃ ≡ h₁ ++ entered p between s₂
+  end-history : h₃ ≡ h₁ ++ enteredCopies p between s₂
   end-history =
-      let since : entered p (starts k ∷ between) s₁ ≡ entered p between s₂ = unfold entered entryOf in refl in
+      let since : enteredCopies p (starts k ∷ between) s₁ ≡ enteredCopies p between s₂ = unfold enteredCopies entryOf in refl in
       rw (entered-append p rules before (starts k ∷ between) s, since)
-      (sym (append-assoc (held s) (entered p before s) (entered p between s₂)))
+      (sym (append-assoc (held s) (enteredCopies p before s) (enteredCopies p between s₂)))
 
   -- A search that finds this, which is held and no older than the line's latest at its start, meets search recency.
   module _ (found : Option Copy) (says : answerOf p (steps i) s₃ ≡ ended found (suc (ownSteps i between)))
@@ -160,37 +160,37 @@ module _ (p : Plan) (rules : PlanRules p) (s : State) (good : StateRules p s) (b
         let c : Multicopy p s₃ h₃ = subst (λ (z : State). Multicopy p z h₃) end-state (multicopy p rules (before ++ starts k ∷ between) s good) in
         history-in h₃ k (line s₃ k (w .0)) x (c .invariant-3 (w .0) k) (w .1)
 
-    then-or-since : (found ≡ current p s₁ k) ⊎ ((x : Copy) × (found ≡ some x) × List·Memᴰ x (entered p between s₂))
+    then-or-since : (found ≡ current p s₁ k) ⊎ ((x : Copy) × (found ≡ some x) × List·Memᴰ x (enteredCopies p between s₂))
     then-or-since = go found refl
       where
-        go : (o : Option Copy) → found ≡ o → (found ≡ current p s₁ k) ⊎ ((x : Copy) × (found ≡ some x) × List·Memᴰ x (entered p between s₂))
+        go : (o : Option Copy) → found ≡ o → (found ≡ current p s₁ k) ⊎ ((x : Copy) × (found ≡ some x) × List·Memᴰ x (enteredCopies p between s₂))
         go none e = inl (e ∙ nothing-is p s₁ h₁ (multicopy p rules before s good) k (omega (arith, ap stampOf e)))
         go (some x) e = at (List·Memᴰ·append-cases h₁ (subst (λ (h : History). List·Memᴰ x h) end-history (real x e .1)))
           where
-            at : List·Memᴰ x h₁ ⊎ List·Memᴰ x (entered p between s₂)
-                → (found ≡ current p s₁ k) ⊎ ((x : Copy) × (found ≡ some x) × List·Memᴰ x (entered p between s₂))
+            at : List·Memᴰ x h₁ ⊎ List·Memᴰ x (enteredCopies p between s₂)
+                → (found ≡ current p s₁ k) ⊎ ((x : Copy) × (found ≡ some x) × List·Memᴰ x (enteredCopies p between s₂))
             at (inl m) =
                 inl
                 (e
                 ∙ latest-is p s₁ h₁ (multicopy p rules before s good) k x (real x e .0) m (omega (arith, ap stampOf e)))
             at (inr m) = inr (x, e, m)
 
-    at-a-point : (found ≡ current p s₁ k) ⊎ ((x : Copy) × (found ≡ some x) × List·Memᴰ x (entered p between s₂))
-        → (first rest : List Event) × (between ≡ first ++ rest) × (found ≡ current p (run p first s₂) k)
-    unfolding run
+    at-a-point : (found ≡ current p s₁ k) ⊎ ((x : Copy) × (found ≡ some x) × List·Memᴰ x (enteredCopies p between s₂))
+        → (first rest : List Event) × (between ≡ first ++ rest) × (found ≡ current p (stateAfterAll p first s₂) k)
+    unfolding stateAfterAll
     at-a-point (inl e) = ([], between, refl, e ∙ sym (current-stays p rules s₁ good₁ (starts k) (unfold entryOf in refl) k))
     at-a-point (inr w) =
         let at = entered-at p between s₂ (w .0) (w .2) in
         let key : w .0 .key ≡ k = real (w .0) (w .1) .0 in
-        let then : State = run p (at .first) s₂ in
-        let now : run p (at .first ++ at .event ∷ []) s₂ ≡ after p (at .event) then = run-append p (at .first) (at .event ∷ []) s₂ in (
+        let then : State = stateAfterAll p (at .first) s₂ in
+        let now : stateAfterAll p (at .first ++ at .event ∷ []) s₂ ≡ after p (at .event) then = after-all-append p (at .first) (at .event ∷ []) s₂ in (
           at .first ++ at .event ∷ [],
           at .rest,
           at .parts ∙ sym (append-assoc (at .first) (at .event ∷ []) (at .rest)),
           w .1
               ∙ sym
               (ap (λ (z : State). current p z k) now
-              ∙ (entry-upserts p rules then (run-keeps p rules (at .first) s₂ good₂) (at .event) (w .0) (at .enters) k
+              ∙ (entry-upserts p rules then (events-keep p rules (at .first) s₂ good₂) (at .event) (w .0) (at .enters) k
               ∙ rw (eq-eqb (w .0 .key) k key))),
         )
 

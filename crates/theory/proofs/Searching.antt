@@ -23,7 +23,7 @@ use Rattle.store.specs.declared.Answer.{Answer}
 use Rattle.store.specs.declared.Copy.{Copy}
 use Rattle.store.specs.declared.Slot.{Slot}
 use Rattle.store.specs.Answers.{DONE, GOING, SLOTS, answer}
-use Rattle.store.specs.Copies.{RESULT, WITHDRAWN, stampOf}
+use Rattle.store.specs.Copies.{kindNumber, valueHeld, stampOf}
 use Rattle.store.specs.State.{State, slotAt, slotCount, idle, line, orElse, inReach, current}
 use Rattle.store.specs.StateRules.{OnPath, StateRules}
 use Rattle.store.specs.Calls.{Effect}
@@ -38,8 +38,8 @@ use Rattle.steps.proofs.WaysOut.Freed.{freed}
 use Rattle.steps.proofs.LineSteps.{slot-set, slot-other, entry-slots, carry-slots}
 use Rattle.steps.proofs.OnPaths.{on-path-in-plan}
 use Rattle.steps.proofs.SearchLaws.{step-finds, step-never, step-goes}
-use Rattle.theory.specs.Events.{Event, effect, after, answerOf, run, goesOnThrough, goesOn, isOwnStep, ownSteps, cancelsSlot, notCancelled, EndsIn}
-use Rattle.theory.specs.Events.Event.{enters, withdraws, carries, starts, steps, cancels, asks}
+use Rattle.theory.specs.Events.{Event, effect, after, answerOf, stateAfterAll, stillRunsAfter, stillRuns, isOwnStep, ownSteps, cancelsSlot, notCancelled, EndsIn}
+use Rattle.theory.specs.Events.Event.{enters, carries, starts, steps, cancels, asks}
 use Rattle.theory.proofs.EventSteps.{event-keeps}
 use Rattle.theory.proofs.Invariants.{reach-increases}
 
@@ -55,8 +55,7 @@ slot-there s i r = go (decLt i (length (s .slots)))
 own-event : (i : ℕ) (e : Event) → isOwnStep i e ≡ true → e ≡ steps i
 unfolding isOwnStep
 own-event i (steps j) t = ap steps (eqb-true j i t)
-own-event i (enters k v) t = absurd (not-both t refl)
-own-event i (withdraws k) t = absurd (not-both t refl)
+own-event i (enters kind k v) t = absurd (not-both t refl)
 own-event i (carries n j) t = absurd (not-both t refl)
 own-event i (starts k) t = absurd (not-both t refl)
 own-event i (cancels j) t = absurd (not-both t refl)
@@ -95,42 +94,39 @@ module _ (p : Plan) (s : State) (i : ℕ) where
   slot-stays : (e : Event) → isOwnStep i e ≡ false → cancelsSlot i e ≡ false → slotAt s i .running ≢ 0
       → slotAt (after p e s) i ≡ slotAt s i
   unfolding effect isOwnStep cancelsSlot
-  slot-stays (enters k v) a b r = ap (λ (qs : List Slot). getD qs i idle) (entry-slots RESULT k v p s)
-  slot-stays (withdraws k) a b r = ap (λ (qs : List Slot). getD qs i idle) (entry-slots WITHDRAWN k 0 p s)
+  slot-stays (enters kind k v) a b r = ap (λ (qs : List Slot). getD qs i idle) (entry-slots (kindNumber kind) k (valueHeld kind v) p s)
   slot-stays (carries n j) a b r = ap (λ (qs : List Slot). getD qs i idle) (carry-slots n j p s)
   slot-stays (starts k) a b r = other-started r (start-way k p s)
   slot-stays (steps j) a b r = other-stepped j (λ (q : i ≡ j). eqb-false j i a (sym q))
   slot-stays (cancels j) a b r = other-cancelled j (λ (q : i ≡ j). eqb-false j i b (sym q))
   slot-stays asks a b r = refl
 
-  -- A search goes on through an event exactly when that does not cancel it, and its own step says GOING.
-  goes-on-not-cancelled : (e : Event) → goesOnThrough p i e s ≡ true → cancelsSlot i e ≡ false
-  unfolding goesOnThrough cancelsSlot
-  goes-on-not-cancelled (cancels j) t = not-true (eqb j i) t
+  -- A search still runs after an event exactly when that does not cancel it, and its own step says GOING.
+  still-runs-not-cancelled : (e : Event) → stillRunsAfter p i e s ≡ true → cancelsSlot i e ≡ false
+  unfolding stillRunsAfter cancelsSlot
+  still-runs-not-cancelled (cancels j) t = not-true (eqb j i) t
     where
       not-true : (b : Bool) → not b ≡ true → b ≡ false
       not-true true t = sym t
       not-true false t = refl
-  goes-on-not-cancelled (steps j) t = refl
-  goes-on-not-cancelled (enters k v) t = refl
-  goes-on-not-cancelled (withdraws k) t = refl
-  goes-on-not-cancelled (carries n j) t = refl
-  goes-on-not-cancelled (starts k) t = refl
-  goes-on-not-cancelled asks t = refl
+  still-runs-not-cancelled (steps j) t = refl
+  still-runs-not-cancelled (enters kind k v) t = refl
+  still-runs-not-cancelled (carries n j) t = refl
+  still-runs-not-cancelled (starts k) t = refl
+  still-runs-not-cancelled asks t = refl
 
-  goes-on-if : (e : Event) → isOwnStep i e ≡ false → cancelsSlot i e ≡ false → goesOnThrough p i e s ≡ true
-  unfolding goesOnThrough isOwnStep cancelsSlot
-  goes-on-if (cancels j) a b = rw b
-  goes-on-if (steps j) a b = rw a
-  goes-on-if (enters k v) a b = refl
-  goes-on-if (withdraws k) a b = refl
-  goes-on-if (carries n j) a b = refl
-  goes-on-if (starts k) a b = refl
-  goes-on-if asks a b = refl
+  still-runs-if : (e : Event) → isOwnStep i e ≡ false → cancelsSlot i e ≡ false → stillRunsAfter p i e s ≡ true
+  unfolding stillRunsAfter isOwnStep cancelsSlot
+  still-runs-if (cancels j) a b = rw b
+  still-runs-if (steps j) a b = rw a
+  still-runs-if (enters kind k v) a b = refl
+  still-runs-if (carries n j) a b = refl
+  still-runs-if (starts k) a b = refl
+  still-runs-if asks a b = refl
 
-  own-goes-on : goesOnThrough p i (steps i) s ≡ (eqb (answerOf p (steps i) s .number) GOING)
-  unfolding goesOnThrough
-  own-goes-on = rw (eq-eqb i i refl)
+  own-still-runs : stillRunsAfter p i (steps i) s ≡ (eqb (answerOf p (steps i) s .number) GOING)
+  unfolding stillRunsAfter
+  own-still-runs = rw (eq-eqb i i refl)
 
 -- A search for key k runs in slot i after v visits, and what is in reach of the node where it stands is no older than t₀.
 pub record Searches (p : Plan) (k t₀ i v : ℕ) (s : State) : Type 0 where
@@ -228,16 +224,16 @@ module _ (p : Plan) (rules : PlanRules p) (k t₀ i : ℕ) where
         }
 
     -- An event through which it goes on.
-    goes-through : (v : ℕ) → Searches p k t₀ i v s → (e : Event) → goesOnThrough p i e s ≡ true
+    goes-through : (v : ℕ) → Searches p k t₀ i v s → (e : Event) → stillRunsAfter p i e s ≡ true
         → Searches p k t₀ i (bit (isOwnStep i e) + v) (after p e s)
     goes-through v r e t = go (bool? (isOwnStep i e))
       where
-        own : goesOnThrough p i (steps i) s ≡ true
+        own : stillRunsAfter p i (steps i) s ≡ true
             → Finishes p k t₀ i v s ⊎ (Searches p k t₀ i (suc v) (after p (steps i) s) × (answerOf p (steps i) s .number ≡ GOING))
             → Searches p k t₀ i (suc v) (after p (steps i) s)
         own g (inl f) =
             let says = ap (λ (a : Answer). a .number) (f .says) ∙ ended-done (inReach p s k (To (f .node))) (suc v) in
-            absurd (omega (arith, eqb-true (answerOf p (steps i) s .number) GOING (sym (own-goes-on p s i) ∙ g)))
+            absurd (omega (arith, eqb-true (answerOf p (steps i) s .number) GOING (sym (own-still-runs p s i) ∙ g)))
         own g (inr w) = w .0
 
         go : (isOwnStep i e ≡ true) ⊎ (isOwnStep i e ≡ false) → Searches p k t₀ i (bit (isOwnStep i e) + v) (after p e s)
@@ -245,23 +241,23 @@ module _ (p : Plan) (rules : PlanRules p) (k t₀ i : ℕ) where
             let is = own-event i e a in
             rw (a, one-add)
             (subst (λ (d : Event). Searches p k t₀ i (suc v) (after p d s)) (sym is)
-            (own (subst (λ (d : Event). goesOnThrough p i d s ≡ true) is t) (own-step v r)))
-        go (inr a) = rw (a, zero-add) (others-pass v r e a (goes-on-not-cancelled p s i e t))
+            (own (subst (λ (d : Event). stillRunsAfter p i d s ≡ true) is t) (own-step v r)))
+        go (inr a) = rw (a, zero-add) (others-pass v r e a (still-runs-not-cancelled p s i e t))
 
   -- A sequence through which it goes on.
-  pub goes-through-all : (es : List Event) (s : State) → StateRules p s → (v : ℕ) → Searches p k t₀ i v s → goesOn p i es s ≡ true
-      → Searches p k t₀ i (ownSteps i es + v) (run p es s)
-  unfolding goesOn ownSteps run
+  pub goes-through-all : (es : List Event) (s : State) → StateRules p s → (v : ℕ) → Searches p k t₀ i v s → stillRuns p i es s ≡ true
+      → Searches p k t₀ i (ownSteps i es + v) (stateAfterAll p es s)
+  unfolding stillRuns ownSteps stateAfterAll
   goes-through-all [] s good v r t = rw zero-add r
   goes-through-all (e ∷ es) s good v r t =
       let q : ownSteps i es + (bit (isOwnStep i e) + v) ≡ bit (isOwnStep i e) + ownSteps i es + v = omega arith in
-      subst (λ (n : ℕ). Searches p k t₀ i n (run p es (after p e s))) q
+      subst (λ (n : ℕ). Searches p k t₀ i n (stateAfterAll p es (after p e s))) q
       (goes-through-all es (after p e s) (event-keeps p rules e s good) (bit (isOwnStep i e) + v)
-      (goes-through s good v r e (and-left (goesOnThrough p i e s) (goesOn p i es (after p e s)) t))
-      (and-right (goesOnThrough p i e s) (goesOn p i es (after p e s)) t))
+      (goes-through s good v r e (and-left (stillRunsAfter p i e s) (stillRuns p i es (after p e s)) t))
+      (and-right (stillRunsAfter p i e s) (stillRuns p i es (after p e s)) t))
 
-  later : (e : Event) (es : List Event) (s : State) → goesOnThrough p i e s ≡ true → EndsIn p i es (after p e s) → EndsIn p i (e ∷ es) s
-  unfolding goesOn run
+  later : (e : Event) (es : List Event) (s : State) → stillRunsAfter p i e s ≡ true → EndsIn p i es (after p e s) → EndsIn p i (e ∷ es) s
+  unfolding stillRuns stateAfterAll
   later e es s t w =
       record {
         first = e ∷ w .first;
@@ -274,7 +270,7 @@ module _ (p : Plan) (rules : PlanRules p) (k t₀ i : ℕ) where
   -- A sequence with as many steps of its own as are left on the path, in which it is not cancelled, ends it.
   pub ends-in : (es : List Event) (s : State) → StateRules p s → (v : ℕ) → Searches p k t₀ i v s → notCancelled i es ≡ true
       → length (path p k) ≤ ownSteps i es + v → EndsIn p i es s
-  unfolding notCancelled ownSteps goesOn run
+  unfolding notCancelled ownSteps stillRuns stateAfterAll
   ends-in [] s good v r c h = absurd (omega (arith, in-time s good v r))
   ends-in (e ∷ es) s good v r c h =
       go (bool? (isOwnStep i e)) (ends-in es (after p e s) (event-keeps p rules e s good))
@@ -307,13 +303,13 @@ module _ (p : Plan) (rules : PlanRules p) (k t₀ i : ℕ) where
               }
           own (inr w) =
               later e es s
-              (subst (λ (d : Event). goesOnThrough p i d s ≡ true) (sym is)
-              (own-goes-on p s i ∙ eq-eqb (answerOf p (steps i) s .number) GOING (w .1)))
+              (subst (λ (d : Event). stillRunsAfter p i d s ≡ true) (sym is)
+              (own-still-runs p s i ∙ eq-eqb (answerOf p (steps i) s .number) GOING (w .1)))
               (ih (suc v) (subst (λ (d : Event). Searches p k t₀ i (suc v) (after p d s)) (sym is) (w .0)) left
               (let one : bit (isOwnStep i e) ≡ 1 = ap bit a in omega arith))
       go (inr a) ih =
           let b : cancelsSlot i e ≡ false = not-it (cancelsSlot i e) c in
-          later e es s (goes-on-if p s i e a b)
+          later e es s (still-runs-if p s i e a b)
           (ih v (others-pass s good v r e a b) left (let none-own : bit (isOwnStep i e) ≡ 0 = ap bit a in omega arith))
 
 -- A search that has just been started stands at the root after 0 visits.

@@ -11,17 +11,18 @@ use Rattle.plan.specs.Plan.{Plan, edgesOf, holds, path}
 use Rattle.store.specs.declared.Answer.{Answer}
 use Rattle.store.specs.declared.Copy.{Copy}
 use Rattle.store.specs.Answers.{DONE, GOING, bare}
-use Rattle.store.specs.Copies.{WITHDRAWN, RESULT, copy, isSome}
+use Rattle.store.specs.Copies.{Kind, kindNumber, valueHeld, copy, isSome}
+use Rattle.store.specs.Copies.Kind.{result}
 use Rattle.store.specs.State.{State, line}
 use Rattle.store.specs.Calls.{Effect}
-use Rattle.steps.specs.Entries.{enterStep, withdrawStep}
+use Rattle.steps.specs.Entries.{entryStep}
 use Rattle.steps.specs.Carries.{bit, carryStep}
 use Rattle.steps.specs.Searches.{startStep, stepStep, cancelStep}
 
--- What a call does to a state: one of the six steps, or nothing (a look, a save, a page, a serve, an unknown step).
+-- What a call does to a state: an entry of some kind, a carry, a start, step or cancel of a search, or nothing (a call that only reads, an
+-- unknown step).
 pub data Event : Type 0 where
-  enters : ℕ → ℕ → Event
-  withdraws : ℕ → Event
+  enters : Kind → ℕ → ℕ → Event
   carries : ℕ → ℕ → Event
   starts : ℕ → Event
   steps : ℕ → Event
@@ -30,8 +31,7 @@ pub data Event : Type 0 where
 
 -- What an event does to a state, and what it answers.
 unfoldable pub effect : Plan → Event → State → Effect
-effect p (enters k v) s = enterStep k v p s
-effect p (withdraws k) s = withdrawStep k p s
+effect p (enters kind k v) s = entryStep kind k v p s
 effect p (carries n i) s = carryStep n i p s
 effect p (starts k) s = startStep k p s
 effect p (steps i) s = stepStep i p s
@@ -47,14 +47,14 @@ abbrev pub answerOf : Plan → Event → State → Answer
 answerOf p e s = effect p e s .answer
 
 -- The state after a sequence.
-unfoldable pub run : Plan → List Event → State → State
-run p [] s = s
-run p (e ∷ es) s = run p es (after p e s)
+unfoldable pub stateAfterAll : Plan → List Event → State → State
+stateAfterAll p [] s = s
+stateAfterAll p (e ∷ es) s = stateAfterAll p es (after p e s)
 
 -- The copy that an event enters, if it is an accepted entry.
 unfoldable pub entryOf : Plan → Event → State → Option Copy
-entryOf p (enters k v) s = cond (eqb (answerOf p (enters k v) s .number) DONE) (some (copy k RESULT v (s .clock))) none
-entryOf p (withdraws k) s = cond (eqb (answerOf p (withdraws k) s .number) DONE) (some (copy k WITHDRAWN 0 (s .clock))) none
+entryOf p (enters kind k v) s =
+    cond (eqb (answerOf p (enters kind k v) s .number) DONE) (some (copy k (kindNumber kind) (valueHeld kind v) (s .clock))) none
 entryOf p (carries n i) s = none
 entryOf p (starts k) s = none
 entryOf p (steps i) s = none
@@ -67,9 +67,9 @@ optionList none = []
 optionList (some x) = x ∷ []
 
 -- The copies entered by a sequence, in order.
-unfoldable pub entered : Plan → List Event → State → List Copy
-entered p [] s = []
-entered p (e ∷ es) s = optionList (entryOf p e s) ++ entered p es (after p e s)
+unfoldable pub enteredCopies : Plan → List Event → State → List Copy
+enteredCopies p [] s = []
+enteredCopies p (e ∷ es) s = optionList (entryOf p e s) ++ enteredCopies p es (after p e s)
 
 -- The copies that a state holds. A loaded store counts each of them as an entry, and a fresh one holds none.
 unfoldable pub held : State → List Copy
@@ -97,8 +97,7 @@ heldOf k s = copiesOf k (held s)
 -- "A carry carries a line exactly when the node had its copy before and lacks it after."
 unfoldable pub carriesLine : Plan → ℕ → Event → State → Bool
 carriesLine p k (carries n i) s = isSome (line s k n) && not (isSome (line (after p (carries n i) s) k n))
-carriesLine p k (enters j v) s = false
-carriesLine p k (withdraws j) s = false
+carriesLine p k (enters kind j v) s = false
 carriesLine p k (starts j) s = false
 carriesLine p k (steps i) s = false
 carriesLine p k (cancels i) s = false
@@ -118,26 +117,24 @@ worthOn l (n ∷ ns) = cond (isSome (l n)) (length ns) 0 + worthOn l ns
 abbrev pub worth : Plan → ℕ → State → ℕ
 worth p k s = worthOn (line s k) (path p k)
 
--- The search in a slot goes on through an event: it is not cancelled, and a step of its own does not end it.
-unfoldable pub goesOnThrough : Plan → ℕ → Event → State → Bool
-goesOnThrough p i (steps j) s = not (eqb j i) || eqb (answerOf p (steps j) s .number) GOING
-goesOnThrough p i (cancels j) s = not (eqb j i)
-goesOnThrough p i (enters k v) s = true
-goesOnThrough p i (withdraws k) s = true
-goesOnThrough p i (carries n j) s = true
-goesOnThrough p i (starts k) s = true
-goesOnThrough p i asks s = true
+-- The search in a slot still runs after an event: it is not cancelled, and a step of its own does not end it.
+unfoldable pub stillRunsAfter : Plan → ℕ → Event → State → Bool
+stillRunsAfter p i (steps j) s = not (eqb j i) || eqb (answerOf p (steps j) s .number) GOING
+stillRunsAfter p i (cancels j) s = not (eqb j i)
+stillRunsAfter p i (enters kind k v) s = true
+stillRunsAfter p i (carries n j) s = true
+stillRunsAfter p i (starts k) s = true
+stillRunsAfter p i asks s = true
 
--- The search in a slot goes on through a sequence.
-unfoldable pub goesOn : Plan → ℕ → List Event → State → Bool
-goesOn p i [] s = true
-goesOn p i (e ∷ es) s = goesOnThrough p i e s && goesOn p i es (after p e s)
+-- The search in a slot still runs after each event of a sequence.
+unfoldable pub stillRuns : Plan → ℕ → List Event → State → Bool
+stillRuns p i [] s = true
+stillRuns p i (e ∷ es) s = stillRunsAfter p i e s && stillRuns p i es (after p e s)
 
 -- The event is a step of the search in a slot.
 unfoldable pub isOwnStep : ℕ → Event → Bool
 isOwnStep i (steps j) = eqb j i
-isOwnStep i (enters k v) = false
-isOwnStep i (withdraws k) = false
+isOwnStep i (enters kind k v) = false
 isOwnStep i (carries n j) = false
 isOwnStep i (starts k) = false
 isOwnStep i (cancels j) = false
@@ -152,8 +149,7 @@ ownSteps i (e ∷ es) = bit (isOwnStep i e) + ownSteps i es
 unfoldable pub cancelsSlot : ℕ → Event → Bool
 cancelsSlot i (cancels j) = eqb j i
 cancelsSlot i (steps j) = false
-cancelsSlot i (enters k v) = false
-cancelsSlot i (withdraws k) = false
+cancelsSlot i (enters kind k v) = false
 cancelsSlot i (carries n j) = false
 cancelsSlot i (starts k) = false
 cancelsSlot i asks = false
@@ -163,13 +159,13 @@ unfoldable pub notCancelled : ℕ → List Event → Bool
 notCancelled i [] = true
 notCancelled i (e ∷ es) = not (cancelsSlot i e) && notCancelled i es
 
--- The search in a slot ends in a sequence: by a step of its own that says DONE, having gone on until then.
+-- The search in a slot ends in a sequence: by a step of its own that says DONE, having run until then.
 pub record EndsIn (p : Plan) (i : ℕ) (es : List Event) (s : State) : Type 0 where
   pub first : List Event
   pub rest : List Event
   pub parts : es ≡ first ++ steps i ∷ rest
-  pub until : goesOn p i first s ≡ true
-  pub done : answerOf p (steps i) (run p first s) .number ≡ DONE
+  pub until : stillRuns p i first s ≡ true
+  pub done : answerOf p (steps i) (stateAfterAll p first s) .number ≡ DONE
 
 -- The number, among a node's edges, of the first that holds the key.
 unfoldable pub edgeFor : List Edge → ℕ → ℕ
@@ -185,4 +181,4 @@ carriesDown p k (n ∷ m ∷ ns) = carries n (edgeFor (edgesOf p n) k) ∷ carri
 -- The sequence that reaches demand 3's bound: enter the line, carry it down its whole path, and again, so many times.
 unfoldable pub rounds : Plan → ℕ → ℕ → ℕ → List Event
 rounds p k v zero = []
-rounds p k v (suc r) = enters k v ∷ carriesDown p k (path p k) ++ rounds p k v r
+rounds p k v (suc r) = enters result k v ∷ carriesDown p k (path p k) ++ rounds p k v r

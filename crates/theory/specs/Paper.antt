@@ -15,7 +15,7 @@ use Rattle.store.specs.declared.Copy.{Copy}
 use Rattle.store.specs.Copies.{stampOf}
 use Rattle.store.specs.State.{State, line, inReach, current}
 use Rattle.steps.specs.Searches.{ended}
-use Rattle.theory.specs.Events.{Event, after, answerOf, run, entered, held, ownSteps}
+use Rattle.theory.specs.Events.{Event, after, answerOf, stateAfterAll, enteredCopies, held, ownSteps}
 use Rattle.theory.specs.Events.Event.{starts, steps}
 
 -- Contents: C_n(k), the copy of the key in the node, or nothing.
@@ -88,18 +88,19 @@ pub record Multicopy (p : Plan) (s : State) (h : History) : Type 0 where
 pub record SearchRecency (p : Plan) (s : State) (before between : List Event) (k i : ℕ) : Type 0 where
   -- The answer is of what was found, and its visits are the search's own steps;
   pub found : Option Copy
-  pub says : answerOf p (steps i) (run p between (after p (starts k) (run p before s))) ≡ ended found (suc (ownSteps i between))
+  pub says : answerOf p (steps i) (stateAfterAll p between (after p (starts k) (stateAfterAll p before s))) ≡ ended found (suc (ownSteps i between))
   -- at most as many as the key's path has nodes.
   pub in-time : suc (ownSteps i between) ≤ length (path p k)
   -- What was found was really entered or held, or is never: (k, (v, t)) ∈ H;
-  pub real : InHistory (held s ++ entered p (before ++ starts k ∷ between) s) k found
+  pub real : InHistory (held s ++ enteredCopies p (before ++ starts k ∷ between) s) k found
   -- and nothing older than the line's latest at the search's start: t ≥ t₀.
-  pub no-older : stampOf (current p (run p before s) k) ≤ stampOf found
+  pub no-older : stampOf (current p (stateAfterAll p before s) k) ≤ stampOf found
   -- It "either returns the logical value associated with k at the point when the search started, or any other copy of k that was upserted
   -- between the search's start time and the search's end time".
   pub at-start-or-between :
-      (found ≡ current p (run p before s) k)
-      ⊎ ((x : Copy) × (found ≡ some x) × List·Memᴰ x (entered p between (after p (starts k) (run p before s))))
+      (found ≡ current p (stateAfterAll p before s) k)
+      ⊎ ((x : Copy) × (found ≡ some x) × List·Memᴰ x (enteredCopies p between (after p (starts k) (stateAfterAll p before s))))
   -- (2): "search returns the logical value M(k) = v of its query key k", as it was at some point while the search ran.
   pub at-some-point :
-      (first rest : List Event) × (between ≡ first ++ rest) × (found ≡ current p (run p first (after p (starts k) (run p before s))) k)
+      (first rest : List Event) × (between ≡ first ++ rest)
+      × (found ≡ current p (stateAfterAll p first (after p (starts k) (stateAfterAll p before s))) k)

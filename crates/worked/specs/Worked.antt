@@ -24,13 +24,13 @@ answersOf [] z = []
 answersOf (x ∷ xs) z = let o = onStore (stepOf x 0) z in o .answer ∷ answersOf xs (o .store)
 
 -- The store after them.
-unfoldable pub storeAfter : List Step → Store → Store
-storeAfter [] z = z
-storeAfter (x ∷ xs) z = storeAfter xs (onStore (stepOf x 0) z .store)
+unfoldable pub storeAfterSteps : List Step → Store → Store
+storeAfterSteps [] z = z
+storeAfterSteps (x ∷ xs) z = storeAfterSteps xs (onStore (stepOf x 0) z .store)
 
 -- The store after a schedule's bytes.
 abbrev pub storeOfSchedule : Got Schedule → Store
-storeOfSchedule (got d end) = storeAfter (d .steps) (freshStore (d .plan))
+storeOfSchedule (got d end) = storeAfterSteps (d .steps) (freshStore (d .plan))
 storeOfSchedule (fault number at) = freshStore 1
 
 -- The input of document 01.
@@ -39,9 +39,9 @@ input =
     0x01 ∷ 0x01 ∷ 0x21 ∷ 0xB4 ∷ 0x01 ∷ 0x03 ∷ 0x00 ∷ 0x00 ∷ 0x04 ∷ 0x21 ∷ 0x05 ∷ 0x00 ∷ 0x01 ∷ 0x21 ∷ 0xD2 ∷ 0x01 ∷ 0x03 ∷ 0x00
     ∷ 0x00 ∷ 0x05 ∷ 0x00 ∷ 0x05 ∷ 0x00 ∷ []
 
--- A printed line.
-abbrev pub line : ℕ → ℕ → ℕ → ℕ → ℕ → ℕ → List ℕ
-line s n a b c d = s ∷ n ∷ a ∷ b ∷ c ∷ d ∷ []
+-- A printed line: its six numbers.
+abbrev pub printed : ℕ → ℕ → ℕ → ℕ → ℕ → ℕ → List ℕ
+printed s n a b c d = s ∷ n ∷ a ∷ b ∷ c ∷ d ∷ []
 
 -- The store after document 01's steps.
 unfoldable pub storeAfterInput : Store
@@ -66,8 +66,8 @@ pub record Worked : Type 0 where
   -- "(P1) these lines."
   pub p1 :
       scheduleLines input
-      ≡ line 0 0 8 0 0 0 ∷ line 1 0 1 0 0 0 ∷ line 3 0 1 0 0 0 ∷ line 4 0 0 0 0 0 ∷ line 5 1 1 1 0 0 ∷ line 1 0 2 0 0 0
-      ∷ line 3 0 1 1 0 0 ∷ line 5 0 2 210 2 2 ∷ line 5 10 0 0 0 0 ∷ []
+      ≡ printed 0 0 8 0 0 0 ∷ printed 1 0 1 0 0 0 ∷ printed 3 0 1 0 0 0 ∷ printed 4 0 0 0 0 0 ∷ printed 5 1 1 1 0 0 ∷ printed 1 0 2 0 0 0
+      ∷ printed 3 0 1 1 0 0 ∷ printed 5 0 2 210 2 2 ∷ printed 5 10 0 0 0 0 ∷ []
   -- "(P2) Saved after them: 01 01 03 00 01 21 01 D2 01 02 00 00."
   pub p2 :
       saveBuffer storeAfterInput (replicate 12 0)
@@ -84,7 +84,7 @@ pub record Worked : Type 0 where
   pub p6 : answersOf (stepRecord 1 33 180 ∷ stepRecord 1 33 180 ∷ []) lateStore ≡ done 4294967294 ∷ bare CLOCK ∷ []
   -- "(P7) Fresh plan 1: enter, carry 0 0, withdraw one line: look gives 1, 0, 2, 1."
   pub p7 :
-      ofStore (lookAnswer 33) (storeAfter (stepRecord 1 33 180 ∷ stepRecord 3 0 0 ∷ stepRecord 2 33 0 ∷ []) (freshStore 1)) ≡ answer DONE 1 0 2 1
+      ofStore (lookAnswer 33) (storeAfterSteps (stepRecord 1 33 180 ∷ stepRecord 3 0 0 ∷ stepRecord 2 33 0 ∷ []) (freshStore 1)) ≡ answer DONE 1 0 2 1
   -- "(P8) Look in a fresh store of plan 2: 0, 0, 0, 2."
   pub p8 : ofStore (lookAnswer 33) (freshStore 2) ≡ answer DONE 0 0 0 2
   -- "(P9) Slot 7 idle: IDLE; slot 8: SLOT."
