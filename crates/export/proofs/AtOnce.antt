@@ -30,7 +30,7 @@ use Rattle.store.specs.declared.Store.{Store}
 use Rattle.store.proofs.Slot as Q
 use Rattle.store.proofs.Store as S
 use Rattle.store.proofs.Store.Laws as S′
-use Rattle.export.proofs.Columns.{Counts, Column, planAt, clockAt, countsAt, keysAt, kindsAt, valuesAt, stampsAt, slotsAt, laid, Names, countsRef, keysRef, kindsRef, valuesRef, stampsRef, Owning, Refs}
+use Rattle.export.proofs.Columns.{Counts, Column, planAt, clockAt, countsAt, keysAt, kindsAt, valuesAt, stampsAt, slotsAt, lying, Names, countsRef, keysRef, kindsRef, valuesRef, stampsRef, Owning, Refs}
 
 -- Five columns: counts, keys, kinds, values, stamps.
 abbrev pub Five : Type 0
@@ -130,11 +130,11 @@ module _ {M : Type 1} (𝓤 : URA M) (H : Heap 𝓤) (A : Atoms 𝓤) (W : Given
       move ! (1 ∷ 6 ∷ 7 ∷ []) $ move ! (1 ∷ 0 ∷ []) $ fjoin ! $ move ! (1 ∷ 0 ∷ []) $ fjoin ! $
       -- [the others; the stamps; the values; the kinds; the keys; the counts; the way back]
       lft-new ! tt (λ α. move ! (2 ∷ []) $
-      use1 W (One (α ∷ []) Column stampsAt (laid (z .stamps))) (one (α ∷ []) Column stampsAt (laid (z .stamps))) $ await ! tt $ pick ! (λ γ₅. split ! $ move ! (4 ∷ []) $
-      use1 W (One (α ∷ []) Column valuesAt (laid (z .values))) (one (α ∷ []) Column valuesAt (laid (z .values))) $ await ! tt $ pick ! (λ γ₄. split ! $ move ! (6 ∷ []) $
-      use1 W (One (α ∷ []) Column kindsAt (laid (z .kinds))) (one (α ∷ []) Column kindsAt (laid (z .kinds))) $ await ! tt $ pick ! (λ γ₃. split ! $ move ! (8 ∷ []) $
-      use1 W (One (α ∷ []) Column keysAt (laid (z .keys))) (one (α ∷ []) Column keysAt (laid (z .keys))) $ await ! tt $ pick ! (λ γ₂. split ! $ move ! (10 ∷ []) $
-      use1 W (One (α ∷ []) Counts countsAt (laid (z .counts))) (one (α ∷ []) Counts countsAt (laid (z .counts))) $ await ! tt $ pick ! (λ γ₁. split ! $
+      use1 W (One (α ∷ []) Column stampsAt (lying (z .stamps))) (one (α ∷ []) Column stampsAt (lying (z .stamps))) $ await ! tt $ pick ! (λ γ₅. split ! $ move ! (4 ∷ []) $
+      use1 W (One (α ∷ []) Column valuesAt (lying (z .values))) (one (α ∷ []) Column valuesAt (lying (z .values))) $ await ! tt $ pick ! (λ γ₄. split ! $ move ! (6 ∷ []) $
+      use1 W (One (α ∷ []) Column kindsAt (lying (z .kinds))) (one (α ∷ []) Column kindsAt (lying (z .kinds))) $ await ! tt $ pick ! (λ γ₃. split ! $ move ! (8 ∷ []) $
+      use1 W (One (α ∷ []) Column keysAt (lying (z .keys))) (one (α ∷ []) Column keysAt (lying (z .keys))) $ await ! tt $ pick ! (λ γ₂. split ! $ move ! (10 ∷ []) $
+      use1 W (One (α ∷ []) Counts countsAt (lying (z .counts))) (one (α ∷ []) Counts countsAt (lying (z .counts))) $ await ! tt $ pick ! (λ γ₁. split ! $
       -- [the counts' &mut, what is due of it; the keys'; the kinds'; the values'; the stamps'; the token; the others; the way back]
       move ! (0 ∷ 2 ∷ 4 ∷ 6 ∷ 8 ∷ 10 ∷ 1 ∷ 3 ∷ 5 ∷ 7 ∷ 9 ∷ []) $ group ! 5 $ now ! $ by ! (exI 𝓤 AllOut (α, (γ₁, (γ₂, (γ₃, (γ₄, γ₅)))))))))))))
 

@@ -76,25 +76,25 @@ abbrev pub slotsAt : ℕ
 slotsAt = stampsAt + bytes places
 
 -- A column as the struct's layout has it,
-abbrev pub laid : List ℕ → List ℕ
-laid xs = map (λ v. v) xs
+abbrev pub lying : List ℕ → List ℕ
+lying xs = map (λ v. v) xs
 
 -- and the store of all: it is the store.
-abbrev pub relaid : Store → Store
-relaid h =
+abbrev pub lyingStore : Store → Store
+lyingStore h =
     record {
       plan = h .plan;
       clock = h .clock;
-      counts = laid (h .counts);
-      keys = laid (h .keys);
-      kinds = laid (h .kinds);
-      values = laid (h .values);
-      stamps = laid (h .stamps);
+      counts = lying (h .counts);
+      keys = lying (h .keys);
+      kinds = lying (h .kinds);
+      values = lying (h .values);
+      stamps = lying (h .stamps);
       slots = h .slots;
     }
 
-pub relaid-same : (h : Store) → relaid h ≡ h
-relaid-same h =
+pub lying-same : (h : Store) → lyingStore h ≡ h
+lying-same h =
     λ i. record {
       plan = h .plan;
       clock = h .clock;
@@ -108,7 +108,7 @@ relaid-same h =
 
 -- Its columns have their lengths.
 pub sized : (h : Store) → Is S.the-row h (store-val h ∷ [])
-    → Sized (laid (h .counts)) (laid (h .keys)) (laid (h .kinds)) (laid (h .values)) (laid (h .stamps))
+    → Sized (lying (h .counts)) (lying (h .keys)) (lying (h .kinds)) (lying (h .values)) (lying (h .stamps))
 sized h is =
     let are = LL.owed S.the-type S′.the-laws h _ is in
     record {
@@ -138,19 +138,19 @@ Names = GName × (GName × (GName × (GName × GName)))
 
 module _ (b o : ℕ) (h : Store) (g : Names) where
   abbrev pub countsRef : RefT (List ℕ)
-  countsRef = record { ptr = (b, o + countsAt); name = g .0; now = laid (h .counts) }
+  countsRef = record { ptr = (b, o + countsAt); name = g .0; now = lying (h .counts) }
 
   abbrev pub keysRef : RefT (List ℕ)
-  keysRef = record { ptr = (b, o + keysAt); name = g .1 .0; now = laid (h .keys) }
+  keysRef = record { ptr = (b, o + keysAt); name = g .1 .0; now = lying (h .keys) }
 
   abbrev pub kindsRef : RefT (List ℕ)
-  kindsRef = record { ptr = (b, o + kindsAt); name = g .1 .1 .0; now = laid (h .kinds) }
+  kindsRef = record { ptr = (b, o + kindsAt); name = g .1 .1 .0; now = lying (h .kinds) }
 
   abbrev pub valuesRef : RefT (List ℕ)
-  valuesRef = record { ptr = (b, o + valuesAt); name = g .1 .1 .1 .0; now = laid (h .values) }
+  valuesRef = record { ptr = (b, o + valuesAt); name = g .1 .1 .1 .0; now = lying (h .values) }
 
   abbrev pub stampsRef : RefT (List ℕ)
-  stampsRef = record { ptr = (b, o + stampsAt); name = g .1 .1 .1 .1; now = laid (h .stamps) }
+  stampsRef = record { ptr = (b, o + stampsAt); name = g .1 .1 .1 .1; now = lying (h .stamps) }
 
 -- What a reference to a part owns, by the part's type; of a `&`, it is this.
 abbrev pub Owning : Type 2
@@ -189,24 +189,24 @@ module _ {M : Type 1} (𝓤 : URA M) (H : Heap 𝓤) (A : Atoms 𝓤) (W : Given
   abbrev One : (F : RattleType) (d : ℕ) (x : F .Denot) → Item 𝓤
   One F d x = later (some (λ (γ : GName). ‵ (OwnRef κ F (record { ptr = (b, o + d); name = γ; now = x })) ⊛ (‵ Bor ⊛ ‵ (flft κ q))))
 
-  counts-lent : ent 𝓤 (sep 𝓤 (sem 𝓤 H A Bor) (A .lft κ q)) (mean 𝓤 H A (One Counts countsAt (laid (h .counts))))
-  counts-lent = lend Counts countsAt (λ x. laid (x .counts))
+  counts-lent : ent 𝓤 (sep 𝓤 (sem 𝓤 H A Bor) (A .lft κ q)) (mean 𝓤 H A (One Counts countsAt (lying (h .counts))))
+  counts-lent = lend Counts countsAt (λ x. lying (x .counts))
       (part-field 𝓤 H A W S.the-type S′.the-laws S′.the-copy 2 countsAt refl refl (S.struct .as-values) (λ x. refl))
 
-  keys-lent : ent 𝓤 (sep 𝓤 (sem 𝓤 H A Bor) (A .lft κ q)) (mean 𝓤 H A (One Column keysAt (laid (h .keys))))
-  keys-lent = lend Column keysAt (λ x. laid (x .keys))
+  keys-lent : ent 𝓤 (sep 𝓤 (sem 𝓤 H A Bor) (A .lft κ q)) (mean 𝓤 H A (One Column keysAt (lying (h .keys))))
+  keys-lent = lend Column keysAt (λ x. lying (x .keys))
       (part-field 𝓤 H A W S.the-type S′.the-laws S′.the-copy 3 keysAt refl refl (S.struct .as-values) (λ x. refl))
 
-  kinds-lent : ent 𝓤 (sep 𝓤 (sem 𝓤 H A Bor) (A .lft κ q)) (mean 𝓤 H A (One Column kindsAt (laid (h .kinds))))
-  kinds-lent = lend Column kindsAt (λ x. laid (x .kinds))
+  kinds-lent : ent 𝓤 (sep 𝓤 (sem 𝓤 H A Bor) (A .lft κ q)) (mean 𝓤 H A (One Column kindsAt (lying (h .kinds))))
+  kinds-lent = lend Column kindsAt (λ x. lying (x .kinds))
       (part-field 𝓤 H A W S.the-type S′.the-laws S′.the-copy 4 kindsAt refl refl (S.struct .as-values) (λ x. refl))
 
-  values-lent : ent 𝓤 (sep 𝓤 (sem 𝓤 H A Bor) (A .lft κ q)) (mean 𝓤 H A (One Column valuesAt (laid (h .values))))
-  values-lent = lend Column valuesAt (λ x. laid (x .values))
+  values-lent : ent 𝓤 (sep 𝓤 (sem 𝓤 H A Bor) (A .lft κ q)) (mean 𝓤 H A (One Column valuesAt (lying (h .values))))
+  values-lent = lend Column valuesAt (λ x. lying (x .values))
       (part-field 𝓤 H A W S.the-type S′.the-laws S′.the-copy 5 valuesAt refl refl (S.struct .as-values) (λ x. refl))
 
-  stamps-lent : ent 𝓤 (sep 𝓤 (sem 𝓤 H A Bor) (A .lft κ q)) (mean 𝓤 H A (One Column stampsAt (laid (h .stamps))))
-  stamps-lent = lend Column stampsAt (λ x. laid (x .stamps))
+  stamps-lent : ent 𝓤 (sep 𝓤 (sem 𝓤 H A Bor) (A .lft κ q)) (mean 𝓤 H A (One Column stampsAt (lying (h .stamps))))
+  stamps-lent = lend Column stampsAt (λ x. lying (x .stamps))
       (part-field 𝓤 H A W S.the-type S′.the-laws S′.the-copy 6 stampsAt refl refl (S.struct .as-values) (λ x. refl))
 
   abbrev AllLent : Names → SProp 𝓤
@@ -215,11 +215,11 @@ module _ {M : Type 1} (𝓤 : URA M) (H : Heap 𝓤) (A : Atoms 𝓤) (W : Given
   -- the five of them
   pub lends : ent 𝓤 (sep 𝓤 (sem 𝓤 H A Bor) (A .lft κ q)) (H .⇛ (ex 𝓤 AllLent))
   lends = qed W (‵ Bor ∷ ‵ (flft κ q) ∷ []) {P = H .⇛ (ex 𝓤 AllLent)} (updating ! $
-      use2 W (One Counts countsAt (laid (h .counts))) counts-lent $ await ! tt $ pick ! (λ γ₁. split ! $ move ! (1 ∷ []) $ split ! $
-      use2 W (One Column keysAt (laid (h .keys))) keys-lent $ await ! tt $ pick ! (λ γ₂. split ! $ move ! (1 ∷ []) $ split ! $
-      use2 W (One Column kindsAt (laid (h .kinds))) kinds-lent $ await ! tt $ pick ! (λ γ₃. split ! $ move ! (1 ∷ []) $ split ! $
-      use2 W (One Column valuesAt (laid (h .values))) values-lent $ await ! tt $ pick ! (λ γ₄. split ! $ move ! (1 ∷ []) $ split ! $
-      use2 W (One Column stampsAt (laid (h .stamps))) stamps-lent $ await ! tt $ pick ! (λ γ₅. split ! $
+      use2 W (One Counts countsAt (lying (h .counts))) counts-lent $ await ! tt $ pick ! (λ γ₁. split ! $ move ! (1 ∷ []) $ split ! $
+      use2 W (One Column keysAt (lying (h .keys))) keys-lent $ await ! tt $ pick ! (λ γ₂. split ! $ move ! (1 ∷ []) $ split ! $
+      use2 W (One Column kindsAt (lying (h .kinds))) kinds-lent $ await ! tt $ pick ! (λ γ₃. split ! $ move ! (1 ∷ []) $ split ! $
+      use2 W (One Column valuesAt (lying (h .values))) values-lent $ await ! tt $ pick ! (λ γ₄. split ! $ move ! (1 ∷ []) $ split ! $
+      use2 W (One Column stampsAt (lying (h .stamps))) stamps-lent $ await ! tt $ pick ! (λ γ₅. split ! $
       -- [the stamps' &; the store's borrow and token; the values' &; the kinds' &; the keys' &; the counts' &]
       move ! (2 ∷ 0 ∷ []) $ join ! $ move ! (2 ∷ 0 ∷ []) $ join ! $ move ! (2 ∷ 0 ∷ []) $ join ! $ move ! (2 ∷ 0 ∷ []) $ join ! $ now ! $
       by ! (exI 𝓤 AllLent (γ₁, (γ₂, (γ₃, (γ₄, γ₅)))))))))))

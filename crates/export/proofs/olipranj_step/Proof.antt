@@ -62,7 +62,7 @@ use Rattle.runner.proofs.do_lent.Symbol.{name as #runner·do-lent}
 use Rattle.runner.proofs.do_lent.Met as call-thm
 use Rattle.export.specs.Promises.{StepsBehind}
 use Rattle.export.proofs.Values.{store-val, answer-val, spelled}
-use Rattle.export.proofs.Columns.{Names, StoreArgs, storeArgs, storeVals, relaid, relaid-same, sized, slots-are, owns-refs}
+use Rattle.export.proofs.Columns.{Names, StoreArgs, storeArgs, storeVals, lyingStore, lying-same, sized, slots-are, owns-refs}
 use Rattle.export.proofs.AtOnce.{Five, with-columns, OwnMut, Muts, Kept, Lasts, columns-lent, columns-back}
 use Rattle.export.proofs.olipranj_step.Key.{name as #export·olipranj-step}
 use Rattle.export.proofs.olipranj_step as f
@@ -91,11 +91,11 @@ after-is z w r is ir =
 
 -- What it says: with the columns as they are then, that store is the step's.
 abbrev Says : Store → ℕ → ℕ → ℕ → Done → Five → Type 0
-Says h n i j r w = Does n i j 0 (relaid h) r (after h w r)
+Says h n i j r w = Does n i j 0 (lyingStore h) r (after h w r)
 
 gives : (h : Store) (n i j : ℕ) (r : Done) (w : Five) → Says h n i j r w → StepsBehind h n i j (r .answer) (after h w r)
 gives h n i j r w e =
-    subst (λ (z : Store). StepsBehind z n i j (r .answer) (after h w r)) (relaid-same h) (ap (λ (p : Outcome). p .answer) e, ap (λ (p : Outcome). p .store) e)
+    subst (λ (z : Store). StepsBehind z n i j (r .answer) (after h w r)) (lying-same h) (ap (λ (p : Outcome). p .answer) e, ap (λ (p : Outcome). p .store) e)
 
 module _ {M : Type 1} (𝓤 : URA M) (H : Heap 𝓤) (A : Atoms 𝓤) (at-mem : Memory → SProp 𝓤) (run : Routine → Fun 𝓤) where
   -- the contract that the proof cites
