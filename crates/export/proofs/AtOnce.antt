@@ -25,11 +25,12 @@ use denote.Struct.Members.{Member, rowsOf, partsAt}
 use denote.Struct.Parts.{shapeOf, PartsBack, struct-parts}
 use denote.Struct.Laws as LL
 use borrow.Struct.Lend.{own-same}
+use Rattle.store.specs.State.{slotCount}
 use Rattle.store.specs.declared.Store.{Store}
 use Rattle.store.proofs.Slot as Q
 use Rattle.store.proofs.Store as S
 use Rattle.store.proofs.Store.Laws as S′
-use Rattle.export.proofs.Columns.{Column8, Column512, laid, Names, countsRef, keysRef, kindsRef, valuesRef, stampsRef, Owning, Refs}
+use Rattle.export.proofs.Columns.{Counts, Column, planAt, clockAt, countsAt, keysAt, kindsAt, valuesAt, stampsAt, slotsAt, lying, Names, countsRef, keysRef, kindsRef, valuesRef, stampsRef, Owning, Refs}
 
 -- Five columns: counts, keys, kinds, values, stamps.
 abbrev pub Five : Type 0
@@ -55,7 +56,7 @@ field R = record { row = R; ty = lone (R .mir) }
 
 abbrev fields : List Member
 fields =
-    field u32 ∷ field u32 ∷ field Column8 ∷ field Column512 ∷ field Column512 ∷ field Column512 ∷ field Column512 ∷ field (Array (Q.the-field .row) 8) ∷ []
+    field u32 ∷ field u32 ∷ field Counts ∷ field Column ∷ field Column ∷ field Column ∷ field Column ∷ field (Array (Q.the-field .row) slotCount) ∷ []
 
 abbrev values : Store → Five → Denots (rowsOf fields)
 values z w = (z .plan, (z .clock, (w .0, (w .1 .0, (w .1 .1 .0, (w .1 .1 .1 .0, (w .1 .1 .1 .1, (map (Q.the-type .to) (z .slots), tt))))))))
@@ -79,9 +80,9 @@ lies-same z w b o =
 -- The other fields where they lie.
 abbrev others : Store → ℕ → ℕ → Fml
 others z b o =
-    fsep (partAt u32 fullShare (z .plan) b (o + 0))
-    (fsep (partAt u32 fullShare (z .clock) b (o + 4))
-    (fsep (partAt (Array (Q.the-field .row) 8) fullShare (map (Q.the-type .to) (z .slots)) b (o + 8232)) ftrue))
+    fsep (partAt u32 fullShare (z .plan) b (o + planAt))
+    (fsep (partAt u32 fullShare (z .clock) b (o + clockAt))
+    (fsep (partAt (Array (Q.the-field .row) slotCount) fullShare (map (Q.the-type .to) (z .slots)) b (o + slotsAt)) ftrue))
 
 -- What a `&mut` to a part owns.
 abbrev pub OwnMut : Lft → Owning
@@ -109,7 +110,7 @@ module _ {M : Type 1} (𝓤 : URA M) (H : Heap 𝓤) (A : Atoms 𝓤) (W : Given
   -- and what is kept for the way back.
   abbrev pub Kept : Lft → Names → Item 𝓤
   Kept κ g =
-      Due κ Column8 (countsRef b o z g) ⊛ Due κ Column512 (keysRef b o z g) ⊛ Due κ Column512 (kindsRef b o z g) ⊛ Due κ Column512 (valuesRef b o z g) ⊛ Due κ Column512 (stampsRef b o z g) ⊛ ‵ (others z b o) ⊛ Back
+      Due κ Counts (countsRef b o z g) ⊛ Due κ Column (keysRef b o z g) ⊛ Due κ Column (kindsRef b o z g) ⊛ Due κ Column (valuesRef b o z g) ⊛ Due κ Column (stampsRef b o z g) ⊛ ‵ (others z b o) ⊛ Back
 
   abbrev AllOut : ℕ × Names → SProp 𝓤
   AllOut p = sep 𝓤 (mean 𝓤 H A (Muts (p .0 ∷ []) (p .1))) (sep 𝓤 (A .lft (p .0 ∷ []) fullShare) (mean 𝓤 H A (Kept (p .0 ∷ []) (p .1))))
@@ -129,21 +130,21 @@ module _ {M : Type 1} (𝓤 : URA M) (H : Heap 𝓤) (A : Atoms 𝓤) (W : Given
       move ! (1 ∷ 6 ∷ 7 ∷ []) $ move ! (1 ∷ 0 ∷ []) $ fjoin ! $ move ! (1 ∷ 0 ∷ []) $ fjoin ! $
       -- [the others; the stamps; the values; the kinds; the keys; the counts; the way back]
       lft-new ! tt (λ α. move ! (2 ∷ []) $
-      use1 W (One (α ∷ []) Column512 6184 (laid (z .stamps))) (one (α ∷ []) Column512 6184 (laid (z .stamps))) $ await ! tt $ pick ! (λ γ₅. split ! $ move ! (4 ∷ []) $
-      use1 W (One (α ∷ []) Column512 4136 (laid (z .values))) (one (α ∷ []) Column512 4136 (laid (z .values))) $ await ! tt $ pick ! (λ γ₄. split ! $ move ! (6 ∷ []) $
-      use1 W (One (α ∷ []) Column512 2088 (laid (z .kinds))) (one (α ∷ []) Column512 2088 (laid (z .kinds))) $ await ! tt $ pick ! (λ γ₃. split ! $ move ! (8 ∷ []) $
-      use1 W (One (α ∷ []) Column512 40 (laid (z .keys))) (one (α ∷ []) Column512 40 (laid (z .keys))) $ await ! tt $ pick ! (λ γ₂. split ! $ move ! (10 ∷ []) $
-      use1 W (One (α ∷ []) Column8 8 (laid (z .counts))) (one (α ∷ []) Column8 8 (laid (z .counts))) $ await ! tt $ pick ! (λ γ₁. split ! $
+      use1 W (One (α ∷ []) Column stampsAt (lying (z .stamps))) (one (α ∷ []) Column stampsAt (lying (z .stamps))) $ await ! tt $ pick ! (λ γ₅. split ! $ move ! (4 ∷ []) $
+      use1 W (One (α ∷ []) Column valuesAt (lying (z .values))) (one (α ∷ []) Column valuesAt (lying (z .values))) $ await ! tt $ pick ! (λ γ₄. split ! $ move ! (6 ∷ []) $
+      use1 W (One (α ∷ []) Column kindsAt (lying (z .kinds))) (one (α ∷ []) Column kindsAt (lying (z .kinds))) $ await ! tt $ pick ! (λ γ₃. split ! $ move ! (8 ∷ []) $
+      use1 W (One (α ∷ []) Column keysAt (lying (z .keys))) (one (α ∷ []) Column keysAt (lying (z .keys))) $ await ! tt $ pick ! (λ γ₂. split ! $ move ! (10 ∷ []) $
+      use1 W (One (α ∷ []) Counts countsAt (lying (z .counts))) (one (α ∷ []) Counts countsAt (lying (z .counts))) $ await ! tt $ pick ! (λ γ₁. split ! $
       -- [the counts' &mut, what is due of it; the keys'; the kinds'; the values'; the stamps'; the token; the others; the way back]
       move ! (0 ∷ 2 ∷ 4 ∷ 6 ∷ 8 ∷ 10 ∷ 1 ∷ 3 ∷ 5 ∷ 7 ∷ 9 ∷ []) $ group ! 5 $ now ! $ by ! (exI 𝓤 AllOut (α, (γ₁, (γ₂, (γ₃, (γ₄, γ₅)))))))))))))
 
   -- What each of the five showed last.
   abbrev pub Lasts : Names → Five → Fml
   Lasts g w =
-      fsep (fres (g .0) (Column8 .coded .code (w .0)))
-      (fsep (fres (g .1 .0) (Column512 .coded .code (w .1 .0)))
-      (fsep (fres (g .1 .1 .0) (Column512 .coded .code (w .1 .1 .0)))
-      (fsep (fres (g .1 .1 .1 .0) (Column512 .coded .code (w .1 .1 .1 .0))) (fres (g .1 .1 .1 .1) (Column512 .coded .code (w .1 .1 .1 .1))))))
+      fsep (fres (g .0) (Counts .coded .code (w .0)))
+      (fsep (fres (g .1 .0) (Column .coded .code (w .1 .0)))
+      (fsep (fres (g .1 .1 .0) (Column .coded .code (w .1 .1 .0)))
+      (fsep (fres (g .1 .1 .1 .0) (Column .coded .code (w .1 .1 .1 .0))) (fres (g .1 .1 .1 .1) (Column .coded .code (w .1 .1 .1 .1))))))
 
   -- One of them is back.
   back : (κ : Lft) (F : RattleType) (γ : GName) (x : F .Denot) (d : ℕ)
@@ -163,11 +164,11 @@ module _ {M : Type 1} (𝓤 : URA M) (H : Heap 𝓤) (A : Atoms 𝓤) (W : Given
       -- [the values' last; the stamps' last; the kinds'; the keys'; the counts'; that the lifetime is over; what is kept]
       move ! (6 ∷ []) $ split ! $ move ! (1 ∷ []) $ split ! $ move ! (1 ∷ []) $ split ! $ move ! (1 ∷ []) $ split ! $ move ! (1 ∷ []) $ split ! $ move ! (1 ∷ []) $ split ! $
       -- [the others; the way back; what is due of the stamps; the values; the kinds; the keys; the counts; the values' last; the stamps'; the kinds'; the keys'; the counts'; that the lifetime is over]
-      move ! (12 ∷ 2 ∷ 8 ∷ []) $ use3 W (later (‵ (partAt Column512 fullShare (w .1 .1 .1 .1) b (o + 6184)) ⊛ ‵ (fdead (p .0 ∷ [])))) (back (p .0 ∷ []) Column512 (p .1 .1 .1 .1 .1) (w .1 .1 .1 .1) 6184) $ await ! tt $ split ! $
-      move ! (1 ∷ 4 ∷ 8 ∷ []) $ use3 W (later (‵ (partAt Column512 fullShare (w .1 .1 .1 .0) b (o + 4136)) ⊛ ‵ (fdead (p .0 ∷ [])))) (back (p .0 ∷ []) Column512 (p .1 .1 .1 .1 .0) (w .1 .1 .1 .0) 4136) $ await ! tt $ split ! $
-      move ! (1 ∷ 5 ∷ 8 ∷ []) $ use3 W (later (‵ (partAt Column512 fullShare (w .1 .1 .0) b (o + 2088)) ⊛ ‵ (fdead (p .0 ∷ [])))) (back (p .0 ∷ []) Column512 (p .1 .1 .1 .0) (w .1 .1 .0) 2088) $ await ! tt $ split ! $
-      move ! (1 ∷ 6 ∷ 8 ∷ []) $ use3 W (later (‵ (partAt Column512 fullShare (w .1 .0) b (o + 40)) ⊛ ‵ (fdead (p .0 ∷ [])))) (back (p .0 ∷ []) Column512 (p .1 .1 .0) (w .1 .0) 40) $ await ! tt $ split ! $
-      move ! (1 ∷ 7 ∷ 8 ∷ []) $ use3 W (later (‵ (partAt Column8 fullShare (w .0) b (o + 8)) ⊛ ‵ (fdead (p .0 ∷ [])))) (back (p .0 ∷ []) Column8 (p .1 .0) (w .0) 8) $ await ! tt $ split ! $
+      move ! (12 ∷ 2 ∷ 8 ∷ []) $ use3 W (later (‵ (partAt Column fullShare (w .1 .1 .1 .1) b (o + stampsAt)) ⊛ ‵ (fdead (p .0 ∷ [])))) (back (p .0 ∷ []) Column (p .1 .1 .1 .1 .1) (w .1 .1 .1 .1) stampsAt) $ await ! tt $ split ! $
+      move ! (1 ∷ 4 ∷ 8 ∷ []) $ use3 W (later (‵ (partAt Column fullShare (w .1 .1 .1 .0) b (o + valuesAt)) ⊛ ‵ (fdead (p .0 ∷ [])))) (back (p .0 ∷ []) Column (p .1 .1 .1 .1 .0) (w .1 .1 .1 .0) valuesAt) $ await ! tt $ split ! $
+      move ! (1 ∷ 5 ∷ 8 ∷ []) $ use3 W (later (‵ (partAt Column fullShare (w .1 .1 .0) b (o + kindsAt)) ⊛ ‵ (fdead (p .0 ∷ [])))) (back (p .0 ∷ []) Column (p .1 .1 .1 .0) (w .1 .1 .0) kindsAt) $ await ! tt $ split ! $
+      move ! (1 ∷ 6 ∷ 8 ∷ []) $ use3 W (later (‵ (partAt Column fullShare (w .1 .0) b (o + keysAt)) ⊛ ‵ (fdead (p .0 ∷ [])))) (back (p .0 ∷ []) Column (p .1 .1 .0) (w .1 .0) keysAt) $ await ! tt $ split ! $
+      move ! (1 ∷ 7 ∷ 8 ∷ []) $ use3 W (later (‵ (partAt Counts fullShare (w .0) b (o + countsAt)) ⊛ ‵ (fdead (p .0 ∷ [])))) (back (p .0 ∷ []) Counts (p .1 .0) (w .0) countsAt) $ await ! tt $ split ! $
       -- [the counts; that the lifetime is over; the keys; the kinds; the values; the stamps; the others; the way back]
       move ! (6 ∷ []) $ fsplit ! $ move ! (1 ∷ []) $ fsplit ! $ move ! (8 ∷ 1 ∷ []) $ fjoin ! $ move ! (7 ∷ 0 ∷ []) $ fjoin ! $ move ! (6 ∷ 0 ∷ []) $ fjoin ! $
       move ! (5 ∷ 0 ∷ []) $ fjoin ! $ move ! (3 ∷ 0 ∷ []) $ fjoin ! $ move ! (1 ∷ 0 ∷ []) $ fjoin ! $ move ! (1 ∷ 0 ∷ []) $ fjoin ! $

@@ -8,8 +8,6 @@ use Rattle.store.specs.declared.Outcome.{Outcome}
 use Rattle.store.specs.declared.Store.{Store}
 use Rattle.store.specs.Calls.{onStore}
 use Rattle.store.specs.Promises.{freshOutcome}
-use Rattle.steps.specs.Entries.{entry}
-use Rattle.steps.specs.Carries.{carryStep}
 use Rattle.image.specs.Loading.{loadOutcome}
 use Rattle.schedule.specs.Schedule.{stepRecord}
 use Rattle.schedule.specs.Running.{stepOf}
@@ -25,18 +23,6 @@ FreshensBehind plan = Gives (freshOutcome plan)
 -- The step of a record of these numbers, as if at place 0.
 abbrev pub StepsBehind : Store → ℕ → ℕ → ℕ → Answer → Store → Type 0
 StepsBehind before number x y = Gives (onStore (stepOf (stepRecord number x y) 0) before)
-
--- The same whatever the second number.
-abbrev pub SearchesBehind : Store → ℕ → ℕ → Answer → Store → Type 0
-SearchesBehind before number x r after = (y : ℕ) → StepsBehind before number x y r after
-
--- An entry of a kind.
-abbrev pub EntersBehind : Store → ℕ → ℕ → ℕ → Answer → Store → Type 0
-EntersBehind before kind key value = Gives (onStore (entry kind key value) before)
-
--- A carry.
-abbrev pub CarriesBehind : Store → ℕ → ℕ → Answer → Store → Type 0
-CarriesBehind before node edge = Gives (onStore (carryStep node edge) before)
 
 -- The store of the image, or the first fault and a fresh store of plan 1, whatever stood there.
 abbrev pub LoadsBehind : List ℕ → Answer → Store → Type 0

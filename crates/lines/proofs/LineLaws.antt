@@ -7,7 +7,7 @@ use lib.ListN.{length, set, length-append}
 use Rattle.lists.specs.Stands.{Wrote}
 use Rattle.lists.proofs.Standing.{wrote-nil, wrote-cons, wrote-join}
 use Rattle.store.specs.declared.Answer.{Answer}
-use Rattle.lines.specs.Text.{digit, SPACE, FEED, decimal, lineText, answerText}
+use Rattle.lines.specs.Text.{digit, SPACE, FEED, decimal, printedText, answerText}
 use Rattle.lines.proofs.DecimalLaws.{decimal-one, decimal-more, decimal-few}
 
 -- One byte more.
@@ -35,12 +35,12 @@ digits-fit v h = ap length (decimal-more v h) ∙ length-append (decimal (v / 10
 pub word-ends : (v : ℕ) {b c : List ℕ} {at next : ℕ} → v < 2 ^ 64 → Wrote b at (decimal v) next c → next + 1 ≤ at + 21
 word-ends v h w = let e = w .to in omega (arith, decimal-few v h)
 
--- ---- line_into
+-- ---- print_into
 
 -- A number and a space, and the rest of the line after them.
 pub wrote-line : (v w : ℕ) (ws : List ℕ) {b c e : List ℕ} {at mid next : ℕ} → Wrote b at (decimal v ++ SPACE ∷ []) mid c
-    → Wrote c mid (lineText (w ∷ ws)) next e → Wrote b at (lineText (v ∷ w ∷ ws)) next e
-unfolding lineText
+    → Wrote c mid (printedText (w ∷ ws)) next e → Wrote b at (printedText (v ∷ w ∷ ws)) next e
+unfolding printedText
 wrote-line v w ws p q = rw append-assoc at (wrote-join p q)
 
 -- Six numbers, each with the byte after it.
@@ -52,7 +52,7 @@ pub line-printed : (first : ℕ) (x : Answer) {b b₁ b₂ b₃ b₄ b₅ b₆ :
     → Wrote b₄ i₄ (decimal (x .c) ++ SPACE ∷ []) i₅ b₅
     → Wrote b₅ i₅ (decimal (x .d) ++ FEED ∷ []) i₆ b₆
     → Wrote b 0 (answerText first x) i₆ b₆
-unfolding lineText
+unfolding printedText
 line-printed first x p₁ p₂ p₃ p₄ p₅ p₆ =
     wrote-line first (x .number) (x .a ∷ x .b ∷ x .c ∷ x .d ∷ []) p₁
     (wrote-line (x .number) (x .a) (x .b ∷ x .c ∷ x .d ∷ []) p₂

@@ -4,6 +4,7 @@ use mathlib.Core.List.{List, [], _∷_, _++_}
 use Prim.Native.Nat.{ℕ, zero, suc, _+_, _-_, _*_, _/_, _%_}
 use lib.Dec.{ltb}
 use Rattle.store.specs.declared.Answer.{Answer}
+use Rattle.schedule.specs.Running.{PrintedLine, printedLine}
 
 -- The byte of a digit.
 abbrev pub digit : ℕ → ℕ
@@ -31,15 +32,15 @@ unfoldable pub spelt : ℕ → List ℕ → ℕ
 spelt v [] = v
 spelt v (b ∷ l) = spelt (10 * v + (b - 48)) l
 
--- A line.
-unfoldable pub lineText : List ℕ → List ℕ
-lineText [] = []
-lineText (v ∷ []) = decimal v ++ FEED ∷ []
-lineText (v ∷ w ∷ ws) = decimal v ++ SPACE ∷ lineText (w ∷ ws)
+-- A printed line.
+unfoldable pub printedText : PrintedLine → List ℕ
+printedText [] = []
+printedText (v ∷ []) = decimal v ++ FEED ∷ []
+printedText (v ∷ w ∷ ws) = decimal v ++ SPACE ∷ printedText (w ∷ ws)
 
--- The line of a step, or of a whole schedule: six numbers.
+-- That of a step, or of a whole schedule: six numbers.
 abbrev pub answerText : ℕ → Answer → List ℕ
-answerText first r = lineText (first ∷ r .number ∷ r .a ∷ r .b ∷ r .c ∷ r .d ∷ [])
+answerText first r = printedText (printedLine first r)
 
 -- Six numbers of at most 20 digits, each with one byte after it.
 abbrev pub mostText : ℕ

@@ -39,7 +39,7 @@ fn write_word(buffer: &mut [u8; ROOM], at: usize, value: u64, after: u8) -> usiz
 }
 
 // Writes the line of a first number and an answer, and gives its length.
-pub fn line_into(buffer: &mut [u8; ROOM], first: u32, answer: Answer) -> usize
+pub fn print_into(buffer: &mut [u8; ROOM], first: u32, answer: Answer) -> usize
     ensures { λ r. ⌜ Prints (now (buffer .entry)) first answer r (now (buffer .exit)) ⌝ }
 {
     let a = write_word(buffer, 0, first as u64, SPACE);

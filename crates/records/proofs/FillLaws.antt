@@ -1,4 +1,4 @@
--- A list while records are laid down at its beginning, and what decoding has laid down at last. Assumes nothing.
+-- A list while records are withFirst down at its beginning, and what decoding has withFirst down at last. Assumes nothing.
 use mathlib.Core.Path.{_≡_, refl, ap, _∙_}
 use mathlib.Core.Bool.{true, false}
 use mathlib.Core.List.{List, _++_}
@@ -17,7 +17,7 @@ use Rattle.wire.specs.Reading.{fault}
 use Rattle.schedule.specs.declared.Step.{Step}
 use Rattle.schedule.specs.Schedule.{mostSteps, scheduleAt, recordsOf, decodeAnswer, decodeList}
 use Rattle.schedule.specs.Running.{noStep}
-use Rattle.schedule.specs.Workers.{noSteps, laid, decodedOf, decodedInto}
+use Rattle.schedule.specs.Workers.{noSteps, withFirst, decodedOf, decodedInto}
 use Rattle.schedule.proofs.ScheduleLaws.{schedule-few}
 use Rattle.records.specs.Filling.{filled}
 
@@ -46,11 +46,11 @@ filled-is xs l (suc n) p q =
 
 -- ---- what decoding lays down
 
--- Records at the beginning of a list of zeros, laid down at the beginning of another list.
-filled-laid : (xs l : List Step) → length xs ≤ mostSteps → length xs ≤ length l → filled (laid xs noSteps) (length xs) l ≡ laid xs l
-unfolding laid
-filled-laid xs l p q =
-    filled-is (laid xs noSteps) l (length xs) (rw (length-append) (omega arith)) q ∙ ap (λ (m : List Step). m ++ drop (length xs) l) (take-append-seam xs (drop (length xs) noSteps))
+-- Records at the beginning of a list of zeros, withFirst down at the beginning of another list.
+filled-first : (xs l : List Step) → length xs ≤ mostSteps → length xs ≤ length l → filled (withFirst xs noSteps) (length xs) l ≡ withFirst xs l
+unfolding withFirst
+filled-first xs l p q =
+    filled-is (withFirst xs noSteps) l (length xs) (rw (length-append) (omega arith)) q ∙ ap (λ (m : List Step). m ++ drop (length xs) l) (take-append-seam xs (drop (length xs) noSteps))
 
 module _ (s : List ℕ) (before : List Step) where
   -- SMALL, and what is decoded otherwise.
@@ -85,10 +85,10 @@ module _ (s : List ℕ) (before : List Step) where
     large-answer = rw (large, t)
 
     large-list : filled (decodedInto s (length before) .steps) (decodedInto s (length before) .count) before ≡ decodeList s before
-    unfolding decodedOf decodeList laid
+    unfolding decodedOf decodeList withFirst
     large-list =
         let few = schedule-few s in
-        rw (large, t) (filled-laid (recordsOf (scheduleAt s)) before few (omega (arith, ltb-false (length before) mostSteps t)))
+        rw (large, t) (filled-first (recordsOf (scheduleAt s)) before few (omega (arith, ltb-false (length before) mostSteps t)))
 
   -- There is room for the records.
   pub decoded-fits : (decodedInto s (length before) .count ≤ mostSteps) × (decodedInto s (length before) .count ≤ length before)

@@ -1,16 +1,30 @@
 -- What the worker on lent columns promises.
 use mathlib.Core.Path.{_≡_}
+use mathlib.Core.List.{List}
 use Prim.Native.Nat.{ℕ}
+use denote.Ref.{RefT}
+use denote.Triple.Both.{Both}
+use Rattle.store.specs.declared.Slot.{Slot}
 use Rattle.store.specs.declared.Store.{Store}
-use Rattle.searches.specs.declared.slots.Moved.{Moved}
-use Rattle.searches.specs.Workers.{Moves}
-use Rattle.schedule.specs.Schedule.{ENTER, WITHDRAW, CARRY, stepRecord}
+use Rattle.store.specs.Calls.{onStore}
+use Rattle.store.specs.Workers.{lentStore}
+use Rattle.schedule.specs.Schedule.{stepRecord}
 use Rattle.schedule.specs.Running.{stepOf}
+use Rattle.runner.specs.declared.Done.{Done}
 
--- What the step of a record does with a store's slots, as if at place 0, whatever its second number.
-abbrev pub MovesBy : ℕ → ℕ → Store → Moved → Type 0
-MovesBy number x z r = (y : ℕ) → Moves (stepOf (stepRecord number x y) 0) z r
+-- A column that is lent to be written, at entry and at exit.
+abbrev pub Written : Type 0
+Written = Both (RefT (List ℕ)) (RefT (List ℕ))
 
--- A step that leaves the columns as they are: no entry, no carry.
-abbrev pub LeavesColumns : ℕ → Type 0
-LeavesColumns number = (number ≡ ENTER → ⊥) × (number ≡ WITHDRAW → ⊥) × (number ≡ CARRY → ⊥)
+-- What was done, with the store after it, is the outcome of the step of a record on the store before it.
+abbrev pub Does : ℕ → ℕ → ℕ → ℕ → Store → Done → Store → Type 0
+Does number x y place before r after =
+    record { answer = r .answer; store = after } ≡ onStore (stepOf (stepRecord number x y) place) before
+
+-- The same over the parts of a store: its columns are lent to be written, its clock and its slots are given back.
+abbrev pub DoesLent : ℕ → ℕ → Written → Written → Written → Written → Written → List Slot → ℕ → ℕ → ℕ → ℕ → Done → Type 0
+DoesLent plan clock counts keys kinds values stamps slots number x y place r =
+    Does number x y place
+    (lentStore plan clock (counts .entry) (keys .entry) (kinds .entry) (values .entry) (stamps .entry) slots)
+    r
+    (lentStore plan (r .clock) (counts .exit) (keys .exit) (kinds .exit) (values .exit) (stamps .exit) (r .slots))

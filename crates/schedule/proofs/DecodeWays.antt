@@ -19,7 +19,7 @@ use Rattle.schedule.specs.declared.Step.{Step}
 use Rattle.schedule.specs.declared.decoding.StepRead.{StepRead}
 use Rattle.schedule.specs.Schedule.{ENTER, CARRY, CANCEL, mostSteps, stepRecord, knownStep, hasTwo, secondAt, stepAt, stepsAt, scheduleAt}
 use Rattle.schedule.specs.Running.{noStep}
-use Rattle.schedule.specs.Workers.{stepReadOf, planned, noSteps, laid, decodedOf, decodedInto}
+use Rattle.schedule.specs.Workers.{stepReadOf, planned, noSteps, withFirst, decodedOf, decodedInto}
 
 -- ---- is_known, has_two, read_second
 
@@ -92,7 +92,7 @@ step-fault (fault number at) e h = rw e
 
 pub refused-whole : (number at : ℕ)
     → record { answer = answer number at 0 0 0; count = 0; steps = noSteps } ≡ decodedOf (fault number at)
-unfolding decodedOf laid
+unfolding decodedOf withFirst
 refused-whole number at = refl
 
 -- ---- read_steps
@@ -101,12 +101,12 @@ refused-whole number at = refl
 pub record Sofar (s : List ℕ) (from : ℕ) (list : List Step) (count at : ℕ) : Type 0 where
   pub done : List Step
   pub many : length done ≡ count
-  pub holds : list ≡ laid done noSteps
+  pub holds : list ≡ withFirst done noSteps
   pub rest : stepsAt s mostSteps from ≡ bind (stepsAt s (mostSteps - count) at) (λ xs b. got (done ++ xs) b)
 
 -- Before the first step.
 pub sofar-start : (s : List ℕ) (from : ℕ) → Sofar s from noSteps 0 from
-unfolding laid bind
+unfolding withFirst bind
 sofar-start s from = record { done = []; many = refl; holds = refl; rest = sym (go (stepsAt s mostSteps from)) }
   where
     go : (g : Got (List Step)) → bind g (λ xs b. got ([] ++ xs) b) ≡ g
@@ -114,10 +114,10 @@ sofar-start s from = record { done = []; many = refl; holds = refl; rest = sym (
     go (fault number at) = refl
 
 -- One record more at the beginning of a list.
-laid-more : (done : List Step) (x : Step) (before : List Step) → length done < length before
-    → set (laid done before) (length done) x ≡ laid (done ++ x ∷ []) before
-unfolding laid
-laid-more done x before h =
+first-more : (done : List Step) (x : Step) (before : List Step) → length done < length before
+    → set (withFirst done before) (length done) x ≡ withFirst (done ++ x ∷ []) before
+unfolding withFirst
+first-more done x before h =
     ap (λ (l : List Step). set (done ++ l) (length done) x) (drop-cons before (length done) noStep h)
     ∙ set-append-seam done _ (drop (suc (length done)) before) x
     ∙ sym (append-snoc done x (drop (suc (length done)) before))
@@ -170,7 +170,7 @@ module _ {s : List ℕ} {from : ℕ} {list : List Step} {count at : ℕ} (sofar 
       steps-fault plan e =
           ap decodedOf (sym (bind-fault _ _ (sofar .rest ∙ bind-fault _ _ (steps-step s at more h ∙ bind-fault _ _ e))))
 
-      -- A step is read, and its record laid down.
+      -- A step is read, and its record withFirst down.
       pub sofar-turn : {x : Step} {next : ℕ} → stepAt s at ≡ got x next → Sofar s from (set list count x) (count + 1) next
       sofar-turn {x} {next} e =
           let d = sofar .done in
@@ -178,7 +178,7 @@ module _ {s : List ℕ} {from : ℕ} {list : List Step} {count at : ℕ} (sofar 
           record {
             done = d ++ x ∷ [];
             many = length-append d (x ∷ []) ∙ ap (λ (n : ℕ). n + 1) k;
-            holds = rw (sofar .holds, ← k) (laid-more d x noSteps (omega arith));
+            holds = rw (sofar .holds, ← k) (first-more d x noSteps (omega arith));
             rest = sofar .rest ∙ ap (λ (g : Got (List Step)). bind g (λ xs b. got (d ++ xs) b)) (steps-step s at more h ∙ bind-got _ _ e)
                 ∙ after-step d x (stepsAt s (mostSteps - (count + 1)) next);
           }

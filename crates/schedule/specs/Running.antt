@@ -42,25 +42,25 @@ unfoldable pub runOutcome : Store → List Step → ℕ → Outcome
 runOutcome z steps place = onStore (stepOf (getD steps place noStep) place) z
 
 -- A printed line: six numbers.
-abbrev pub Line : Type 0
-Line = List ℕ
+abbrev pub PrintedLine : Type 0
+PrintedLine = List ℕ
 
 -- A first number, and an answer.
-abbrev pub line : ℕ → Answer → Line
-line first r = first ∷ r .number ∷ r .a ∷ r .b ∷ r .c ∷ r .d ∷ []
+abbrev pub printedLine : ℕ → Answer → PrintedLine
+printedLine first r = first ∷ r .number ∷ r .a ∷ r .b ∷ r .c ∷ r .d ∷ []
 
 -- "Then one line a step": its number and its answer.
-unfoldable pub stepLines : List Step → Store → List Line
-stepLines [] z = []
-stepLines (x ∷ xs) z =
+unfoldable pub printedSteps : List Step → Store → List PrintedLine
+printedSteps [] z = []
+printedSteps (x ∷ xs) z =
     let o = onStore (stepOf x 0) z in
-    line (x .number) (o .answer) ∷ stepLines xs (o .store)
+    printedLine (x .number) (o .answer) ∷ printedSteps xs (o .store)
 
 -- "It prints one line first: 0, answer number, step count (or, if refused, the offset), 0 0 0; a refused schedule stops there."
-abbrev pub linesOf : Got Schedule → List Line
-linesOf (fault number at) = line 0 (answer number at 0 0 0) ∷ []
-linesOf (got d end) = line 0 (answer 0 (length (d .steps)) 0 0 0) ∷ stepLines (d .steps) (freshStore (d .plan))
+abbrev pub printedLines : Got Schedule → List PrintedLine
+printedLines (fault number at) = printedLine 0 (answer number at 0 0 0) ∷ []
+printedLines (got d end) = printedLine 0 (answer 0 (length (d .steps)) 0 0 0) ∷ printedSteps (d .steps) (freshStore (d .plan))
 
 -- The lines that the program prints for a schedule's bytes.
-unfoldable pub scheduleLines : List ℕ → List Line
-scheduleLines s = linesOf (scheduleAt s)
+unfoldable pub printedSchedule : List ℕ → List PrintedLine
+printedSchedule s = printedLines (scheduleAt s)

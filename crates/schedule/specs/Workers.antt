@@ -26,12 +26,12 @@ abbrev pub noSteps : List Step
 noSteps = replicate mostSteps noStep
 
 -- Records at the beginning of a list.
-unfoldable pub laid : List Step → List Step → List Step
-laid xs before = xs ++ drop (length xs) before
+unfoldable pub withFirst : List Step → List Step → List Step
+withFirst xs before = xs ++ drop (length xs) before
 
 -- A schedule by value: the answer, the number of steps, and the records at the beginning of a list of zeros.
 unfoldable pub decodedOf : Got Schedule → Decoded
-decodedOf g = record { answer = scheduleAnswer g; count = length (recordsOf g); steps = laid (recordsOf g) noSteps }
+decodedOf g = record { answer = scheduleAnswer g; count = length (recordsOf g); steps = withFirst (recordsOf g) noSteps }
 
 -- The same for a list of so many records.
 unfoldable pub decodedInto : List ℕ → ℕ → Decoded

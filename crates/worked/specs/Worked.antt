@@ -16,7 +16,7 @@ use Rattle.image.specs.Promises.{saveBuffer}
 use Rattle.page.specs.Promises.{pageAnswer, pageBuffer}
 use Rattle.schedule.specs.declared.Step.{Step}
 use Rattle.schedule.specs.Schedule.{Schedule, stepRecord, scheduleAt}
-use Rattle.schedule.specs.Running.{stepOf, scheduleLines}
+use Rattle.schedule.specs.Running.{stepOf, PrintedLine, printedLine, printedSchedule}
 
 -- The answers of some steps done one after another.
 unfoldable pub answersOf : List Step → Store → List Answer
@@ -39,9 +39,9 @@ input =
     0x01 ∷ 0x01 ∷ 0x21 ∷ 0xB4 ∷ 0x01 ∷ 0x03 ∷ 0x00 ∷ 0x00 ∷ 0x04 ∷ 0x21 ∷ 0x05 ∷ 0x00 ∷ 0x01 ∷ 0x21 ∷ 0xD2 ∷ 0x01 ∷ 0x03 ∷ 0x00
     ∷ 0x00 ∷ 0x05 ∷ 0x00 ∷ 0x05 ∷ 0x00 ∷ []
 
--- A printed line: its six numbers.
-abbrev pub printed : ℕ → ℕ → ℕ → ℕ → ℕ → ℕ → List ℕ
-printed s n a b c d = s ∷ n ∷ a ∷ b ∷ c ∷ d ∷ []
+-- A printed line.
+abbrev pub printed : ℕ → ℕ → ℕ → ℕ → ℕ → ℕ → PrintedLine
+printed s n a b c d = printedLine s (answer n a b c d)
 
 -- The store after document 01's steps.
 unfoldable pub storeAfterInput : Store
@@ -65,7 +65,7 @@ done a = answer DONE a 0 0 0
 pub record Worked : Type 0 where
   -- "(P1) these lines."
   pub p1 :
-      scheduleLines input
+      printedSchedule input
       ≡ printed 0 0 8 0 0 0 ∷ printed 1 0 1 0 0 0 ∷ printed 3 0 1 0 0 0 ∷ printed 4 0 0 0 0 0 ∷ printed 5 1 1 1 0 0 ∷ printed 1 0 2 0 0 0
       ∷ printed 3 0 1 1 0 0 ∷ printed 5 0 2 210 2 2 ∷ printed 5 10 0 0 0 0 ∷ []
   -- "(P2) Saved after them: 01 01 03 00 01 21 01 D2 01 02 00 00."

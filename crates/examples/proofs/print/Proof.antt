@@ -4,14 +4,14 @@ use borrow.Author.Needs.{needs}
 use Rattle.examples.proofs.print.Statement.{statement}
 use Rattle.examples.proofs.print.Tie as tie
 
-line-into-requires : tie.Need-line-into-requires
-line-into-requires c κs = search needs
+print-into-requires : tie.Need-print-into-requires
+print-into-requires c κs = search needs
 
 array-share-prefix-text : tie.Need-array-share-prefix-text
-array-share-prefix-text c = line-within (c .line-into .ensures .0) (c .line-into .ensures .1)
+array-share-prefix-text c = line-within (c .print-into .ensures .0) (c .print-into .ensures .1)
 
 slice-aggregate-write-all : tie.Need-slice-aggregate-write-all
-slice-aggregate-write-all c = line-length (c .before .line-into .ensures .0) (c .before .line-into .ensures .1)
+slice-aggregate-write-all c = line-length (c .before .print-into .ensures .0) (c .before .print-into .ensures .1)
 
 write-all-requires : tie.Need-write-all-requires
 write-all-requires c κs = search needs
@@ -23,7 +23,7 @@ pub print-spec : {M : Type 1} → statement M
 print-spec =
     tie.close
     (tie.spec
-    line-into-requires
+    print-into-requires
     array-share-prefix-text
     slice-aggregate-write-all
     write-all-requires

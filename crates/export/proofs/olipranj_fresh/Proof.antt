@@ -1,4 +1,4 @@
--- `export::olipranj_fresh` meets its promise: a walk of its MIR, by hand. The borrow is opened, `Store::fresh` makes the store, it is laid over
+-- `export::olipranj_fresh` meets its promise: a walk of its MIR, by hand. The borrow is opened, `Store::fresh` makes the store, it is lying over
 -- what stood there, and the borrow is closed. Assumes nothing.
 use mathlib.Core.Path.{refl, ap}
 use Prim.Native.Nat.{ℕ, _<_, _^_}
@@ -110,7 +110,7 @@ module _ {M : Type 1} (𝓤 : URA M) (H : Heap 𝓤) (A : Atoms 𝓤) (W : Given
         split ! $ move ! (1 ∷ []) $ use1 W (raw (fact 𝓤 (Freshens n r))) (said r) $ heard ! (Freshens n r) (λ e. split ! $ drop ! $
         peeks ! O.the-row (Is O.the-row) (shows 𝓤 H A O.the-row) r (u ∷ []) (λ ir.
         land ! (from ! (stop !)) (init ! 6 refl (LL.lawful O.the-type O′.the-laws 𝓤 H A W .typed r _ ir .0)) $
-        rewrite ! 6 (λ (w : Val). ‵ (fat fullShare O′.mir l₃ 0 w)) (spelled r u ir) refl $ drop ! $
+        rewrite ! 6 (λ (w : Val). ‵ (fat fullShare O′.mir l₃ 0 w)) (spelled O.the-type O′.the-laws r u ir) refl $ drop ! $
         -- [the store's cell; what a Store owns; the open borrow; obs; auth; _3; …; _0; …]
         assigns ! (of-opd ! (load ! (from ! (fld ! refl (stop !))) (look-in ! 5 (sub ! 1 refl (whole !))))) (from ! (hop ! (look ! 9 refl) (stop !))) (store-raw ! 0 refl (LL.lawful S.the-type S′.the-laws 𝓤 H A W .typed (r .store) _ (LL.owed O.the-type O′.the-laws r _ ir .1 .0) .0)) $
         assigns ! (of-opd ! (load ! (from ! (fld ! refl (stop !))) (look-in ! 5 (sub ! 0 refl (whole !))))) (from ! (stop !)) (init ! 11 refl (LL.lawful R.the-type R′.the-laws 𝓤 H A W .typed (r .answer) _ (LL.owed O.the-type O′.the-laws r _ ir .0) .0)) $

@@ -44,6 +44,7 @@ use Rattle.image.specs.declared.Loaded.{Loaded}
 use Rattle.image.specs.Workers.{columns, storeIn, LoadsIn}
 use Rattle.image.proofs.Loaded as Ld
 use Rattle.image.proofs.Loaded.Laws as Ld′
+use Rattle.store.specs.State.{slotCount}
 use Rattle.store.specs.declared.Store.{Store}
 use Rattle.store.specs.declared.Outcome.{Outcome}
 use Rattle.store.proofs.Store as S
@@ -56,8 +57,8 @@ use Rattle.image.proofs.load_in as call
 use Rattle.image.proofs.load_in.Symbol as call-def
 use Rattle.image.proofs.load_in.Symbol.{name as #image·load-in}
 use Rattle.image.proofs.load_in.Met as call-thm
-use Rattle.export.proofs.Values.{store-val, answer-val}
-use Rattle.export.proofs.Columns.{Names, countsRef, keysRef, kindsRef, valuesRef, stampsRef, slots-are}
+use Rattle.export.proofs.Values.{store-val, answer-val, spelled}
+use Rattle.export.proofs.Columns.{countsAt, keysAt, kindsAt, valuesAt, stampsAt, Names, countsRef, keysRef, kindsRef, valuesRef, stampsRef, slots-are}
 use Rattle.export.proofs.AtOnce.{Five, with-columns, Muts, Kept, columns-lent, columns-back}
 use Rattle.export.proofs.olipranj_load.Key.{name as #export·olipranj-load}
 use Rattle.export.proofs.olipranj_load as f
@@ -70,14 +71,6 @@ stayed = (stay-ref (0 ∷ []) tt (plain (λ _. S.the-row)), (stay-none-slice (1 
 -- What `load_in` gives, as the machine holds it.
 abbrev loaded-val : Loaded → Val
 loaded-val r = LL.tuple-val Ld.the-type Ld′.the-laws (Ld.the-type .to r)
-
-hd : List Val → Val
-hd [] = vunit
-hd (v ∷ vs) = v
-
-spelled : (r : Loaded) (u : Val) → Is Ld.the-row r (u ∷ []) → u ≡ loaded-val r
-unfolding hd
-spelled r u is = ap hd (LL.tells Ld.the-type Ld′.the-laws r (u ∷ []) is)
 
 -- The columns at its end, the store of them and of what it gives, and how that store is held.
 abbrev Ends : Type 0
@@ -131,7 +124,7 @@ module _ {M : Type 1} (𝓤 : URA M) (H : Heap 𝓤) (A : Atoms 𝓤) (W : Given
     passed = (bs, (countsRef b o h (p .1), (keysRef b o h (p .1), (kindsRef b o h (p .1), (valuesRef b o h (p .1), (stampsRef b o h (p .1), tt))))))
 
     abbrev to-call : Call 𝓤 H A at-mem run .Ghost
-    to-call = (((κ′, (p .0 ∷ [], tt)), (q′, (fullShare, tt)), tt, passed, (v ∷ [], (vptr b (o + 8) ∷ [], (vptr b (o + 40) ∷ [], (vptr b (o + 2088) ∷ [], (vptr b (o + 4136) ∷ [], (vptr b (o + 6184) ∷ [], tt))))))), tt)
+    to-call = (((κ′, (p .0 ∷ [], tt)), (q′, (fullShare, tt)), tt, passed, (v ∷ [], (vptr b (o + countsAt) ∷ [], (vptr b (o + keysAt) ∷ [], (vptr b (o + kindsAt) ∷ [], (vptr b (o + valuesAt) ∷ [], (vptr b (o + stampsAt) ∷ [], tt))))))), tt)
 
     goes-call : ent 𝓤 (⋆ 𝓤 H A (‵ Own ∷ ‵ (flft κ′ q′) ∷ (Muts 𝓤 H A W h b o (p .0 ∷ []) (p .1) ⊛ ‵ (flft (p .0 ∷ []) fullShare)) ∷ [])) (Call 𝓤 H A at-mem run .pre to-call)
     goes-call =
@@ -183,7 +176,7 @@ module _ {M : Type 1} (𝓤 : URA M) (H : Heap 𝓤) (A : Atoms 𝓤) (W : Given
         use3 W (later (‵ (partAt S.the-row fullShare (with-columns h (five ws)) b o))) (columns-back 𝓤 H A W h b o p (five ws)) $ await ! tt $
         move ! (3 ∷ []) $ peeks ! Ld.the-row (Is Ld.the-row) (shows 𝓤 H A Ld.the-row) r (u ∷ []) (λ iu.
         land ! (from ! (stop !)) (init ! 19 refl (LL.lawful Ld.the-type Ld′.the-laws 𝓤 H A W .typed r _ iu .0)) $
-        rewrite ! 19 (λ (w : Val). ‵ (fat fullShare Ld′.mir l₃ 0 w)) (spelled r u iu) refl $ rewrite ! 0 (λ (w : Val). ‵ (Ld.the-row .own r (w ∷ []))) (spelled r u iu) refl $
+        rewrite ! 19 (λ (w : Val). ‵ (fat fullShare Ld′.mir l₃ 0 w)) (spelled Ld.the-type Ld′.the-laws r u iu) refl $ rewrite ! 0 (λ (w : Val). ‵ (Ld.the-row .own r (w ∷ []))) (spelled Ld.the-type Ld′.the-laws r u iu) refl $
         peeks ! Ld.the-row (Is Ld.the-row) (shows 𝓤 H A Ld.the-row) r (loaded-val r ∷ []) (λ ir. drop ! $ move ! (1 ∷ 3 ∷ 4 ∷ []) $ drop ! $ drop ! $ drop ! $
         -- [the store; the bytes' token; the open borrow; obs; auth; _8; …; _0; …; what bytes owns; …]
         fpick ! (λ vs′. fsplit ! $ spelt ! S.the-row (Is S.the-row) (shows 𝓤 H A S.the-row) (LL.vals S.the-type S′.the-laws) (LL.tells S.the-type S′.the-laws) fullShare (with-columns h (five ws)) vs′ b o $
@@ -191,7 +184,7 @@ module _ {M : Type 1} (𝓤 : URA M) (H : Heap 𝓤) (A : Atoms 𝓤) (W : Given
         use1 W (‵ (fat fullShare S′.mir b o (store-val (with-columns h (five ws))))) (W .laws .raw-at fullShare S′.mir b o (store-val (with-columns h (five ws)))) $
         assigns ! (of-opd ! (load ! (from ! (fld ! refl (stop !))) (look-in ! 15 (sub ! 1 refl (whole !))))) (from ! (hop ! (look ! 19 refl) (fld ! refl (stop !)))) (store-in ! 0 (sub ! 0 refl (whole !)) (tt, record { fits = LL.owed Ld.the-type Ld′.the-laws r _ ir .1 .0 .1 })) $
         assigns ! (of-opd ! (load ! (from ! (fld ! refl (stop !))) (look-in ! 15 (sub ! 2 refl (whole !))))) (from ! (hop ! (look ! 19 refl) (fld ! refl (stop !)))) (store-in ! 0 (sub ! 1 refl (whole !)) (tt, record { fits = LL.owed Ld.the-type Ld′.the-laws r _ ir .1 .1 .0 .1 })) $
-        assigns ! (of-opd ! (load ! (from ! (fld ! refl (stop !))) (look-in ! 15 (sub ! 3 refl (whole !))))) (from ! (hop ! (look ! 19 refl) (fld ! refl (stop !)))) (store-in ! 0 (sub ! 7 refl (whole !)) (array-lawful 𝓤 H A W Q.the-row (LL.lawful Q.the-type Q′.the-laws 𝓤 H A W) 8 .typed (r .slots) _ (slots-are (after r (five ws)) (after-is h (five ws) r is ir)) .0)) $
+        assigns ! (of-opd ! (load ! (from ! (fld ! refl (stop !))) (look-in ! 15 (sub ! 3 refl (whole !))))) (from ! (hop ! (look ! 19 refl) (fld ! refl (stop !)))) (store-in ! 0 (sub ! 7 refl (whole !)) (array-lawful 𝓤 H A W Q.the-row (LL.lawful Q.the-type Q′.the-laws 𝓤 H A W) slotCount .typed (r .slots) _ (slots-are (after r (five ws)) (after-is h (five ws) r is ir)) .0)) $
         assigns ! (of-opd ! (load ! (from ! (fld ! refl (stop !))) (look-in ! 15 (sub ! 0 refl (whole !))))) (from ! (stop !)) (init ! 21 refl (LL.lawful R.the-type R′.the-laws 𝓤 H A W .typed (r .answer) _ (LL.owed Ld.the-type Ld′.the-laws r _ ir .0) .0)) $
         use1 W (‵ (cellAt fullShare (S.the-row .mir) (store-val (after r (five ws)) ∷ []) b o)) (W .laws .at-raw fullShare S′.mir b o (store-val (after r (five ws)))) $
         owned ! S.the-row (Is S.the-row) (LL.makes S.the-type S′.the-plain 𝓤 H A) (after r (five ws)) _ (after-is h (five ws) r is ir) $ move ! (1 ∷ 0 ∷ 3 ∷ 4 ∷ 5 ∷ []) $

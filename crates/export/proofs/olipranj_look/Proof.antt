@@ -38,6 +38,7 @@ use denote.Triple.Walked.{says, Stays, stay-none, stay-none-ref, walkOf, goes-no
 use denote.Triple.Clauses.{ensured, lasts}
 use denote.Exit.{yes}
 use Rattle.steps.specs.Promises.{Looks}
+use Rattle.store.specs.State.{slotCount}
 use Rattle.store.specs.declared.Store.{Store}
 use Rattle.store.specs.declared.Answer.{Answer}
 use Rattle.store.proofs.Store as S
@@ -51,7 +52,7 @@ use Rattle.searches.proofs.lines.look_lent.Symbol as call-def
 use Rattle.searches.proofs.lines.look_lent.Symbol.{name as #searches·look-lent}
 use Rattle.searches.proofs.lines.look_lent.Met as call-thm
 use Rattle.export.proofs.Values.{store-val}
-use Rattle.export.proofs.Columns.{Names, StoreArgs, storeArgs, storeVals, relaid, relaid-same, sized, slots-are, Lent, lends, owns-store}
+use Rattle.export.proofs.Columns.{Names, StoreArgs, storeArgs, storeVals, lyingStore, lying-same, sized, slots-are, Lent, lends, owns-store}
 use Rattle.export.proofs.olipranj_look.Key.{name as #export·olipranj-look}
 use Rattle.export.proofs.olipranj_look as f
 use Rattle.export.proofs.olipranj_look.Statement as stated
@@ -88,8 +89,8 @@ module _ {M : Type 1} (𝓤 : URA M) (H : Heap 𝓤) (A : Atoms 𝓤) (W : Given
         qed W (Lent 𝓤 H A κ b o h g ∷ ‵ (flft κ q) ∷ []) ∵ says ! (sized h is) $ nothing ! $ move ! (2 ∷ 0 ∷ []) $ join ! $ frame ! $
         nothing ! $ owned ! u32 (Is u32) (uint-makes 𝓤 H A W w32) n _ (refl, gn) $ fjoin ! $ move ! (1 ∷ 0 ∷ []) $ by ! (owns-store 𝓤 H A W κ b o h g is (fsep (u32 .own n (vint w32 n ∷ [])) ftrue))
 
-    said : (r : Answer) → ent 𝓤 (ensured 𝓤 H A call.ended (call.clauses 𝓤 H A at-mem run) (κ, tt) passed tt r) (fact 𝓤 (Looks (relaid h) n r))
-    said r = exE 𝓤 _ (λ ws. snd∗ 𝓤 (sem 𝓤 H A (lasts call.ended (κ, tt) passed ws)) (fact 𝓤 (Looks (relaid h) n r)))
+    said : (r : Answer) → ent 𝓤 (ensured 𝓤 H A call.ended (call.clauses 𝓤 H A at-mem run) (κ, tt) passed tt r) (fact 𝓤 (Looks (lyingStore h) n r))
+    said r = exE 𝓤 _ (λ ws. snd∗ 𝓤 (sem 𝓤 H A (lasts call.ended (κ, tt) passed ws)) (fact 𝓤 (Looks (lyingStore h) n r)))
 
   exits : (r : Answer) (u : Val) → n < 2 ^ 32 → Looks h n r
       → ent 𝓤 (⋆ 𝓤 H A (‵ (R.the-row .own r (u ∷ [])) ∷ ‵ (flft κ q) ∷ ‵ (fshr-bor κ (λ s. partAt S.the-row s h b o)) ∷ ‵ (fres γ (S.the-row .coded .code h)) ∷ [])) (Post u)
@@ -120,19 +121,19 @@ module _ {M : Type 1} (𝓤 : URA M) (H : Heap 𝓤) (A : Atoms 𝓤) (W : Given
         assigns ! (addr ! (from ! (hop ! (look ! 23 refl) (fld ! refl (stop !))))) (from ! (stop !)) (init ! 11 refl (tt, tt)) $
         assigns ! (addr ! (from ! (hop ! (look ! 23 refl) (fld ! refl (stop !))))) (from ! (stop !)) (init ! 9 refl (tt, tt)) $
         assigns ! (addr ! (from ! (hop ! (look ! 23 refl) (fld ! refl (stop !))))) (from ! (stop !)) (init ! 7 refl (tt, tt)) $
-        assigns ! (of-opd ! (load ! (from ! (hop ! (look ! 23 refl) (fld ! refl (stop !)))) (look-in ! 0 (sub ! 7 refl (whole !))))) (from ! (stop !)) (init ! 5 refl (array-lawful 𝓤 H A W Q.the-row (LL.lawful Q.the-type Q′.the-laws 𝓤 H A W) 8 .typed (h .slots) _ (slots-are h was) .0)) $
+        assigns ! (of-opd ! (load ! (from ! (hop ! (look ! 23 refl) (fld ! refl (stop !)))) (look-in ! 0 (sub ! 7 refl (whole !))))) (from ! (stop !)) (init ! 5 refl (array-lawful 𝓤 H A W Q.the-row (LL.lawful Q.the-type Q′.the-laws 𝓤 H A W) slotCount .typed (h .slots) _ (slots-are h was) .0)) $
         use1 W (‵ (cellAt q′ (S.the-row .mir) (store-val h ∷ []) b o)) (W .laws .at-raw q′ S′.mir b o (store-val h)) $ shuts ! tt S.the-row q′ h (store-val h ∷ []) b o $
         -- [the token; the fractured borrow; the columns' &; _10; …; _0; …; res]
         move ! (2 ∷ 0 ∷ []) $ use2 W (raw (Call 𝓤 H A at-mem run .pre (to-call g))) (goes-call g was gn) $
         calls-at ! fm (Call 𝓤 H A at-mem run) known (to-call g) (and-then ! (load ! (from ! (stop !)) (look ! 16 refl)) (and-then ! (load ! (from ! (stop !)) (look ! 14 refl)) (and-then ! (load ! (from ! (stop !)) (look ! 12 refl)) (and-then ! (load ! (from ! (stop !)) (look ! 10 refl)) (and-then ! (load ! (from ! (stop !)) (look ! 8 refl)) (and-then ! (load ! (from ! (stop !)) (look ! 6 refl)) (and-then ! (load ! (from ! (stop !)) (look ! 4 refl)) (and-then ! (load ! (from ! (stop !)) (look ! 2 refl)) (and-then ! (load ! (from ! (stop !)) (look ! 18 refl)) (no-more !)))))))))) (λ u.
         use1 W (later (some (λ (r : Answer). ((‵ (flft κ q) ⊛ ‵ ftrue) ⊛ ‵ (R.the-row .own r (u ∷ []))) ⊛ raw (ensured 𝓤 H A call.ended (call.clauses 𝓤 H A at-mem run) (κ, tt) (passed g) tt r)))) (id⊢ 𝓤 _) $ await ! tt $ pick ! (λ r.
-        split ! $ move ! (1 ∷ []) $ use1 W (raw (fact 𝓤 (Looks (relaid h) n r))) (said g r) $ heard ! (Looks (relaid h) n r) (λ e. split ! $ split ! $ move ! (2 ∷ 0 ∷ []) $
+        split ! $ move ! (1 ∷ []) $ use1 W (raw (fact 𝓤 (Looks (lyingStore h) n r))) (said g r) $ heard ! (Looks (lyingStore h) n r) (λ e. split ! $ split ! $ move ! (2 ∷ 0 ∷ []) $
         -- [the answer; the token; true; the fractured borrow; _10; …; _0; …; res]
         peeks ! R.the-row (Is R.the-row) (shows 𝓤 H A R.the-row) r (u ∷ []) (λ ir.
         land ! (from ! (stop !)) (init ! 24 refl (LL.lawful R.the-type R′.the-laws 𝓤 H A W .typed r _ ir .0)) $
         returns ! (look ! 24 refl) $ forget ! 4 refl $ forget ! 6 refl $ forget ! 8 refl $ forget ! 10 refl $ forget ! 12 refl $ forget ! 14 refl $ forget ! 16 refl $ forget ! 18 refl $ forget ! 20 refl $ forget ! 22 refl $ forget ! 24 refl $
         move ! (24 ∷ 25 ∷ []) $ free1 ! $ move ! (22 ∷ 23 ∷ []) $ free1 ! $ move ! (20 ∷ 21 ∷ []) $ free1 ! $ move ! (18 ∷ 19 ∷ []) $ free1 ! $ move ! (16 ∷ 17 ∷ []) $ free1 ! $ move ! (14 ∷ 15 ∷ []) $ free1 ! $ move ! (12 ∷ 13 ∷ []) $ free1 ! $ move ! (10 ∷ 11 ∷ []) $ free1 ! $ move ! (8 ∷ 9 ∷ []) $ free1 ! $ move ! (6 ∷ 7 ∷ []) $ free1 ! $ move ! (4 ∷ 5 ∷ []) $ free1 ! $ free0 ! $
-        keep ! (0 ∷ 1 ∷ 3 ∷ 4 ∷ []) $ by ! (exits r u gn (subst (λ (z : Store). Looks z n r) (relaid-same h) e))))))))))))))))))))
+        keep ! (0 ∷ 1 ∷ 3 ∷ 4 ∷ []) $ by ! (exits r u gn (subst (λ (z : Store). Looks z n r) (lying-same h) e))))))))))))))))))))
 
 module _ {M : Type 1} (𝓤 : URA M) (H : Heap 𝓤) (A : Atoms 𝓤) (W : Given 𝓤 H A) (at-mem : Memory → SProp 𝓤) (run : Routine → Fun 𝓤) where
   f-walks : (C : Calls 𝓤 H) (Λ : Loops 𝓤 H) → FmC 𝓤 H (W .laws) C → Triple 𝓤 (C #searches·look-lent) (Call 𝓤 H A at-mem run) → Walks 𝓤 H A f.ended stayed (WpFn 𝓤 H C Λ code.function) (f.clauses 𝓤 H A at-mem run)

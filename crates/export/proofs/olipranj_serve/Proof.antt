@@ -40,6 +40,7 @@ use denote.Triple.Walked.{says, Stays, stay-none, stay-none-ref, stay-none-slice
 use denote.Triple.Clauses.{ensured, lasts}
 use denote.Exit.{yes}
 use Rattle.page.specs.Promises.{ServesLength}
+use Rattle.store.specs.State.{slotCount}
 use Rattle.store.specs.declared.Store.{Store}
 use Rattle.store.proofs.Store as S
 use Rattle.store.proofs.Store.Laws as S′
@@ -50,7 +51,7 @@ use Rattle.page.proofs.served_length_lent.Symbol as call-def
 use Rattle.page.proofs.served_length_lent.Symbol.{name as #page·served-length-lent}
 use Rattle.page.proofs.served_length_lent.Met as call-thm
 use Rattle.export.proofs.Values.{store-val}
-use Rattle.export.proofs.Columns.{Names, StoreArgs, storeArgs, storeVals, relaid, relaid-same, sized, slots-are, Lent, lends, owns-store}
+use Rattle.export.proofs.Columns.{Names, StoreArgs, storeArgs, storeVals, lyingStore, lying-same, sized, slots-are, Lent, lends, owns-store}
 use Rattle.export.proofs.olipranj_serve.Key.{name as #export·olipranj-serve}
 use Rattle.export.proofs.olipranj_serve as f
 use Rattle.export.proofs.olipranj_serve.Statement as stated
@@ -93,8 +94,8 @@ module _ {M : Type 1} (𝓤 : URA M) (H : Heap 𝓤) (A : Atoms 𝓤) (W : Given
         qed W ((‵ (flft κ q) ⊛ ‵ (flft κ′ q′)) ∷ Lent 𝓤 H A κ b o h g ∷ ‵ Own ∷ []) ∵ says ! (sized h is) $ split ! $ nothing ! $ move ! (2 ∷ 0 ∷ []) $ join ! $ move ! (1 ∷ 0 ∷ []) $ join ! $ frame ! $
         nothing ! $ move ! (2 ∷ 0 ∷ []) $ fjoin ! $ owned ! u32 (Is u32) (uint-makes 𝓤 H A W w32) n _ (refl, gn) $ fjoin ! $ move ! (1 ∷ 0 ∷ []) $ by ! (owns-store 𝓤 H A W κ b o h g is (fsep (u32 .own n (vint w32 n ∷ [])) (fsep Own ftrue)))
 
-    said : (r : ℕ) → ent 𝓤 (ensured 𝓤 H A call.ended (call.clauses 𝓤 H A at-mem run) (κ, (κ′, tt)) passed tt r) (fact 𝓤 (ServesLength (relaid h) n (now bs) r))
-    said r = exE 𝓤 _ (λ ws. snd∗ 𝓤 (sem 𝓤 H A (lasts call.ended (κ, (κ′, tt)) passed ws)) (fact 𝓤 (ServesLength (relaid h) n (now bs) r)))
+    said : (r : ℕ) → ent 𝓤 (ensured 𝓤 H A call.ended (call.clauses 𝓤 H A at-mem run) (κ, (κ′, tt)) passed tt r) (fact 𝓤 (ServesLength (lyingStore h) n (now bs) r))
+    said r = exE 𝓤 _ (λ ws. snd∗ 𝓤 (sem 𝓤 H A (lasts call.ended (κ, (κ′, tt)) passed ws)) (fact 𝓤 (ServesLength (lyingStore h) n (now bs) r)))
 
   exits : (r : ℕ) (u : Val) → n < 2 ^ 32 → ServesLength h n (now bs) r
       → ent 𝓤 (⋆ 𝓤 H A (‵ (usize .own r (u ∷ [])) ∷ ‵ (flft κ q) ∷ (‵ (flft κ′ q′) ⊛ ‵ ftrue) ∷ ‵ (fres γ (S.the-row .coded .code h)) ∷ ‵ (fshr-bor κ (λ s. partAt S.the-row s h b o)) ∷ ‵ Own ∷ [])) (Post u)
@@ -127,19 +128,19 @@ module _ {M : Type 1} (𝓤 : URA M) (H : Heap 𝓤) (A : Atoms 𝓤) (W : Given
         assigns ! (addr ! (from ! (hop ! (look ! 25 refl) (fld ! refl (stop !))))) (from ! (stop !)) (init ! 11 refl (tt, tt)) $
         assigns ! (addr ! (from ! (hop ! (look ! 25 refl) (fld ! refl (stop !))))) (from ! (stop !)) (init ! 9 refl (tt, tt)) $
         assigns ! (addr ! (from ! (hop ! (look ! 25 refl) (fld ! refl (stop !))))) (from ! (stop !)) (init ! 7 refl (tt, tt)) $
-        assigns ! (of-opd ! (load ! (from ! (hop ! (look ! 25 refl) (fld ! refl (stop !)))) (look-in ! 0 (sub ! 7 refl (whole !))))) (from ! (stop !)) (init ! 5 refl (array-lawful 𝓤 H A W Q.the-row (LL.lawful Q.the-type Q′.the-laws 𝓤 H A W) 8 .typed (h .slots) _ (slots-are h was) .0)) $
+        assigns ! (of-opd ! (load ! (from ! (hop ! (look ! 25 refl) (fld ! refl (stop !)))) (look-in ! 0 (sub ! 7 refl (whole !))))) (from ! (stop !)) (init ! 5 refl (array-lawful 𝓤 H A W Q.the-row (LL.lawful Q.the-type Q′.the-laws 𝓤 H A W) slotCount .typed (h .slots) _ (slots-are h was) .0)) $
         use1 W (‵ (cellAt q″ (S.the-row .mir) (store-val h ∷ []) b o)) (W .laws .at-raw q″ S′.mir b o (store-val h)) $ shuts ! tt S.the-row q″ h (store-val h ∷ []) b o $
         -- [the store's token; the fractured borrow; the columns' &; _11; …; _0; …; res; what kept owns, twice; the kept bytes' token; …]
         move ! (0 ∷ 30 ∷ 2 ∷ 28 ∷ []) $ join ! $ use3 W (raw (Call 𝓤 H A at-mem run .pre (to-call g))) (goes-call g was gn) $
         calls-at ! fm (Call 𝓤 H A at-mem run) known (to-call g) (and-then ! (load ! (from ! (stop !)) (look ! 16 refl)) (and-then ! (load ! (from ! (stop !)) (look ! 14 refl)) (and-then ! (load ! (from ! (stop !)) (look ! 12 refl)) (and-then ! (load ! (from ! (stop !)) (look ! 10 refl)) (and-then ! (load ! (from ! (stop !)) (look ! 8 refl)) (and-then ! (load ! (from ! (stop !)) (look ! 6 refl)) (and-then ! (load ! (from ! (stop !)) (look ! 4 refl)) (and-then ! (load ! (from ! (stop !)) (look ! 2 refl)) (and-then ! (load ! (from ! (stop !)) (look ! 20 refl)) (and-then ! (load ! (from ! (stop !)) (look ! 18 refl)) (no-more !))))))))))) (λ u.
         use1 W (later (some (λ (r : ℕ). ((‵ (flft κ q) ⊛ ‵ (flft κ′ q′) ⊛ ‵ ftrue) ⊛ ‵ (usize .own r (u ∷ []))) ⊛ raw (ensured 𝓤 H A call.ended (call.clauses 𝓤 H A at-mem run) (κ, (κ′, tt)) (passed g) tt r)))) (id⊢ 𝓤 _) $ await ! tt $ pick ! (λ r.
-        split ! $ move ! (1 ∷ []) $ use1 W (raw (fact 𝓤 (ServesLength (relaid h) n (now bs) r))) (said g r) $ heard ! (ServesLength (relaid h) n (now bs) r) (λ e. split ! $ split ! $ move ! (2 ∷ []) $
+        split ! $ move ! (1 ∷ []) $ use1 W (raw (fact 𝓤 (ServesLength (lyingStore h) n (now bs) r))) (said g r) $ heard ! (ServesLength (lyingStore h) n (now bs) r) (λ e. split ! $ split ! $ move ! (2 ∷ []) $
         peeks ! usize (Is usize) (shows 𝓤 H A usize) r (u ∷ []) (λ ir.
         -- [the count; the store's token; the kept bytes' token; the fractured borrow; _11; …; _0; …; res; what kept owns; …]
         land ! (from ! (stop !)) (init ! 26 refl (uint-lawful 𝓤 H A W w64 .typed r _ ir .0)) $
         returns ! (look ! 26 refl) $ forget ! 4 refl $ forget ! 6 refl $ forget ! 8 refl $ forget ! 10 refl $ forget ! 12 refl $ forget ! 14 refl $ forget ! 16 refl $ forget ! 18 refl $ forget ! 20 refl $ forget ! 22 refl $ forget ! 24 refl $ forget ! 26 refl $
         move ! (26 ∷ 27 ∷ []) $ free1 ! $ move ! (24 ∷ 25 ∷ []) $ free1 ! $ move ! (22 ∷ 23 ∷ []) $ free1 ! $ move ! (20 ∷ 21 ∷ []) $ free1 ! $ move ! (18 ∷ 19 ∷ []) $ free1 ! $ move ! (16 ∷ 17 ∷ []) $ free1 ! $ move ! (14 ∷ 15 ∷ []) $ free1 ! $ move ! (12 ∷ 13 ∷ []) $ free1 ! $ move ! (10 ∷ 11 ∷ []) $ free1 ! $ move ! (8 ∷ 9 ∷ []) $ free1 ! $ move ! (6 ∷ 7 ∷ []) $ free1 ! $ move ! (4 ∷ 5 ∷ []) $ free1 ! $ free0 ! $
-        keep ! (0 ∷ 1 ∷ 2 ∷ 4 ∷ 3 ∷ 5 ∷ []) $ by ! (exits r u gn (subst (λ (z : Store). ServesLength z n (now bs) r) (relaid-same h) e)))))))))))))))))))))
+        keep ! (0 ∷ 1 ∷ 2 ∷ 4 ∷ 3 ∷ 5 ∷ []) $ by ! (exits r u gn (subst (λ (z : Store). ServesLength z n (now bs) r) (lying-same h) e)))))))))))))))))))))
 
 module _ {M : Type 1} (𝓤 : URA M) (H : Heap 𝓤) (A : Atoms 𝓤) (W : Given 𝓤 H A) (at-mem : Memory → SProp 𝓤) (run : Routine → Fun 𝓤) where
   f-walks : (C : Calls 𝓤 H) (Λ : Loops 𝓤 H) → FmC 𝓤 H (W .laws) C → Triple 𝓤 (C #page·served-length-lent) (Call 𝓤 H A at-mem run) → Walks 𝓤 H A f.ended stayed (WpFn 𝓤 H C Λ code.function) (f.clauses 𝓤 H A at-mem run)

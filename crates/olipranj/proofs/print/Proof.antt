@@ -6,19 +6,19 @@ use Rattle.olipranj.proofs.print.Tie as tie
 use Rattle.olipranj.proofs.print.Reads as reads
 use Rattle.olipranj.proofs.print.Lts as lts
 use Rattle.io.proofs.write_all.Reads as write-all-reads
-use Rattle.lines.proofs.line_into.Reads as line-into-reads
+use Rattle.lines.proofs.print_into.Reads as print-into-reads
 
 -- src/main.rt:9:9
-line-into-requires : tie.Need-line-into-requires
-line-into-requires c κs = search needs
+print-into-requires : tie.Need-print-into-requires
+print-into-requires c κs = search needs
 
 -- src/main.rt:10:34
 array-share-prefix-text : tie.Need-array-share-prefix-text
-array-share-prefix-text c = line-within (c .line-into .ensures .0) (c .line-into .ensures .1)
+array-share-prefix-text c = line-within (c .print-into .ensures .0) (c .print-into .ensures .1)
 
 -- src/main.rt:10:34
 slice-aggregate-write-all : tie.Need-slice-aggregate-write-all
-slice-aggregate-write-all c = line-length (c .before .line-into .ensures .0) (c .before .line-into .ensures .1)
+slice-aggregate-write-all c = line-length (c .before .print-into .ensures .0) (c .before .print-into .ensures .1)
 
 -- src/main.rt:10:5
 write-all-requires : tie.Need-write-all-requires
@@ -32,7 +32,7 @@ pub print-spec : {M : Type 1} → statement M
 print-spec =
     tie.close
     (tie.spec
-    line-into-requires
+    print-into-requires
     array-share-prefix-text
     slice-aggregate-write-all
     write-all-requires

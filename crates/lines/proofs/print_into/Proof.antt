@@ -1,9 +1,9 @@
--- `lines::line_into` meets its contract. Assumes nothing.
+-- `lines::print_into` meets its contract. Assumes nothing.
 use native.Mathlib.Omega.{arith}
 use Rattle.lines.proofs.LineLaws.{line-printed}
 use borrow.Author.Needs.{needs}
-use Rattle.lines.proofs.line_into.Statement.{statement}
-use Rattle.lines.proofs.line_into.Tie as tie
+use Rattle.lines.proofs.print_into.Statement.{statement}
+use Rattle.lines.proofs.print_into.Tie as tie
 
 write-word-requires : tie.Need-write-word-requires
 write-word-requires c κs = search needs
@@ -37,8 +37,8 @@ returns c =
     let p₆ = c .write-word6 .ensures in
     (line-printed (start .args .first) (start .args .answer) (p₁ .0) (p₂ .0) (p₃ .0) (p₄ .0) (p₅ .0) (p₆ .0), omega (arith, p₁ .1, p₂ .1, p₃ .1, p₄ .1, p₅ .1, p₆ .1))
 
-pub line-into-spec : {M : Type 1} → statement M
-line-into-spec =
+pub print-into-spec : {M : Type 1} → statement M
+print-into-spec =
     tie.close
     (tie.spec
     write-word-requires
