@@ -8,6 +8,7 @@ use lib.ListN.{length, getD, take, drop}
 use lib.Seq.{slice}
 use Rattle.lists.specs.Runs.{run}
 use denote.Ref.{RefT}
+use denote.Triple.Both.{Both}
 use Rattle.plan.specs.Sizes.{mostNodes}
 use Rattle.plan.specs.Plan.{Plan}
 use Rattle.plan.specs.PlanArrays.{Grid, RowsOf}
@@ -66,6 +67,10 @@ ofParts plan clock counts keys kinds values stamps slots =
 -- The same for a look: it reads no searches, so there are none.
 abbrev pub holding : ℕ → ℕ → List ℕ → List ℕ → List ℕ → List ℕ → List ℕ → Store
 holding plan clock counts keys kinds values stamps = ofParts plan clock counts keys kinds values stamps []
+
+-- A column lent to a call: as it is when the call begins, and when it ends.
+abbrev pub Lent : Type 0
+Lent = Both (RefT (List ℕ)) (RefT (List ℕ))
 
 -- The store whose columns are lent.
 abbrev pub lentStore : ℕ → ℕ → RefT (List ℕ) → RefT (List ℕ) → RefT (List ℕ) → RefT (List ℕ) → RefT (List ℕ) → List Slot → Store
