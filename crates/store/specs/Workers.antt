@@ -77,6 +77,16 @@ abbrev pub lentStore : ℕ → ℕ → RefT (List ℕ) → RefT (List ℕ) → R
 lentStore plan clock counts keys kinds values stamps slots =
     ofParts plan clock (counts .now) (keys .now) (kinds .now) (values .now) (stamps .now) slots
 
+-- The store that is lent to a call, as the call begins,
+abbrev pub storeAtEntry : ℕ → ℕ → Lent → Lent → Lent → Lent → Lent → List Slot → Store
+storeAtEntry plan clock counts keys kinds values stamps slots =
+    lentStore plan clock (counts .entry) (keys .entry) (kinds .entry) (values .entry) (stamps .entry) slots
+
+-- and as it ends.
+abbrev pub storeAtExit : ℕ → ℕ → Lent → Lent → Lent → Lent → Lent → List Slot → Store
+storeAtExit plan clock counts keys kinds values stamps slots =
+    lentStore plan clock (counts .exit) (keys .exit) (kinds .exit) (values .exit) (stamps .exit) slots
+
 -- The state that a look reads: of so many nodes, whose columns are lent.
 abbrev pub lentState : ℕ → RefT (List ℕ) → RefT (List ℕ) → RefT (List ℕ) → RefT (List ℕ) → RefT (List ℕ) → State
 lentState nodes counts keys kinds values stamps =
