@@ -17,7 +17,12 @@ pub struct Decision {
 
 // "A root copy of that key is replaced; otherwise one is added if the root has a free place." Where a copy is replaced none moves up, and the
 // count stays.
-pub fn decide(counts: &[u32; Store::NODES], keys: &[u32; Store::PLACES], capacity: u32, key: u32) -> Decision
+pub fn decide(
+    counts: &[u32; Store::NODES],
+    keys: &[u32; Store::PLACES],
+    capacity: u32,
+    key: u32,
+) -> Decision
     requires { ⌜ Ordered (now counts) (now keys) 0 × (capacity ≤ width) ⌝ }
     ensures { λ r. ⌜ Decides (now (counts .entry)) (now (keys .entry)) capacity key r ⌝ }
 {

@@ -90,7 +90,17 @@ pub fn enter_lent<'a>(
     ensures { λ r. ⌜ EntersLent plan clock counts keys kinds values stamps slots key value r ⌝ }
 {
     entry_lent(
-        plan, clock, counts, keys, kinds, values, stamps, slots, Copy::RESULT, key, value,
+        plan,
+        clock,
+        counts,
+        keys,
+        kinds,
+        values,
+        stamps,
+        slots,
+        Copy::RESULT,
+        key,
+        value,
     )
 }
 
@@ -110,7 +120,17 @@ pub fn withdraw_lent<'a>(
     ensures { λ r. ⌜ WithdrawsLent plan clock counts keys kinds values stamps slots key r ⌝ }
 {
     entry_lent(
-        plan, clock, counts, keys, kinds, values, stamps, slots, Copy::WITHDRAWN, key, 0,
+        plan,
+        clock,
+        counts,
+        keys,
+        kinds,
+        values,
+        stamps,
+        slots,
+        Copy::WITHDRAWN,
+        key,
+        0,
     )
 }
 
