@@ -1,89 +1,43 @@
--- The decision of an entry, way by way: a bad store, the clock at its last value, a copy replaced, a copy added, and a full root.
+-- The ways of an entry: a bad store, the clock at its last value, a copy replaced, a copy added, and a full root.
 -- Assumes nothing.
 use mathlib.Core.Path.{_≡_, refl, sym, ap, _∙_}
-use mathlib.Core.Bool.{true, false}
+use mathlib.Core.Bool.{true, false, true≢false, false≢true}
 use mathlib.Core.List.{List, _∷_, _++_}
 use mathlib.Core.Option.{none, some}
 use Prim.Native.Nat.{ℕ, _+_, _<_, _≤_}
 use native.Mathlib.Omega.{arith}
 use native.Mathlib.Nat.{zero-add}
 use lib.ListN.{length, getD, take, drop, set, length-set}
-use lib.Seq.{set-getD}
 use borrow.Author.Tests.{lt-ltb, le-ltb}
 use Rattle.lists.proofs.Inserting.{length-put-in}
 use Rattle.plan.specs.Plan.{Plan, capacityOf}
 use Rattle.store.specs.declared.Answer.{Answer}
 use Rattle.store.specs.declared.Copy.{Copy}
 use Rattle.store.specs.declared.Store.{Store}
-use Rattle.store.specs.Answers.{DONE, BADSTORE, CLOCK, FULL, answer, bare}
+use Rattle.store.specs.Answers.{DONE, CLOCK, FULL, answer, bare}
 use Rattle.store.specs.Copies.{copy, noCopy, keyOf, find}
 use Rattle.store.specs.State.{State, nodeAt, lastClock}
 use Rattle.store.specs.Layout.{planOf, width, countOf, stateOf, column}
 use Rattle.store.specs.StoreRules.{goodStore}
-use Rattle.store.specs.Calls.{onStore}
-use Rattle.store.specs.Workers.{below, placeIn, RisesIn, opened}
+use Rattle.store.specs.Calls.{Effect, onStore}
+use Rattle.store.specs.Workers.{below, placeIn, ofParts, opened}
 use Rattle.store.proofs.Laying.{set-one, length-column, counts-written, copy-written, store-is, length-nodes, state-node, state-count, state-copy, state-clock, state-slots}
 use Rattle.store.proofs.Opening.{opened-start, opened-set}
 use Rattle.store.proofs.Seeking.{below-length, find-rising, find-none}
-use Rattle.store.proofs.Lifting.{on-bad, plan-good, state-good, on-way, on-refusal}
-use Rattle.store.proofs.GoodNodes.{node-place, root-there, count-fits, node-rises, counts-are, keys-are, kinds-are, values-are, stamps-are}
+use Rattle.store.proofs.Lifting.{plan-good, state-good, on-way, on-refusal}
+use Rattle.store.proofs.GoodNodes.{node-place, root-there, count-fits, counts-are, keys-are, kinds-are, values-are, stamps-are}
 use Rattle.steps.specs.Entries.{put, room, refused, entered, entry}
 use Rattle.steps.proofs.NodeLists.{room-has, room-free, room-none}
 use Rattle.steps.proofs.Putting.{put-replaced, put-added}
+use Rattle.entries.specs.declared.Entered.{Entered}
 use Rattle.entries.specs.declared.decision.Decision.{Decision}
-use Rattle.entries.specs.Decisions.{refusal, acceptance, columnBy, outcomeBy, Decides}
+use Rattle.entries.specs.Decisions.{Enterable, acceptance, DecidesFor}
 use Rattle.entries.proofs.Shifting.{copy-opened}
-
--- A refusal and an accepted entry, as they are made.
-pub refusal-made : (number count clock : ℕ) {a : Answer} → a ≡ bare number
-    → record { answer = a; accepted = false; at = 0; end = 0; count = count; clock = clock } ≡ refusal number count clock
-refusal-made number count clock e = rw e
-
-pub acceptance-made : (at end count clock : ℕ) {a : Answer} → a ≡ answer DONE clock 0 0 0
-    → record { answer = a; accepted = true; at = at; end = end; count = count; clock = clock + 1 } ≡ acceptance at end count clock
-acceptance-made at end count clock e = rw e
-
--- A column with the number put in, where the entry is accepted.
-pub column-put : (d : Decision) (column : List ℕ) (number : ℕ) → d .accepted ≡ true → {after : List ℕ}
-    → after ≡ opened column (d .at) (d .end) number → after ≡ columnBy d column number
-column-put d column number h e = rw h e
-
--- Four columns written by a decision are the outcome by it.
-pub outcome-by : (z : Store) (key kind v : ℕ) (d : Decision) → Decides z key d → {keys kinds values stamps : List ℕ}
-    → keys ≡ columnBy d (z .keys) key → kinds ≡ columnBy d (z .kinds) kind → values ≡ columnBy d (z .values) v
-    → stamps ≡ columnBy d (z .stamps) (z .clock)
-    → record {
-      answer = d .answer;
-      store = record {
-        plan = z .plan;
-        clock = d .clock;
-        counts = set (z .counts) 0 (d .count);
-        keys = keys;
-        kinds = kinds;
-        values = values;
-        stamps = stamps;
-        slots = z .slots;
-      };
-    } ≡ onStore (entry kind key v) z
-outcome-by z key kind v d h a b c e = rw (a, b, c, e) (h .right kind v)
-
--- A refusal leaves the store as it was: the count that was there is written,
-kept : (z : Store) (number kind key v : ℕ) → outcomeBy (refusal number (countOf z 0) (z .clock)) z kind key v ≡ record { answer = bare number; store = z }
-kept z number kind key v = rw (set-getD (z .counts) 0 0)
-
--- and so it is decided where the entry is refused.
-refused-by : (z : Store) (number key : ℕ) (d : Decision) → d ≡ refusal number (countOf z 0) (z .clock)
-    → ((kind v : ℕ) → record { answer = bare number; store = z } ≡ onStore (entry kind key v) z) → Decides z key d
-refused-by z number key d e h = rw e (record { in-root = (omega arith, omega arith); right = λ kind v. kept z number kind key v ∙ h kind v })
 
 -- Opened for one place alone, a column is stored into.
 opened-one : (c : List ℕ) (at x : ℕ) → at < length c → opened c at at x ≡ set c at x
 opened-one c at x h =
     sym (opened-set c at 0 h at (getD c at 0) x (omega arith)) ∙ ap (λ (l : List ℕ). set l at x) (sym (opened-start c at 0 h))
-
--- BADSTORE comes first, and leaves the store as it was.
-pub decides-bad : (z : Store) (key : ℕ) (d : Decision) → goodStore z ≡ false → d ≡ refusal BADSTORE (countOf z 0) (z .clock) → Decides z key d
-decides-bad z key d bad e = refused-by z BADSTORE key d e (λ kind v. sym (on-bad (entry kind key v) z bad))
 
 -- The three ways of an entry on a state.
 module _ (kind k v : ℕ) (p : Plan) (s : State) where
@@ -110,30 +64,23 @@ module _ (z : Store) (good : goodStore z ≡ true) where
   abbrev root : List Copy
   root = nodeAt s 0
 
-  -- The root: it is listed, as long as its count, and its keys rise and stand in the column.
+  -- The root: it is listed, as long as its count, and its keys stand in the column.
   root-listed : 0 < length (s .nodes)
   root-listed = omega (arith, length-nodes z, root-there z good)
 
   root-count : length root ≡ countOf z 0
   root-count = state-count z 0 (root-there z good)
 
-  pub root-fits : countOf z 0 ≤ width
+  root-fits : countOf z 0 ≤ width
   root-fits = count-fits z good 0 (omega arith)
-
-  pub root-rises : RisesIn (z .keys) 0 (countOf z 0)
-  root-rises = node-rises z good 0 0 (countOf z 0) (omega arith) (omega arith) (omega arith)
 
   root-key : (i : ℕ) → i < countOf z 0 → getD (z .keys) i 0 ≡ keyOf (getD root i noCopy)
   root-key i h = rw zero-add at (sym (ap keyOf (state-copy z 0 i (root-there z good) h)))
 
-  -- A place that is free by the root's capacity is one of its places.
-  has-place : (most : ℕ) → most ≡ capacityOf p 0 → countOf z 0 < most → countOf z 0 < width
-  has-place most e h = omega (arith, plan-good z good .capacity-within 0 (root-there z good))
-
   -- "CLOCK: entry at clock 4294967295"
-  pub decides-late : (key : ℕ) (d : Decision) → lastClock ≤ z .clock → d ≡ refusal CLOCK (countOf z 0) (z .clock) → Decides z key d
+  pub clock-out : (kind k v : ℕ) → lastClock ≤ z .clock → record { answer = bare CLOCK; store = z } ≡ onStore (entry kind k v) z
   unfolding stateOf
-  decides-late key d h e = refused-by z CLOCK key d e (λ kind v. on-refusal (entry kind key v) z good CLOCK (at-last kind key v p s h))
+  clock-out kind k v h = on-refusal (entry kind k v) z good CLOCK (at-last kind k v p s h)
 
   -- The place of the key among the root's.
   module _ (k at : ℕ) (place : at ≡ placeIn (z .keys) 0 (countOf z 0) k) where
@@ -155,7 +102,7 @@ module _ (z : Store) (good : goodStore z ≡ true) where
       -- An entry that the root has room for: its count and its columns are those of the nodes after the entry.
       done : (end count : ℕ) → room keyOf (capacityOf p 0) root k ≡ true → count ≡ length (put keyOf x root)
           → ((part : Copy → ℕ) (c : List ℕ) → c ≡ column part (s .nodes) → opened c at end (part x) ≡ column part after)
-          → outcomeBy (acceptance at end count (z .clock)) z kind k v ≡ onStore (entry kind k v) z
+          → acceptance (record { accepted = true; at = at; end = end; count = count }) z kind k v ≡ onStore (entry kind k v) z
       unfolding stateOf entered
       done end count h n each =
           on-way (entry kind k v) z good (answer DONE (z .clock) 0 0 0) (entered x s) _ (has-room kind k v p s early h)
@@ -186,7 +133,7 @@ module _ (z : Store) (good : goodStore z ≡ true) where
         found : find keyOf root k ≡ some (getD root at noCopy)
         found = find-rising keyOf noCopy root (state-good z good .keys-strictly-rise 0) k at (omega (arith, root-count)) its-key
 
-        entry-replaced : outcomeBy (acceptance at at (countOf z 0) (z .clock)) z kind k v ≡ onStore (entry kind k v) z
+        pub entry-replaced : acceptance (record { accepted = true; at = at; end = at; count = countOf z 0 }) z kind k v ≡ onStore (entry kind k v) z
         entry-replaced =
             done at (countOf z 0) (room-has keyOf (capacityOf p 0) root k (getD root at noCopy) found)
             (sym (ap length over ∙ length-set root at x ∙ root-count)) over-column
@@ -213,7 +160,7 @@ module _ (z : Store) (good : goodStore z ≡ true) where
             (λ h e. let b = at-below in no-key (omega arith) (rw at-below e))
 
         entry-added : countOf z 0 < capacityOf p 0 → countOf z 0 < width
-            → outcomeBy (acceptance at (countOf z 0) (countOf z 0 + 1) (z .clock)) z kind k v ≡ onStore (entry kind k v) z
+            → acceptance (record { accepted = true; at = at; end = countOf z 0; count = countOf z 0 + 1 }) z kind k v ≡ onStore (entry kind k v) z
         entry-added h w =
             done (countOf z 0) (countOf z 0 + 1) (room-free keyOf (capacityOf p 0) root k (omega (arith, root-count)))
             (omega (arith, root-count, ap length between, length-put-in x root at (omega (arith, at-most, root-count)))) (with-column w)
@@ -224,21 +171,79 @@ module _ (z : Store) (good : goodStore z ≡ true) where
             on-refusal (entry kind k v) z good FULL
             (no-room kind k v p s early (room-none keyOf (capacityOf p 0) root k missing (omega (arith, root-count))))
 
-    module _ (early : z .clock < lastClock) (d : Decision) where
-      -- "A root copy of that key is replaced",
-      pub decides-replaced : at < countOf z 0 → getD (z .keys) at 0 ≡ k → d ≡ acceptance at at (countOf z 0) (z .clock) → Decides z k d
-      decides-replaced held same e =
-          rw e
-          (record { in-root = (omega arith, omega (arith, root-fits)); right = λ kind v. entry-replaced kind v early held same })
+-- The decision by the counts and the keys of a store: its three ways.
+module _ {counts keys : List ℕ} {capacity : ℕ} {z : Store} (w : Enterable counts keys capacity z) (k at : ℕ)
+    (place : at ≡ placeIn keys 0 (getD counts 0 0) k) where
+  abbrev count : ℕ
+  count = getD counts 0 0
 
-      module _ (lacks : at < countOf z 0 → getD (z .keys) at 0 ≡ k → ⊥) (most : ℕ) (capacity : most ≡ capacityOf p 0) where
-        -- "otherwise one is added if the root has a free place".
-        pub decides-added : countOf z 0 < most → d ≡ acceptance at (countOf z 0) (countOf z 0 + 1) (z .clock) → Decides z k d
-        decides-added h e =
-            let w = has-place most capacity h in
-            rw e
-            (record { in-root = (at-most, w); right = λ kind v. entry-added kind v early lacks (omega arith) w })
+  -- The store's own place of the key, its count and its keys are these.
+  its-place : at ≡ placeIn (z .keys) 0 (countOf z 0) k
+  its-place = rw (w .counts-are, w .keys-are) place
 
-        -- "FULL: root full and lacks the key"
-        pub decides-full : most ≤ countOf z 0 → d ≡ refusal FULL (countOf z 0) (z .clock) → Decides z k d
-        decides-full h e = refused-by z FULL k d e (λ kind v. entry-full kind v early lacks (omega arith))
+  its-count : countOf z 0 ≡ count
+  its-count = ap (λ (l : List ℕ). getD l 0 0) (w .counts-are)
+
+  there : (i : ℕ) → getD (z .keys) i 0 ≡ getD keys i 0
+  there i = ap (λ (l : List ℕ). getD l i 0) (w .keys-are)
+
+  -- "A root copy of that key is replaced",
+  pub decides-replaced : at < count → getD keys at 0 ≡ k → DecidesFor z k (record { accepted = true; at = at; end = at; count = count })
+  decides-replaced held same =
+      rw (← its-count)
+      (record {
+        in-root = (omega arith, omega (arith, root-fits z (w .good), its-count));
+        accepts = λ e kind v. entry-replaced z (w .good) k at its-place kind v (w .early) (omega (arith, its-count)) (there at ∙ same);
+        refuses = λ e. absurd (true≢false e);
+      })
+
+  module _ (lacks : at < count → getD keys at 0 ≡ k → ⊥) where
+    its-lacks : at < countOf z 0 → getD (z .keys) at 0 ≡ k → ⊥
+    its-lacks h e = lacks (omega (arith, its-count)) (sym (there at) ∙ e)
+
+    -- "otherwise one is added if the root has a free place".
+    pub decides-added : count < capacity → capacity ≤ width
+        → DecidesFor z k (record { accepted = true; at = at; end = count; count = count + 1 })
+    decides-added h few =
+        let n = its-count in
+        let c = w .capacity-is in
+        rw (← its-count)
+        (record {
+          in-root = (at-most z (w .good) k at its-place, omega arith);
+          accepts = λ e kind v. entry-added z (w .good) k at its-place kind v (w .early) its-lacks (omega arith) (omega arith);
+          refuses = λ e. absurd (true≢false e);
+        })
+
+    -- "FULL: root full and lacks the key"
+    pub decides-full : capacity ≤ count → DecidesFor z k (record { accepted = false; at = 0; end = 0; count = count })
+    decides-full h =
+        let n = its-count in
+        let c = w .capacity-is in
+        record {
+          in-root = (omega arith, omega arith);
+          accepts = λ e. absurd (false≢true e);
+          refuses = λ e kind v. entry-full z (w .good) k at its-place kind v (w .early) its-lacks (omega arith);
+        }
+
+-- The root's capacity is within a node's places.
+pub capacity-few : {counts keys : List ℕ} {capacity : ℕ} {z : Store} → Enterable counts keys capacity z → capacity ≤ width
+capacity-few {z = z} w =
+    omega (arith, w .capacity-is, plan-good z (w .good) .capacity-within 0 (root-there z (w .good)))
+
+-- A refusal leaves the columns as they were, and the clock.
+pub refused-out : (f : Plan → State → Effect) (z : Store) (number : ℕ) (r : Entered) → r ≡ record { answer = bare number; clock = z .clock }
+    → record { answer = bare number; store = z } ≡ onStore f z
+    → record {
+      answer = r .answer;
+      store = ofParts (z .plan) (r .clock) (z .counts) (z .keys) (z .kinds) (z .values) (z .stamps) (z .slots);
+    } ≡ onStore f z
+refused-out f z number r e h = rw e h
+
+-- An accepted entry, once the columns are written.
+pub accepted-out : (z : Store) (kind k v : ℕ) (d : Decision) → acceptance d z kind k v ≡ onStore (entry kind k v) z
+    → {keys kinds values stamps : List ℕ} (a : Answer) → a ≡ answer DONE (z .clock) 0 0 0
+    → keys ≡ opened (z .keys) (d .at) (d .end) k → kinds ≡ opened (z .kinds) (d .at) (d .end) kind
+    → values ≡ opened (z .values) (d .at) (d .end) v → stamps ≡ opened (z .stamps) (d .at) (d .end) (z .clock)
+    → record { answer = a; store = ofParts (z .plan) (z .clock + 1) (set (z .counts) 0 (d .count)) keys kinds values stamps (z .slots) }
+    ≡ onStore (entry kind k v) z
+accepted-out z kind k v d h a e k-is kind-is v-is stamp-is = rw (e, k-is, kind-is, v-is, stamp-is) h

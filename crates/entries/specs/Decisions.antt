@@ -1,54 +1,73 @@
--- What an entry is decided to be, and the outcome by that decision.
+-- What an entry is decided to be, and what the calls over lent columns promise.
 use mathlib.Core.Path.{_≡_}
-use mathlib.Core.Bool.{true, false, cond}
+use mathlib.Core.Bool.{true, false}
 use mathlib.Core.List.{List}
 use Prim.Native.Nat.{ℕ, _+_, _<_, _≤_}
 use lib.ListN.{set}
-use Rattle.store.specs.declared.Answer.{Answer}
+use Rattle.plan.specs.Plan.{capacityOf}
 use Rattle.store.specs.declared.Outcome.{Outcome}
+use Rattle.store.specs.declared.Slot.{Slot}
 use Rattle.store.specs.declared.Store.{Store}
-use Rattle.store.specs.Answers.{DONE, answer, bare}
+use Rattle.store.specs.Answers.{DONE, FULL, answer, bare}
 use Rattle.store.specs.Calls.{onStore}
-use Rattle.store.specs.Layout.{width}
-use Rattle.store.specs.Workers.{opened}
+use Rattle.store.specs.Layout.{planOf, width}
+use Rattle.store.specs.State.{lastClock}
+use Rattle.store.specs.StoreRules.{goodStore}
+use Rattle.store.specs.Workers.{Lent, opened, storeAtEntry, storeAtExit}
 use Rattle.steps.specs.Entries.{entry}
+use Rattle.steps.specs.Promises.{Enters, Withdraws}
+use Rattle.entries.specs.declared.Entered.{Entered}
 use Rattle.entries.specs.declared.decision.Decision.{Decision}
 
--- A refusal: the root's count and the clock stay.
-abbrev pub refusal : ℕ → ℕ → ℕ → Decision
-refusal number count clock = record { answer = bare number; accepted = false; at = 0; end = 0; count = count; clock = clock }
+-- A good store that has these counts and keys, a root of this capacity, and a clock that can still go up.
+pub record Enterable (counts keys : List ℕ) (capacity : ℕ) (z : Store) : Type 0 where
+  pub good : goodStore z ≡ true
+  pub early : z .clock < lastClock
+  pub counts-are : z .counts ≡ counts
+  pub keys-are : z .keys ≡ keys
+  pub capacity-is : capacity ≡ capacityOf (planOf z) 0
 
--- An accepted entry: the clock is its stamp, and goes up by 1.
-abbrev pub acceptance : ℕ → ℕ → ℕ → ℕ → Decision
-acceptance at end count clock =
-    record { answer = answer DONE clock 0 0 0; accepted = true; at = at; end = end; count = count; clock = clock + 1 }
-
--- A column after the entry: a number put in at the copy's place, or as it was.
-abbrev pub columnBy : Decision → List ℕ → ℕ → List ℕ
-columnBy d column number = cond (d .accepted) (opened column (d .at) (d .end) number) column
-
--- The outcome by a decision. The stamp is the clock before the entry.
-abbrev pub outcomeBy : Decision → Store → ℕ → ℕ → ℕ → Outcome
-outcomeBy d z kind key value =
+-- The outcome of an accepted entry by its decision: the stamp is the clock, which goes up by 1.
+abbrev pub acceptance : Decision → Store → ℕ → ℕ → ℕ → Outcome
+acceptance d z kind key value =
     record {
-      answer = d .answer;
+      answer = answer DONE (z .clock) 0 0 0;
       store = record {
         plan = z .plan;
-        clock = d .clock;
+        clock = z .clock + 1;
         counts = set (z .counts) 0 (d .count);
-        keys = columnBy d (z .keys) key;
-        kinds = columnBy d (z .kinds) kind;
-        values = columnBy d (z .values) value;
-        stamps = columnBy d (z .stamps) (z .clock);
+        keys = opened (z .keys) (d .at) (d .end) key;
+        kinds = opened (z .kinds) (d .at) (d .end) kind;
+        values = opened (z .values) (d .at) (d .end) value;
+        stamps = opened (z .stamps) (d .at) (d .end) (z .clock);
         slots = z .slots;
       };
     }
 
--- The decision for a key: places of the root, and the outcome by it is that of the entry, of either kind and with any value.
-pub record Decides (z : Store) (key : ℕ) (d : Decision) : Type 0 where
+-- The decision for a key is right for a store: the entry is accepted at places of the root, or FULL, whatever its kind and its value.
+pub record DecidesFor (z : Store) (key : ℕ) (d : Decision) : Type 0 where
   pub in-root : (d .at ≤ d .end) × (d .end < width)
-  pub right : (kind value : ℕ) → outcomeBy d z kind key value ≡ onStore (entry kind key value) z
+  pub accepts : d .accepted ≡ true → (kind value : ℕ) → acceptance d z kind key value ≡ onStore (entry kind key value) z
+  pub refuses : d .accepted ≡ false → (kind value : ℕ) → record { answer = bare FULL; store = z } ≡ onStore (entry kind key value) z
 
--- An entry where the columns lie: the answer and the store then are the entry's outcome.
-abbrev pub EntersIn : Store → ℕ → ℕ → ℕ → Answer → Store → Type 0
-EntersIn before kind key value r after = record { answer = r; store = after } ≡ onStore (entry kind key value) before
+-- It is right for every store that has these counts and keys.
+abbrev pub Decides : List ℕ → List ℕ → ℕ → ℕ → Decision → Type 0
+Decides counts keys capacity key d = (z : Store) → Enterable counts keys capacity z → DecidesFor z key d
+
+-- An entry of this kind over lent columns: the answer, and the store that they then are.
+abbrev pub EntryLent : ℕ → ℕ → Lent → Lent → Lent → Lent → Lent → List Slot → ℕ → ℕ → ℕ → Entered → Type 0
+EntryLent plan clock counts keys kinds values stamps slots kind key value r =
+    record { answer = r .answer; store = storeAtExit plan (r .clock) counts keys kinds values stamps slots }
+    ≡ onStore (entry kind key value) (storeAtEntry plan clock counts keys kinds values stamps slots)
+
+-- The promise of entering a result, over lent columns.
+abbrev pub EntersLent : ℕ → ℕ → Lent → Lent → Lent → Lent → Lent → List Slot → ℕ → ℕ → Entered → Type 0
+EntersLent plan clock counts keys kinds values stamps slots key value r =
+    Enters (storeAtEntry plan clock counts keys kinds values stamps slots) key value
+    (record { answer = r .answer; store = storeAtExit plan (r .clock) counts keys kinds values stamps slots })
+
+-- The promise of a withdrawal, over lent columns.
+abbrev pub WithdrawsLent : ℕ → ℕ → Lent → Lent → Lent → Lent → Lent → List Slot → ℕ → Entered → Type 0
+WithdrawsLent plan clock counts keys kinds values stamps slots key r =
+    Withdraws (storeAtEntry plan clock counts keys kinds values stamps slots) key
+    (record { answer = r .answer; store = storeAtExit plan (r .clock) counts keys kinds values stamps slots })

@@ -1,15 +1,13 @@
 // Enter and withdraw. Document 01, "What each step does": "an entry either way".
 ghost use mathlib.Core.Path.{_≡_};
-ghost use Prim.Native.Nat.{_<_, _≤_};
-ghost use lib.ListN.{length};
 ghost use Rattle.steps.specs.Entries.{entry as entryStep};
 ghost use Rattle.steps.specs.Promises.{Enters, Withdraws};
+ghost use Rattle.store.specs.Answers.{bare};
 ghost use Rattle.store.specs.Calls.{onStore};
-ghost use Rattle.store.specs.Layout.{width, places};
-ghost use Rattle.store.specs.Workers.{LentSized, lentStore};
-ghost use Rattle.entries.specs.Decisions.{columnBy, EntersIn};
-use decision::Decision;
+ghost use Rattle.store.specs.Workers.{LentSized};
+ghost use Rattle.entries.specs.Decisions.{EntryLent, EntersLent, WithdrawsLent};
 use decision::decide;
+use plan::arrays;
 use store::Answer;
 use store::Copy;
 use store::Outcome;
@@ -19,55 +17,25 @@ use store::columns;
 
 mod decision; // decision.rt: whether an entry is accepted, and where its copy stands
 
-// A column after the entry: the number stands at the copy's place, unless the entry is refused.
-fn put(column: &mut [u32; Store::PLACES], decision: Decision, number: u32)
-    requires { ⌜ (decision .at ≤ decision .end) × (decision .end < width) × (length (now column) ≡ places) ⌝ }
-    ensures { λ _. ⌜ now (column .exit) ≡ columnBy decision (now (column .entry)) number ⌝ }
-{
-    if decision.accepted {
-        columns::open(column, decision.at, decision.end, number);
-    }
-}
-
-// An entry: decided first; then the columns are written where they lie, one by one. A refusal writes no place, and the
-// count and the clock as they were.
-fn entry(mut store: Store, kind: u32, key: u32, value: u32) -> Outcome
-    ensures { λ r. ⌜ r ≡ onStore (entryStep kind key value) store ⌝ }
-{
-    let slots = store.slots;
-    let stamp = store.clock;
-    let decision = decide(
-        store.plan,
-        stamp,
-        &store.counts,
-        &store.keys,
-        &store.kinds,
-        &store.values,
-        &store.stamps,
-        slots,
-        key,
-    );
-    put(&mut store.keys, decision, key);
-    put(&mut store.kinds, decision, kind);
-    put(&mut store.values, decision, value);
-    put(&mut store.stamps, decision, stamp);
-    store.counts[0] = decision.count;
-    store.clock = decision.clock;
-    let answer = decision.answer;
-    Outcome {
-        answer: answer,
-        store: store,
-    }
-}
-
-// What an entry on lent columns gives: its answer, and the clock after it.
+// What an entry on lent columns gives: its answer, and the clock after it, which who lends them writes.
 pub struct Entered {
     pub answer: Answer,
     pub clock: u32,
 }
 
-// An entry on columns lent where they lie: each is written there, and who lends them writes the clock.
-pub fn entry_in<'a>(
+// A refusal: the clock stays.
+fn refused(number: u32, clock: u32) -> Entered
+    ensures { λ r. ⌜ r ≡ record { answer = bare number; clock = clock } ⌝ }
+{
+    Entered {
+        answer: Answer::bare(number),
+        clock: clock,
+    }
+}
+
+// An entry of any kind on columns lent where they lie: decided first, then each is written there. BADSTORE, then CLOCK before FULL, and none
+// of them writes anything.
+fn entry_lent<'a>(
     plan: u32,
     clock: u32,
     counts: &'a mut [u32; Store::NODES],
@@ -81,18 +49,128 @@ pub fn entry_in<'a>(
     value: u32,
 ) -> Entered
     requires { ⌜ LentSized counts keys kinds values stamps ⌝ }
-    ensures { λ r. ⌜ EntersIn (lentStore plan clock (counts .entry) (keys .entry) (kinds .entry) (values .entry) (stamps .entry) slots) kind key value (r .answer) (lentStore plan (r .clock) (counts .exit) (keys .exit) (kinds .exit) (values .exit) (stamps .exit) slots) ⌝ }
+    ensures { λ r. ⌜ EntryLent plan clock counts keys kinds values stamps slots kind key value r ⌝ }
 {
-    let decision = decide(plan, clock, counts, keys, kinds, values, stamps, slots, key);
-    put(keys, decision, key);
-    put(kinds, decision, kind);
-    put(values, decision, value);
-    put(stamps, decision, clock);
+    if !rules::good(plan, clock, counts, keys, kinds, values, stamps, slots) {
+        return refused(Answer::BADSTORE, clock);
+    }
+    if Store::LAST_CLOCK <= clock {
+        return refused(Answer::CLOCK, clock);
+    }
+    let capacities = plan::capacities_of(plan);
+    let decision = decide(counts, keys, arrays::capacity_in(&capacities, 0), key);
+    if !decision.accepted {
+        return refused(Answer::FULL, clock);
+    }
+    columns::open(keys, decision.at, decision.end, key);
+    columns::open(kinds, decision.at, decision.end, kind);
+    columns::open(values, decision.at, decision.end, value);
+    columns::open(stamps, decision.at, decision.end, clock);
     counts[0] = decision.count;
-    let answer = decision.answer;
     Entered {
+        answer: Answer::of(Answer::DONE, clock as u64, 0, 0, 0),
+        clock: clock + 1,
+    }
+}
+
+// Enter on lent columns: the line gets a result.
+pub fn enter_lent<'a>(
+    plan: u32,
+    clock: u32,
+    counts: &'a mut [u32; Store::NODES],
+    keys: &'a mut [u32; Store::PLACES],
+    kinds: &'a mut [u32; Store::PLACES],
+    values: &'a mut [u32; Store::PLACES],
+    stamps: &'a mut [u32; Store::PLACES],
+    slots: [Slot; Store::SLOTS],
+    key: u32,
+    value: u32,
+) -> Entered
+    requires { ⌜ LentSized counts keys kinds values stamps ⌝ }
+    ensures { λ r. ⌜ EntersLent plan clock counts keys kinds values stamps slots key value r ⌝ }
+{
+    entry_lent(
+        plan,
+        clock,
+        counts,
+        keys,
+        kinds,
+        values,
+        stamps,
+        slots,
+        Copy::RESULT,
+        key,
+        value,
+    )
+}
+
+// Withdraw on lent columns: the line gets a withdrawn copy, which holds 0.
+pub fn withdraw_lent<'a>(
+    plan: u32,
+    clock: u32,
+    counts: &'a mut [u32; Store::NODES],
+    keys: &'a mut [u32; Store::PLACES],
+    kinds: &'a mut [u32; Store::PLACES],
+    values: &'a mut [u32; Store::PLACES],
+    stamps: &'a mut [u32; Store::PLACES],
+    slots: [Slot; Store::SLOTS],
+    key: u32,
+) -> Entered
+    requires { ⌜ LentSized counts keys kinds values stamps ⌝ }
+    ensures { λ r. ⌜ WithdrawsLent plan clock counts keys kinds values stamps slots key r ⌝ }
+{
+    entry_lent(
+        plan,
+        clock,
+        counts,
+        keys,
+        kinds,
+        values,
+        stamps,
+        slots,
+        Copy::WITHDRAWN,
+        key,
+        0,
+    )
+}
+
+// The same by value: the columns are taken out of the store, lent, and put back.
+fn entry(store: Store, kind: u32, key: u32, value: u32) -> Outcome
+    ensures { λ r. ⌜ r ≡ onStore (entryStep kind key value) store ⌝ }
+{
+    let slots = store.slots;
+    let mut counts = store.counts;
+    let mut keys = store.keys;
+    let mut kinds = store.kinds;
+    let mut values = store.values;
+    let mut stamps = store.stamps;
+    let entered = entry_lent(
+        store.plan,
+        store.clock,
+        &mut counts,
+        &mut keys,
+        &mut kinds,
+        &mut values,
+        &mut stamps,
+        slots,
+        kind,
+        key,
+        value,
+    );
+    let answer = entered.answer;
+    let after = Store {
+        plan: store.plan,
+        clock: entered.clock,
+        counts,
+        keys,
+        kinds,
+        values,
+        stamps,
+        slots,
+    };
+    Outcome {
         answer,
-        clock: decision.clock,
+        store: after,
     }
 }
 

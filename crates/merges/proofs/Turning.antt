@@ -19,14 +19,14 @@ use Rattle.steps.specs.Entries.{put, room}
 use Rattle.steps.specs.Carries.{Merged, carries, merge}
 use Rattle.steps.proofs.NodeLists.{find-same, find-low, put-before, put-over, room-has, room-free, room-none}
 use Rattle.steps.proofs.Merges.{merge-carry, merge-keep}
-use Rattle.carries.specs.declared.decision.Merge.{Merge}
-use Rattle.carries.specs.Decisions.{span, standing, outcome, Going, Turned}
-use Rattle.carries.proofs.Passing.{span-length, first-least, span-rising, put-past, find-past}
+use Rattle.merges.specs.declared.Merge.{Merge}
+use Rattle.merges.specs.Decisions.{span, keeping, getting, standing, outcome, Going, Turned}
+use Rattle.merges.proofs.Passing.{span-length, first-least, span-rising, put-past, find-past}
 
 -- The target as it stands once it has got a place x,
 module _ (target : List ℕ) (end : ℕ) (m : Merge) where
   pub stood : (x place next : ℕ) → m .got < length target
-      → standing (set target (m .got) x) end (record { place = place; next = next; kept = m .kept; got = m .got + 1 })
+      → standing (set target (m .got) x) end (getting m place next)
       ≡ take (m .got) target ++ x ∷ span next end
   unfolding standing
   stood x place next h =
@@ -104,11 +104,8 @@ module _ (e : Edge) {keys : List ℕ} {capacity to end : ℕ} {stay target : Lis
 
   -- The target gets a place x, and the walk goes on.
   module _ (x place next : ℕ) (free : m .got < width) where
-    abbrev after : Merge
-    after = record { place = place; next = next; kept = m .kept; got = m .got + 1 }
-
     gets : m .place ≤ place → place ≤ to → m .next ≤ next → next ≤ end → m .got + 1 + (end - next) ≤ capacity
-        → ((j : ℕ) → place ≤ j → j < to → key x < key j) → Going keys capacity to end stay (set target (m .got) x) after
+        → ((j : ℕ) → place ≤ j → j < to → key x < key j) → Going keys capacity to end stay (set target (m .got) x) (getting m place next)
     gets p q n o f low =
         record {
           stay-long = g .stay-long;
@@ -131,7 +128,7 @@ module _ (e : Edge) {keys : List ℕ} {capacity to end : ℕ} {stay target : Lis
 
   -- The target's own copy comes first.
   pub own-first : m .next < end → key (m .next) < key (m .place) → (r : Merge) (target′ : List ℕ)
-      → r ≡ record { place = m .place; next = m .next + 1; kept = m .kept; got = m .got + 1 } → target′ ≡ set target (m .got) (m .next)
+      → r ≡ getting m (m .place) (m .next + 1) → target′ ≡ set target (m .got) (m .next)
       → Turned keys capacity e to end stay target m stay target′ r
   unfolding outcome
   own-first h below r target′ r-is target-is =
@@ -152,7 +149,7 @@ module _ (e : Edge) {keys : List ℕ} {capacity to end : ℕ} {stay target : Lis
   -- The node's copy is carried: it comes after what the target has got.
   carried : (next : ℕ) → m .next ≤ next → next ≤ end → m .got + 1 + (end - next) ≤ capacity → had ++ m .place ∷ span next end ≡ put key (m .place) stands
       → carries key capacity e (m .place) stands ≡ true → (r : Merge) (target′ : List ℕ)
-      → r ≡ record { place = m .place + 1; next = next; kept = m .kept; got = m .got + 1 } → target′ ≡ set target (m .got) (m .place)
+      → r ≡ getting m (m .place + 1) next → target′ ≡ set target (m .got) (m .place)
       → Turned keys capacity e to end stay target m stay target′ r
   unfolding outcome
   carried next n o f puts t r target′ r-is target-is =
@@ -170,7 +167,7 @@ module _ (e : Edge) {keys : List ℕ} {capacity to end : ℕ} {stay target : Lis
 
   -- It replaces the target's copy of its key.
   pub replaces : holds e (key (m .place)) ≡ true → m .next < end → key (m .next) ≡ key (m .place) → (r : Merge) (target′ : List ℕ)
-      → r ≡ record { place = m .place + 1; next = m .next + 1; kept = m .kept; got = m .got + 1 } → target′ ≡ set target (m .got) (m .place)
+      → r ≡ getting m (m .place + 1) (m .next + 1) → target′ ≡ set target (m .got) (m .place)
       → Turned keys capacity e to end stay target m stay target′ r
   replaces held h same =
       let f = g .fits in
@@ -194,7 +191,7 @@ module _ (e : Edge) {keys : List ℕ} {capacity to end : ℕ} {stay target : Lis
 
     -- It is added, since the target has a free place.
     pub adds : holds e (key (m .place)) ≡ true → m .got + (end - m .next) < capacity → (r : Merge) (target′ : List ℕ)
-        → r ≡ record { place = m .place + 1; next = m .next; kept = m .kept; got = m .got + 1 } → target′ ≡ set target (m .got) (m .place)
+        → r ≡ getting m (m .place + 1) (m .next) → target′ ≡ set target (m .got) (m .place)
         → Turned keys capacity e to end stay target m stay target′ r
     unfolding put
     adds held f =
@@ -214,7 +211,7 @@ module _ (e : Edge) {keys : List ℕ} {capacity to end : ℕ} {stay target : Lis
 
   -- The node's copy stays,
   keeps : carries key capacity e (m .place) stands ≡ false → (r : Merge) (stay′ : List ℕ)
-      → r ≡ record { place = m .place + 1; next = m .next; kept = m .kept + 1; got = m .got } → stay′ ≡ set stay (m .kept) (m .place)
+      → r ≡ keeping m → stay′ ≡ set stay (m .kept) (m .place)
       → Turned keys capacity e to end stay target m stay′ target r
   unfolding outcome standing
   keeps t r stay′ r-is stay-is =
@@ -245,7 +242,7 @@ module _ (e : Edge) {keys : List ℕ} {capacity to end : ℕ} {stay target : Lis
 
   -- where the edge does not hold its key,
   pub stays-outside : holds e (key (m .place)) ≡ false → (r : Merge) (stay′ : List ℕ)
-      → r ≡ record { place = m .place + 1; next = m .next; kept = m .kept + 1; got = m .got } → stay′ ≡ set stay (m .kept) (m .place)
+      → r ≡ keeping m → stay′ ≡ set stay (m .kept) (m .place)
       → Turned keys capacity e to end stay target m stay′ target r
   unfolding carries
   stays-outside out = keeps outside
@@ -256,6 +253,6 @@ module _ (e : Edge) {keys : List ℕ} {capacity to end : ℕ} {stay target : Lis
   -- and where there is no room for it.
   pub stays-full : (m .next < end → key (m .place) ≤ key (m .next)) → (m .next < end → key (m .next) ≡ key (m .place) → ⊥)
       → holds e (key (m .place)) ≡ true → capacity ≤ m .got + (end - m .next) → (r : Merge) (stay′ : List ℕ)
-      → r ≡ record { place = m .place + 1; next = m .next; kept = m .kept + 1; got = m .got } → stay′ ≡ set stay (m .kept) (m .place)
+      → r ≡ keeping m → stay′ ≡ set stay (m .kept) (m .place)
       → Turned keys capacity e to end stay target m stay′ target r
   stays-full above other held f = keeps (held-carries held (full above other f))

@@ -1,15 +1,15 @@
--- `carries::decision::rest` meets its contract. Assumes nothing.
+-- `merges::rest` meets its contract. Assumes nothing.
 use mathlib.Core.Path.{_≡_, refl, ap, _∙_}
 use Prim.Native.Nat.{_+_, _-_, _≤_}
 use native.Mathlib.Omega.{arith}
 use lib.ListN.{length}
 use borrow.Author.Needs.{needs}
 use Rattle.store.specs.Layout.{width}
-use Rattle.carries.specs.declared.decision.Merge.{Merge}
-use Rattle.carries.specs.Decisions.{standing}
-use Rattle.carries.proofs.Deciding.{rest-turn, rest-end}
-use Rattle.carries.proofs.decision.rest.Statement.{statement}
-use Rattle.carries.proofs.decision.rest.Tie as tie
+use Rattle.merges.specs.declared.Merge.{Merge}
+use Rattle.merges.specs.Decisions.{standing}
+use Rattle.merges.proofs.Deciding.{rest-turn, rest-end}
+use Rattle.merges.proofs.rest.Statement.{statement}
+use Rattle.merges.proofs.rest.Tie as tie
 
 abbrev Inv-loop : tie.InvT-loop
 Inv-loop target₀ m₀ end target m =

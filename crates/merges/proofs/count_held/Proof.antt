@@ -1,4 +1,4 @@
--- `carries::decision::count_held` meets its contract. Assumes nothing.
+-- `merges::count_held` meets its contract. Assumes nothing.
 use mathlib.Core.Path.{_≡_, sym, _∙_}
 use mathlib.Core.Logic.{⊎-elim}
 use Prim.Native.Nat.{_+_, _-_, _<_, _≤_}
@@ -9,9 +9,9 @@ use borrow.Author.Needs.{needs}
 use Rattle.store.specs.Layout.{places}
 use Rattle.store.specs.Workers.{numberIn}
 use Rattle.steps.specs.Carries.{countHeld}
-use Rattle.carries.proofs.Deciding.{first-within, count-one, count-none, count-end}
-use Rattle.carries.proofs.decision.count_held.Statement.{statement}
-use Rattle.carries.proofs.decision.count_held.Tie as tie
+use Rattle.merges.proofs.Deciding.{first-within, count-one, count-none, count-end}
+use Rattle.merges.proofs.count_held.Statement.{statement}
+use Rattle.merges.proofs.count_held.Tie as tie
 
 abbrev Inv-loop : tie.InvT-loop
 Inv-loop keys list first edge count₀ i₀ count i =

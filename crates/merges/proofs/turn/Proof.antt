@@ -1,4 +1,4 @@
--- `carries::decision::turn` meets its contract. Assumes nothing.
+-- `merges::turn` meets its contract. Assumes nothing.
 use mathlib.Core.Path.{_≡_, sym, _∙_}
 use mathlib.Core.Logic.{⊎-elim}
 use Prim.Native.Nat.{_<_, _≤_}
@@ -6,9 +6,9 @@ use native.Mathlib.Omega.{arith}
 use borrow.Author.Needs.{needs}
 use borrow.Author.Tests.{not-true, not-false, ltb-true, ltb-false, eqb-true, eqb-false}
 use Rattle.store.specs.Workers.{numberIn}
-use Rattle.carries.proofs.Turning.{own-first, replaces, adds, stays-outside, stays-full}
-use Rattle.carries.proofs.decision.turn.Statement.{statement}
-use Rattle.carries.proofs.decision.turn.Tie as tie
+use Rattle.merges.proofs.Turning.{own-first, replaces, adds, stays-outside, stays-full}
+use Rattle.merges.proofs.turn.Statement.{statement}
+use Rattle.merges.proofs.turn.Tie as tie
 
 -- Where the tests on the target's next key meet: it is not below the node's, and not the same.
 not-below : (c : tie.Joined1) → let a = c .before .before .args in

@@ -1,34 +1,32 @@
--- `carries::decision::decide` meets its contract. Assumes nothing.
+-- `merges::decide` meets its contract. Assumes nothing.
 use mathlib.Core.Path.{_≡_, _∙_}
 use Prim.Native.Nat.{_+_, _-_}
 use native.Mathlib.Omega.{arith}
 use borrow.Author.Needs.{needs}
-use Rattle.store.specs.Workers.{numberIn}
-use Rattle.steps.specs.Carries.{merge}
-use Rattle.carries.specs.Decisions.{span, outcome, Going}
-use Rattle.carries.proofs.Deciding.{start-going, start-outcome, decided}
-use Rattle.carries.proofs.decision.decide.Statement.{statement}
-use Rattle.carries.proofs.decision.decide.Tie as tie
+use Rattle.merges.specs.Decisions.{placesMerged, outcome, Going}
+use Rattle.merges.proofs.Deciding.{start-going, start-outcome, decided}
+use Rattle.merges.proofs.decide.Statement.{statement}
+use Rattle.merges.proofs.decide.Tie as tie
 
 abbrev Inv-loop : tie.InvT-loop
 Inv-loop keys stay₀ target₀ from had start held edge capacity to end m₀ stay target m =
     Going keys capacity to end stay target m
-    × (outcome keys capacity edge to end stay target m ≡ merge (numberIn keys) capacity edge (span from (from + had)) (span start (start + held)))
+    × (outcome keys capacity edge to end stay target m ≡ placesMerged keys capacity edge from had start held)
 
 abbrev μ-loop : tie.MeasureT-loop
 μ-loop keys stay₀ target₀ from had start held edge capacity to end m₀ stay target m = (to - m .place) + (end - m .next)
 
 add-to : tie.Need-add-to Inv-loop μ-loop
-add-to c = search (needs, c .pre .0 .node-within .1)
+add-to c = search (needs, c .pre .0 .node-within .0)
 
 add-end : tie.Need-add-end Inv-loop μ-loop
-add-end c = search (needs, c .pre .0 .target-within .1)
+add-end c = search (needs, c .pre .0 .target-within .0)
 
 loop-holds : tie.Need-loop-holds Inv-loop μ-loop
 loop-holds c =
     let a = c .args in (
-      start-going (a .keys .now) (a .capacity) (a .edge) (a .from) (a .from + a .had) (a .start) (a .start + a .held) (a .stay .now) (a .target .now) (c .pre .0) (c .pre .1) (c .pre .2),
-      start-outcome (a .keys .now) (a .capacity) (a .edge) (a .from) (a .from + a .had) (a .start) (a .start + a .held) (a .stay .now) (a .target .now),
+      start-going (a .keys .now) (a .capacity) (a .edge) (a .from) (a .had) (a .start) (a .held) (a .stay .now) (a .target .now) (c .pre .0) (c .pre .1) (c .pre .2),
+      start-outcome (a .keys .now) (a .capacity) (a .edge) (a .from) (a .had) (a .start) (a .held) (a .stay .now) (a .target .now),
     )
 
 turn-requires : tie.Need-turn-requires Inv-loop μ-loop

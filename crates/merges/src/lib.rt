@@ -6,8 +6,9 @@ ghost use lib.ListN.{length, set, take};
 ghost use Rattle.plan.specs.Plan.{holds as heldBy};
 ghost use Rattle.store.specs.Layout.{width, places};
 ghost use Rattle.store.specs.Workers.{numberIn};
-ghost use Rattle.steps.specs.Carries.{merge, countHeld};
-ghost use Rattle.carries.specs.Decisions.{span, standing, Going, Turned, Ready, Lists, Decided, Within};
+ghost use Rattle.steps.specs.Carries.{countHeld};
+ghost use Rattle.merges.specs.Decisions.{placesMerged, standing, keeping, getting};
+ghost use Rattle.merges.specs.Decisions.{Going, LentTurned, Ready, Lists, Decided, Within};
 use plan::Edge;
 use store::Store;
 
@@ -29,7 +30,7 @@ fn holds(edge: Edge, key: u32) -> bool
 // The node's next place stays.
 fn keep(stay: &mut [usize; Store::WIDTH], m: Merge) -> Merge
     requires { ⌜ (m .kept < width) × (m .place < places) ⌝ }
-    ensures { λ r. ⌜ (r ≡ record { place = m .place + 1; next = m .next; kept = m .kept + 1; got = m .got }) × (now (stay .exit) ≡ set (now (stay .entry)) (m .kept) (m .place)) ⌝ }
+    ensures { λ r. ⌜ (r ≡ keeping m) × (now (stay .exit) ≡ set (now (stay .entry)) (m .kept) (m .place)) ⌝ }
 {
     let kept = m.kept;
     stay[kept] = m.place;
@@ -44,7 +45,7 @@ fn keep(stay: &mut [usize; Store::WIDTH], m: Merge) -> Merge
 // The target gets a place; the walk goes on at a place of the node and at one of the target.
 fn get(target: &mut [usize; Store::WIDTH], m: Merge, x: usize, place: usize, next: usize) -> Merge
     requires { ⌜ m .got < width ⌝ }
-    ensures { λ r. ⌜ (r ≡ record { place = place; next = next; kept = m .kept; got = m .got + 1 }) × (now (target .exit) ≡ set (now (target .entry)) (m .got) x) ⌝ }
+    ensures { λ r. ⌜ (r ≡ getting m place next) × (now (target .exit) ≡ set (now (target .entry)) (m .got) x) ⌝ }
 {
     let got = m.got;
     target[got] = x;
@@ -69,7 +70,7 @@ fn turn(
     capacity: usize,
 ) -> Merge
     requires { ⌜ Going (now keys) capacity to end (now stay) (now target) m × (m .place < to) ⌝ }
-    ensures { λ r. ⌜ Turned (now (keys .entry)) capacity edge to end (now (stay .entry)) (now (target .entry)) m (now (stay .exit)) (now (target .exit)) r ⌝ }
+    ensures { λ r. ⌜ LentTurned keys capacity edge to end stay target m r ⌝ }
 {
     let place = m.place;
     let next = m.next;
@@ -112,8 +113,8 @@ pub fn decide(
     edge: Edge,
     capacity: usize,
 ) -> Merge
-    requires { ⌜ Ready (now keys) capacity from (from + had) start (start + held) × (length (now stay) ≡ width) × (length (now target) ≡ width) ⌝ }
-    ensures { λ r. ⌜ Decided (merge (numberIn (now (keys .entry))) capacity edge (span from (from + had)) (span start (start + held))) (now (stay .exit)) (now (target .exit)) r ⌝ }
+    requires { ⌜ Ready (now keys) capacity from had start held × (length (now stay) ≡ width) × (length (now target) ≡ width) ⌝ }
+    ensures { λ r. ⌜ Decided (placesMerged (now (keys .entry)) capacity edge from had start held) (now (stay .exit)) (now (target .exit)) r ⌝ }
 {
     let to = from + had;
     let end = start + held;

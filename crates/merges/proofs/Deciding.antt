@@ -13,13 +13,13 @@ use Rattle.plan.specs.Plan.{holds}
 use Rattle.store.specs.Layout.{width}
 use Rattle.store.specs.Workers.{numberIn, itself}
 use Rattle.steps.specs.Carries.{Merged, merge, countHeld}
-use Rattle.carries.specs.declared.decision.Merge.{Merge}
-use Rattle.carries.specs.Decisions.{span, standing, outcome, Going, Ready, Lists, Decided, Within}
-use Rattle.carries.proofs.Turning.{stood, own-stands}
+use Rattle.merges.specs.declared.Merge.{Merge}
+use Rattle.merges.specs.Decisions.{placesMerged, begun, getting, standing, outcome, Going, Ready, Lists, Decided, Within}
+use Rattle.merges.proofs.Turning.{stood, own-stands}
 
 -- The rest of the target's own places: one more,
 pub rest-turn : (target : List ℕ) (end : ℕ) (m : Merge) → m .next < end → m .got + (end - m .next) ≤ width → length target ≡ width
-    → (r : Merge) (target′ : List ℕ) → r ≡ record { place = m .place; next = m .next + 1; kept = m .kept; got = m .got + 1 }
+    → (r : Merge) (target′ : List ℕ) → r ≡ getting m (m .place) (m .next + 1)
     → target′ ≡ set target (m .got) (m .next)
     → (r .next ≤ end) × (r .got + (end - r .next) ≤ width) × (length target′ ≡ width) × (r .kept ≡ m .kept)
     × (standing target′ end r ≡ standing target end m)
@@ -40,25 +40,25 @@ rest-end target end m h long few =
     record { long = long; counted = few; listed = rw (run-off itself (m .next) end h) (sym (append-nil (take (m .got) target))) }
 
 -- The start of the walk,
-module _ (keys : List ℕ) (capacity : ℕ) (e : Edge) (from to start end : ℕ) (stay target : List ℕ) where
-  pub start-going : Ready keys capacity from to start end → length stay ≡ width → length target ≡ width
-      → Going keys capacity to end stay target (record { place = from; next = start; kept = 0; got = 0 })
+module _ (keys : List ℕ) (capacity : ℕ) (e : Edge) (from had start held : ℕ) (stay target : List ℕ) where
+  pub start-going : Ready keys capacity from had start held → length stay ≡ width → length target ≡ width
+      → Going keys capacity (from + had) (start + held) stay target (begun from start)
   start-going r s t =
       record {
         stay-long = s;
         target-long = t;
-        place-within = (r .node-within .0, r .node-within .1);
-        next-within = (r .target-within .0, r .target-within .1);
-        stays = omega (arith, r .node-within .2);
-        fits = omega (arith, r .target-within .2);
+        place-within = (omega arith, r .node-within .0);
+        next-within = (omega arith, r .target-within .0);
+        stays = omega (arith, r .node-within .1);
+        fits = omega (arith, r .target-within .1);
         few = r .few;
         node-rises = r .node-rises;
         target-rises = r .target-rises;
         low = λ i j h. absurd (omega arith);
       }
 
-  pub start-outcome : outcome keys capacity e to end stay target (record { place = from; next = start; kept = 0; got = 0 })
-      ≡ merge (numberIn keys) capacity e (span from to) (span start end)
+  pub start-outcome : outcome keys capacity e (from + had) (start + held) stay target (begun from start)
+      ≡ placesMerged keys capacity e from had start held
   unfolding outcome standing
   start-outcome = refl
 

@@ -1,0 +1,3 @@
+pub mod Passing
+pub mod Turning
+pub mod Deciding
