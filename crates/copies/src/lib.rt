@@ -1,10 +1,9 @@
 // A copy's bytes: how many they are, writing them and reading them. Document 01, "Bytes".
 ghost use mathlib.Core.Path.{_≡_};
-ghost use Prim.Native.Nat.{_+_, _≤_};
 ghost use lib.ListN.{length};
-ghost use Rattle.lists.specs.Stands.{Wrote};
 ghost use Rattle.store.specs.Copies.{copy};
 ghost use Rattle.wire.specs.Reading.{fault, numOf};
+ghost use Rattle.wire.specs.Writing.{HasRoom, Puts};
 ghost use Rattle.copies.specs.CopyBytes.{valueBytes, copyBytes, readValue, readCopy, copyReadOf};
 use store::Answer;
 use store::Copy;
@@ -41,8 +40,8 @@ pub fn copy_length(key: u32, kind: u32, value: u32, stamp: u32) -> usize
 
 // Writes the value of a copy, where its kind has one.
 pub fn write_value(buffer: &mut [u8], at: usize, kind: u32, value: u32) -> usize
-    requires { ⌜ at + length (valueBytes kind value) ≤ length (now buffer) ⌝ }
-    ensures { λ r. ⌜ Wrote (now (buffer .entry)) at (valueBytes kind value) r (now (buffer .exit)) ⌝ }
+    requires { ⌜ HasRoom buffer at (valueBytes kind value) ⌝ }
+    ensures { λ r. ⌜ Puts buffer at (valueBytes kind value) r ⌝ }
 {
     if Copy::has_value(kind) {
         return number::write_at(buffer, at, value);
@@ -52,8 +51,8 @@ pub fn write_value(buffer: &mut [u8], at: usize, kind: u32, value: u32) -> usize
 
 // Writes a copy: key, kind, value, stamp.
 pub fn write_copy(buffer: &mut [u8], at: usize, key: u32, kind: u32, value: u32, stamp: u32) -> usize
-    requires { ⌜ at + length (copyBytes (copy key kind value stamp)) ≤ length (now buffer) ⌝ }
-    ensures { λ r. ⌜ Wrote (now (buffer .entry)) at (copyBytes (copy key kind value stamp)) r (now (buffer .exit)) ⌝ }
+    requires { ⌜ HasRoom buffer at (copyBytes (copy key kind value stamp)) ⌝ }
+    ensures { λ r. ⌜ Puts buffer at (copyBytes (copy key kind value stamp)) r ⌝ }
 {
     let after_key = number::write_at(buffer, at, key);
     let after_kind = number::write_at(buffer, after_key, kind);
