@@ -9,32 +9,31 @@ use lib.Dec.{ltb}
 use lib.ListN.{length, getD, set, drop, length-append, drop-of-length-le, List·getD-eq-default}
 use lib.Seq.{sets, drop-cons}
 use borrow.Author.Tests.{lt-ltb, le-ltb, ltb-true}
-use Rattle.lists.proofs.Truths.{both-le}
+use Rattle.number.specs.Number.{narrow}
 use Rattle.plan.specs.Sizes.{mostNodes}
 use Rattle.plan.specs.Plan.{Plan, noNode, size, capacityOf}
-use Rattle.plan.specs.PlanTable.{planNumbered, plans}
-use Rattle.plan.proofs.TableLaws.{table-rules}
+use Rattle.plan.specs.PlanArrays.{atNode, capacitiesRow}
+use Rattle.plan.proofs.ArrayLaws.{capacities-back}
 use Rattle.store.specs.declared.Copy.{Copy}
 use Rattle.store.specs.Answers.{RULE}
 use Rattle.store.specs.Layout.{width, column}
-use Rattle.store.specs.StoreRules.{planNumberTest}
 use Rattle.store.proofs.Laying.{append-one, node-grown, counts-written}
 use Rattle.wire.specs.declared.Num.{Num}
 use Rattle.wire.specs.Reading.{Got, got, fault, bind, numberAt, numOf}
 use Rattle.wire.proofs.Chains.{bind-got, bind-fault, check-holds, check-fails, got-or-fault, num-got, num-fault, Gives, gives-got, gives-any, gives-check, gives-bind}
-use Rattle.image.specs.Loading.{copiesAt, nodeAt, nodesAt}
-use Rattle.image.proofs.ReadWays.{fault-lays}
-use Rattle.image.specs.Workers.{Columns, laid, columnsOf, countsOf, noNumber, ending, Lays, LaysNodes}
+use Rattle.image_reading.specs.ImageReading.{readCopies, readNode, readNodes}
+use Rattle.image_reading.proofs.ReadWays.{fault-lays}
+use Rattle.image_reading.specs.Workers.{Columns, laid, columnsOf, countsOf, noNumber, ending, Lays, LaysNodes}
 
 -- ---- how many copies are read
 
-pub copies-counted : (s : List ℕ) (n at : ℕ) → Gives (λ xs next. length xs ≡ n) (copiesAt s n at)
-unfolding copiesAt
+pub copies-counted : (s : List ℕ) (n at : ℕ) → Gives (λ xs next. length xs ≡ n) (readCopies s n at)
+unfolding readCopies
 copies-counted s zero at = gives-got refl
 copies-counted s (suc n) at = gives-bind _ _ (gives-any _) λ x a _. gives-bind _ _ (copies-counted s n a) λ xs b h. gives-got (ap suc h)
 
-pub node-counted : (s : List ℕ) (capacity at : ℕ) → Gives (λ xs next. length xs ≤ capacity) (nodeAt s capacity at)
-unfolding nodeAt
+pub node-counted : (s : List ℕ) (capacity at : ℕ) → Gives (λ xs next. length xs ≤ capacity) (readNode s capacity at)
+unfolding readNode
 node-counted s capacity at =
     gives-bind _ _ (gives-any _) λ count a _.
     gives-check (ltb count (suc capacity)) RULE at _ λ few.
@@ -80,32 +79,32 @@ stop-lays g value before from q after e h f =
 
 module _ (s : List ℕ) (capacity at : ℕ) (before : Columns) (from : ℕ) (after : Columns) where
   -- The count cannot be read.
-  pub node-no-count : {r : Num} → r ≡ numOf (numberAt s at) → r .ok ≡ false → Lays (nodeAt s capacity at) length before from r after
-  unfolding nodeAt
+  pub node-no-count : {r : Num} → r ≡ numOf (numberAt narrow s at) → r .ok ≡ false → Lays (readNode s capacity at) length before from r after
+  unfolding readNode
   node-no-count e h = stop-lays _ length before from _ after e h (bind-fault _ _ (num-fault _ e h))
 
-  module _ {count a : ℕ} (n : numberAt s at ≡ got count a) where
+  module _ {count a : ℕ} (n : numberAt narrow s at ≡ got count a) where
     -- The count is above the capacity.
-    pub node-over : capacity < count → Lays (nodeAt s capacity at) length before from (record { ok = false; fault = RULE; at = at; value = 0 }) after
-    unfolding nodeAt
+    pub node-over : capacity < count → Lays (readNode s capacity at) length before from (record { ok = false; fault = RULE; at = at; value = 0 }) after
+    unfolding readNode
     node-over h =
         fault-lays _ length before from after
         (bind-got _ _ n ∙ check-fails (ltb count (suc capacity)) RULE at _ (le-ltb count (suc capacity) (omega arith)))
 
-    module _ (few : count ≤ capacity) {r : Num} (l : Lays (copiesAt s (from + count - from) a) noNumber before from r after) where
-      copies-follow : nodeAt s capacity at ≡ copiesAt s (from + count - from) a
-      unfolding nodeAt
+    module _ (few : count ≤ capacity) {r : Num} (l : Lays (readCopies s (from + count - from) a) noNumber before from r after) where
+      copies-follow : readNode s capacity at ≡ readCopies s (from + count - from) a
+      unfolding readNode
       copies-follow =
           let m : count ≡ from + count - from = omega arith in
           bind-got _ _ n ∙ check-holds (ltb count (suc capacity)) RULE at _ (lt-ltb count (suc capacity) (omega arith))
-          ∙ ap (λ (k : ℕ). copiesAt s k a) m
+          ∙ ap (λ (k : ℕ). readCopies s k a) m
 
       -- A copy cannot be read.
-      pub node-stops : r .ok ≡ false → Lays (nodeAt s capacity at) length before from r after
+      pub node-stops : r .ok ≡ false → Lays (readNode s capacity at) length before from r after
       node-stops h = stop-lays _ length before from _ after (l .ends) h (copies-follow ∙ lays-stops l h)
 
       -- The node is read.
-      pub node-whole : r .ok ≡ true → Lays (nodeAt s capacity at) length before from (record { ok = true; fault = 0; at = r .at; value = count }) after
+      pub node-whole : r .ok ≡ true → Lays (readNode s capacity at) length before from (record { ok = true; fault = 0; at = r .at; value = count }) after
       unfolding numOf
       node-whole h =
           let d = lays-got l h in
@@ -118,17 +117,10 @@ module _ (s : List ℕ) (capacity at : ℕ) (before : Columns) (from : ℕ) (aft
 
 -- ---- read_nodes
 
--- A plan's nodes are no more than a store has, and their capacities no more than their places.
-pub plan-few : (plan : ℕ) → planNumberTest plan ≡ true → size (planNumbered plan) ≤ mostNodes
-unfolding planNumberTest
-plan-few plan t = let b = both-le 1 plan plan plans t in table-rules plan (b .0) (b .1) .nodes-within .1
-
-pub plan-fits : (plan n : ℕ) → planNumberTest plan ≡ true → n < size (planNumbered plan) → (n < mostNodes) × (capacityOf (planNumbered plan) n ≤ width)
-unfolding planNumberTest
-plan-fits plan n t h =
-    let b = both-le 1 plan plan plans t in
-    let r = table-rules plan (b .0) (b .1) in
-    (omega (arith, plan-few plan t), r .capacity-within n h .1)
+-- The capacity of a node by its lent row is the plan's.
+pub capacity-here : (p : Plan) → size p ≤ mostNodes → {capacities : List ℕ} → capacities ≡ capacitiesRow p → (n : ℕ) {capacity : ℕ}
+    → capacity ≡ atNode capacities n → capacity ≡ capacityOf p n
+capacity-here p few e n q = q ∙ ap (λ (l : List ℕ). atNode l n) e ∙ capacities-back p few n
 
 -- The nodes read so far, in their places, and what is left to read.
 pub record Sofar (s : List ℕ) (p : Plan) (at n : ℕ) (counts : List ℕ) (c : Columns) (next : ℕ) : Type 0 where
@@ -136,7 +128,7 @@ pub record Sofar (s : List ℕ) (p : Plan) (at n : ℕ) (counts : List ℕ) (c :
   pub many : length nodes ≡ n
   pub counts-are : counts ≡ countsOf nodes
   pub columns-are : c ≡ columnsOf nodes
-  pub rest : nodesAt s p at ≡ bind (nodesAt s (drop n p) next) (λ ns end. got (nodes ++ ns) end)
+  pub rest : readNodes s p at ≡ bind (readNodes s (drop n p) next) (λ ns end. got (nodes ++ ns) end)
 
 bind-self : {A : Type 0} (g : Got A) → g ≡ bind g (λ x next. got x next)
 unfolding bind
@@ -144,7 +136,7 @@ bind-self (got x next) = refl
 bind-self (fault number at) = refl
 
 pub sofar-none : (s : List ℕ) (p : Plan) (at : ℕ) {counts : List ℕ} {c : Columns} → counts ≡ countsOf [] → c ≡ columnsOf [] → Sofar s p at 0 counts c at
-sofar-none s p at e f = record { nodes = []; many = refl; counts-are = e; columns-are = f; rest = bind-self (nodesAt s p at) }
+sofar-none s p at e f = record { nodes = []; many = refl; counts-are = e; columns-are = f; rest = bind-self (readNodes s p at) }
 
 -- A node is added after the last.
 module _ (ns : List (List Copy)) (xs : List Copy) where
@@ -175,11 +167,11 @@ module _ (ns : List (List Copy)) (xs : List Copy) where
 
 module _ {s : List ℕ} {p : Plan} {at n : ℕ} {counts : List ℕ} {c : Columns} {next : ℕ} (so : Sofar s p at n counts c next) where
   -- All nodes are read.
-  pub sofar-end : size p ≤ n → LaysNodes (nodesAt s p at) (record { ok = true; fault = 0; at = next; value = 0 }) counts c
-  unfolding nodesAt bind numOf
+  pub sofar-end : size p ≤ n → LaysNodes (readNodes s p at) (record { ok = true; fault = 0; at = next; value = 0 }) counts c
+  unfolding readNodes bind numOf
   sofar-end h =
-      let e : nodesAt s p at ≡ got (so .nodes) next =
-      so .rest ∙ ap (λ (q : Plan). bind (nodesAt s q next) (λ ns end. got (so .nodes ++ ns) end)) (drop-of-length-le p h)
+      let e : readNodes s p at ≡ got (so .nodes) next =
+      so .rest ∙ ap (λ (q : Plan). bind (readNodes s q next) (λ ns end. got (so .nodes ++ ns) end)) (drop-of-length-le p h)
       ∙ ap (λ (ns : List (List Copy)). got ns next) (append-nil (so .nodes)) in
       record {
         ends = rw e refl;
@@ -189,16 +181,16 @@ module _ {s : List ℕ} {p : Plan} {at n : ℕ} {counts : List ℕ} {c : Columns
 
   module _ (more : n < size p) {capacity : ℕ} (e : capacity ≡ capacityOf p n) where
     -- The next node of the plan.
-    node-next : nodesAt s (drop n p) next
-        ≡ bind (nodeAt s capacity next) (λ xs a. bind (nodesAt s (drop (suc n) p) a) (λ ns end. got (xs ∷ ns) end))
-    unfolding nodesAt
-    node-next = ap (λ (q : Plan). nodesAt s q next) (drop-cons p n noNode more) ∙ rw e refl
+    node-next : readNodes s (drop n p) next
+        ≡ bind (readNode s capacity next) (λ xs a. bind (readNodes s (drop (suc n) p) a) (λ ns end. got (xs ∷ ns) end))
+    unfolding readNodes
+    node-next = ap (λ (q : Plan). readNodes s q next) (drop-cons p n noNode more) ∙ rw e refl
 
     -- It cannot be read.
-    pub sofar-stops : {d after : Columns} {r : Num} {counts-after : List ℕ} → Lays (nodeAt s capacity next) length c (width * n) r d → r .ok ≡ false
-        → LaysNodes (nodesAt s p at) r counts-after after
+    pub sofar-stops : {d after : Columns} {r : Num} {counts-after : List ℕ} → Lays (readNode s capacity next) length c (width * n) r d → r .ok ≡ false
+        → LaysNodes (readNodes s p at) r counts-after after
     sofar-stops {r = r} l h =
-        let f : nodesAt s p at ≡ fault (r .fault) (r .at) = so .rest ∙ bind-fault _ _ (node-next ∙ bind-fault _ _ (lays-stops l h)) in
+        let f : readNodes s p at ≡ fault (r .fault) (r .at) = so .rest ∙ bind-fault _ _ (node-next ∙ bind-fault _ _ (lays-stops l h)) in
         record {
           ends = l .ends ∙ ap numOf (num-fault _ (l .ends) h ∙ sym (bind-fault _ _ f));
           counts-are = λ ns end q. absurd (got-or-fault q f);
@@ -206,7 +198,7 @@ module _ {s : List ℕ} {p : Plan} {at n : ℕ} {counts : List ℕ} {c : Columns
         }
 
     -- It is read.
-    pub sofar-turn : n < mostNodes → capacity ≤ width → {d : Columns} {r : Num} → Lays (nodeAt s capacity next) length c (width * n) r d
+    pub sofar-turn : n < mostNodes → capacity ≤ width → {d : Columns} {r : Num} → Lays (readNode s capacity next) length c (width * n) r d
         → r .ok ≡ true → Sofar s p at (n + 1) (set counts n (r .value)) d (r .at)
     sofar-turn few room {d} {r} l h =
         let x = lays-got l h in
@@ -224,5 +216,5 @@ module _ {s : List ℕ} {p : Plan} {at n : ℕ} {counts : List ℕ} {c : Columns
               ∙ columns-grow (so .nodes) (x .copies) (omega arith) (omega arith);
           rest =
               so .rest ∙ ap (λ (g : Got (List (List Copy))). bind g (λ ns end. got (so .nodes ++ ns) end)) (node-next ∙ bind-got _ _ (x .gives))
-              ∙ rest-grows (so .nodes) (x .copies) (nodesAt s (drop (suc n) p) (r .at)) ∙ rw add-one refl;
+              ∙ rest-grows (so .nodes) (x .copies) (readNodes s (drop (suc n) p) (r .at)) ∙ rw add-one refl;
         }

@@ -1,19 +1,20 @@
--- `image::reading::read_copies` meets its contract. Assumes nothing.
+-- `image_reading::read_copies` meets its contract. Assumes nothing.
 use Prim.Native.Nat.{_-_, _≤_}
 use borrow.Author.Tests.{not-true, not-false}
 use Rattle.wire.specs.declared.Num.{Num}
-use Rattle.image.specs.Loading.{copiesAt}
-use Rattle.image.specs.Workers.{Columns, columns, noNumber, Lays}
-use Rattle.image.proofs.ReadWays.{copy-got, copy-fault, lays-end, lays-fault, lays-turn}
+use Rattle.image_reading.specs.ImageReading.{readCopies}
+use Rattle.image_reading.specs.Workers.{Columns, columns, noNumber, Lays}
+use Rattle.copies.proofs.CopyReading.{copy-got, copy-fault}
+use Rattle.image_reading.proofs.ReadWays.{lays-end, lays-fault, lays-turn}
 use borrow.Author.Needs.{needs}
-use Rattle.image.proofs.reading.read_copies.Statement.{statement}
-use Rattle.image.proofs.reading.read_copies.Tie as tie
+use Rattle.image_reading.proofs.read_copies.Statement.{statement}
+use Rattle.image_reading.proofs.read_copies.Tie as tie
 
 abbrev Inv-loop : tie.InvT-loop
 Inv-loop bytes keys₀ kinds₀ values₀ stamps₀ from end at next₀ i₀ keys kinds values stamps next i =
     (from ≤ i) × (i ≤ end)
-    × ((r : Num) (after : Columns) → Lays (copiesAt bytes (end - i) next) noNumber (columns keys kinds values stamps) i r after
-    → Lays (copiesAt bytes (end - from) at) noNumber (columns keys₀ kinds₀ values₀ stamps₀) from r after)
+    × ((r : Num) (after : Columns) → Lays (readCopies bytes (end - i) next) noNumber (columns keys kinds values stamps) i r after
+    → Lays (readCopies bytes (end - from) at) noNumber (columns keys₀ kinds₀ values₀ stamps₀) from r after)
 
 abbrev μ-loop : tie.MeasureT-loop
 μ-loop bytes keys₀ kinds₀ values₀ stamps₀ from end at next₀ i₀ keys kinds values stamps next i = end - i

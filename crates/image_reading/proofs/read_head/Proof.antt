@@ -1,11 +1,11 @@
--- `image::reading::read_head` meets its contract. Assumes nothing.
+-- `image_reading::read_head` meets its contract. Assumes nothing.
 use mathlib.Core.Path.{sym, _∙_}
 use borrow.Author.Tests.{not-true, not-false}
 use Rattle.wire.proofs.Chains.{num-got, num-fault}
-use Rattle.image.proofs.HeadWays.{head-stops, no-format, bad-format, no-plan, bad-plan, no-clock, bad-clock, head-goes}
+use Rattle.image_reading.proofs.HeadWays.{head-stops, no-format, bad-format, no-plan, bad-plan, no-clock, bad-clock, head-goes}
 use borrow.Author.Needs.{needs}
-use Rattle.image.proofs.reading.read_head.Statement.{statement}
-use Rattle.image.proofs.reading.read_head.Tie as tie
+use Rattle.image_reading.proofs.read_head.Statement.{statement}
+use Rattle.image_reading.proofs.read_head.Tie as tie
 
 read-number-requires : tie.Need-read-number-requires
 read-number-requires c κs = search needs

@@ -1,10 +1,10 @@
--- `image::reading::read_node` meets its contract. Assumes nothing.
+-- `image_reading::read_node` meets its contract. Assumes nothing.
 use borrow.Author.Tests.{not-true, not-false}
 use Rattle.wire.proofs.Chains.{num-got}
-use Rattle.image.proofs.NodeWays.{node-no-count, node-over, node-stops, node-whole}
+use Rattle.image_reading.proofs.NodeWays.{node-no-count, node-over, node-stops, node-whole}
 use borrow.Author.Needs.{needs}
-use Rattle.image.proofs.reading.read_node.Statement.{statement}
-use Rattle.image.proofs.reading.read_node.Tie as tie
+use Rattle.image_reading.proofs.read_node.Statement.{statement}
+use Rattle.image_reading.proofs.read_node.Tie as tie
 
 read-number-requires : tie.Need-read-number-requires
 read-number-requires c κs = search needs
