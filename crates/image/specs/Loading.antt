@@ -7,14 +7,14 @@ use lib.ListN.{length}
 use Rattle.store.specs.declared.Outcome.{Outcome}
 use Rattle.store.specs.declared.Store.{Store}
 use Rattle.store.specs.Answers.{DONE, RULE, TRAIL, answer}
-use Rattle.store.specs.Layout.{freshStore}
+use Rattle.store.specs.Layout.{refusedStore}
 use Rattle.store.specs.StoreRules.{goodStore}
 use Rattle.wire.specs.Reading.{Got, got, fault}
 use Rattle.image_reading.specs.ImageReading.{imageAt}
 
 -- "A refused fresh or load returns a fresh store of plan 1".
 abbrev pub refusedLoad : ℕ → ℕ → Outcome
-refusedLoad number at = record { answer = answer number at 0 0 0; store = freshStore 1 }
+refusedLoad number at = record { answer = answer number at 0 0 0; store = refusedStore }
 
 -- The copies held: the sum of the counts.
 unfoldable pub copiesHeld : List ℕ → ℕ

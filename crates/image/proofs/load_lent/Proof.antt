@@ -1,10 +1,10 @@
--- `image::load_in` meets its contract. Assumes nothing.
+-- `image::load_lent` meets its contract. Assumes nothing.
 use mathlib.Core.Path.{_∙_}
 use borrow.Author.Tests.{not-true, not-false}
 use Rattle.image.proofs.LoadEnds.{head-refused, head-loads}
 use borrow.Author.Needs.{needs}
-use Rattle.image.proofs.load_in.Statement.{statement}
-use Rattle.image.proofs.load_in.Tie as tie
+use Rattle.image.proofs.load_lent.Statement.{statement}
+use Rattle.image.proofs.load_lent.Tie as tie
 
 read-head-requires : tie.Need-read-head-requires
 read-head-requires c κs = search needs
@@ -32,6 +32,6 @@ returns-2 c =
     let start = head .before .before in
     c .load-nodes .ensures ∙ head-loads (start .args .bytes .now) (head .read-head .ensures) (not-false _ (test .if1 .left))
 
-pub load-in-spec : {M : Type 1} → statement M
-load-in-spec =
+pub load-lent-spec : {M : Type 1} → statement M
+load-lent-spec =
     tie.close (tie.spec read-head-requires refuse-requires returns load-nodes-requires returns-2)

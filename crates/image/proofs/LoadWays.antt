@@ -9,18 +9,21 @@ use lib.Dec.{ltb, eqb}
 use lib.ListN.{length}
 use Rattle.lists.proofs.Truths.{bool?, not-both, or-right}
 use mathlib.Core.Logic.{_⊎_, inl, inr}
+use Rattle.number.specs.Number.{narrow}
 use Rattle.plan.specs.Plan.{Plan}
 use Rattle.plan.specs.PlanTable.{planNumbered}
 use Rattle.store.specs.declared.Outcome.{Outcome}
 use Rattle.store.specs.declared.Store.{Store}
 use Rattle.store.specs.Answers.{DONE, PLAN, CUT, NUMBER, FORMAT, RULE, TRAIL, answer}
-use Rattle.store.specs.Copies.{RESULT, member}
+use Rattle.store.specs.Copies.{member}
 use Rattle.store.specs.StoreRules.{planNumberTest, goodStore}
 use Rattle.wire.specs.Reading.{Got, got, fault, numberAt}
 use Rattle.wire.proofs.Chains.{Faults, faults-got, faults-fault, faults-bind, faults-cond, faults-number}
-use Rattle.image.specs.Image.{formatNumber}
+use Rattle.copies.proofs.CopyTrips.{copy-faults}
+use Rattle.image_writing.specs.Image.{formatNumber}
+use Rattle.image_reading.specs.ImageReading.{readCopies, readNode, readNodes, nodesFrom, clockFrom, planFrom, imageAt}
+use Rattle.image.specs.Loading.{refusedLoad, loadOutcome}
 use Rattle.image.proofs.LoadEnds.{acceptedLoad, finish-stops, finish-trails, finish-breaks, finish-accepts}
-use Rattle.image.specs.Loading.{valueAt, copyAt, copiesAt, nodeAt, nodesAt, nodesFrom, clockFrom, planFrom, imageAt, refusedLoad, loadOutcome}
 
 -- Loading goes one of these ways.
 pub data LoadWay (s : List ℕ) : Type 0 where
@@ -49,31 +52,21 @@ abbrev pub IsFault : ℕ → Type 0
 IsFault number = member number (CUT ∷ NUMBER ∷ FORMAT ∷ PLAN ∷ RULE ∷ []) ≡ true
 
 module _ (s : List ℕ) where
-  number-faults : (at : ℕ) → Faults IsFault (numberAt s at)
+  number-faults : (at : ℕ) → Faults IsFault (numberAt narrow s at)
   unfolding member
-  number-faults at = faults-number s at refl refl
+  number-faults at = faults-number narrow s at refl refl
 
   rule-faults : {A : Type 0} (test : Bool) (at : ℕ) (rest : Got A) → Faults IsFault rest → Faults IsFault (cond test rest (fault RULE at))
   unfolding member
   rule-faults test at rest h = faults-cond test rest (fault RULE at) h (faults-fault at refl)
 
-  copy-faults : (at : ℕ) → Faults IsFault (copyAt s at)
-  unfolding copyAt valueAt
-  copy-faults at =
-      faults-bind _ _ (number-faults at) λ key a.
-      faults-bind _ _ (number-faults a) λ kind b.
-      rule-faults (ltb kind 2) a _
-      (faults-bind _ _ (faults-cond (eqb kind RESULT) (numberAt s b) (got 0 b) (number-faults b) (faults-got 0 b)) λ value c.
-      faults-bind _ _ (number-faults c) λ stamp d.
-      faults-got _ d)
-
-  copies-faults : (n at : ℕ) → Faults IsFault (copiesAt s n at)
-  unfolding copiesAt
+  copies-faults : (n at : ℕ) → Faults IsFault (readCopies s n at)
+  unfolding readCopies member
   copies-faults zero at = faults-got [] at
-  copies-faults (suc n) at = faults-bind _ _ (copy-faults at) λ x a. faults-bind _ _ (copies-faults n a) λ xs b. faults-got (x ∷ xs) b
+  copies-faults (suc n) at = faults-bind _ _ (copy-faults s at refl refl refl) λ x a. faults-bind _ _ (copies-faults n a) λ xs b. faults-got (x ∷ xs) b
 
-  nodes-faults : (p : Plan) (at : ℕ) → Faults IsFault (nodesAt s p at)
-  unfolding nodesAt nodeAt
+  nodes-faults : (p : Plan) (at : ℕ) → Faults IsFault (readNodes s p at)
+  unfolding readNodes readNode
   nodes-faults [] at = faults-got [] at
   nodes-faults (n ∷ p) at =
       faults-bind _ _ (faults-bind _ _ (number-faults at) λ count a. rule-faults (ltb count (suc (n .capacity))) at _ (copies-faults count a)) λ xs a.
