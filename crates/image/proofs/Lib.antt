@@ -1,7 +1,3 @@
-pub mod HeadWays
-pub mod ImageLengths
 pub mod LoadEnds
-pub mod NodeWays
-pub mod ReadWays
+pub mod LoadWays
 pub mod SaveWays
-pub mod WriteWays

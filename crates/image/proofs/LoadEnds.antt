@@ -5,12 +5,16 @@ use mathlib.Core.List.{List, []}
 use Prim.Native.Nat.{ℕ, suc, _+_, _<_, _≤_}
 use native.Mathlib.Omega.{arith}
 use native.Mathlib.Numerals.{add-one}
-use lib.ListN.{length, getD, drop, replicate, drop-of-length-le}
+use native.Mathlib.Decide.{decLt}
+use lib.ListN.{length, getD, drop, replicate, drop-of-length-le, List·getD-eq-default}
 use lib.Seq.{drop-cons}
 use borrow.Author.Tests.{lt-ltb, le-ltb}
 use Rattle.lists.proofs.Running.{length-run}
 use Rattle.plan.specs.Sizes.{mostNodes}
-use Rattle.plan.specs.PlanTable.{planTable, plans, planNumbered}
+use Rattle.plan.specs.Plan.{Node, Plan, noNode, size, capacityOf}
+use Rattle.plan.specs.PlanRules.{PlanRules}
+use Rattle.plan.specs.PlanTable.{planNumbered}
+use Rattle.plan.specs.PlanArrays.{atNode, capacitiesRow}
 use Rattle.store.specs.declared.Answer.{Answer}
 use Rattle.store.specs.declared.Copy.{Copy}
 use Rattle.store.specs.declared.Outcome.{Outcome}
@@ -18,18 +22,20 @@ use Rattle.store.specs.declared.Slot.{Slot}
 use Rattle.store.specs.declared.Store.{Store}
 use Rattle.store.specs.Answers.{DONE, RULE, TRAIL, answer}
 use Rattle.store.specs.State.{slotCount, idle}
-use Rattle.store.specs.Layout.{places}
+use Rattle.store.specs.Layout.{width, places, refusedStore}
 use Rattle.store.specs.StoreRules.{planNumberTest, goodStore}
-use Rattle.store.specs.Promises.{freshOutcome}
-use Rattle.store.specs.Workers.{Sized}
+use Rattle.store.specs.Workers.{Sized, ofParts}
+use Rattle.store.proofs.Freshening.{number-rules}
 use Rattle.store.proofs.Laying.{store-is, length-column, blank-column, blank-counts}
 use Rattle.wire.specs.declared.Num.{Num}
 use Rattle.wire.specs.Reading.{Got, got, fault}
 use Rattle.wire.proofs.Chains.{bind-got, bind-fault, num-got, num-fault}
-use Rattle.image.specs.declared.reading.Head.{Head}
-use Rattle.image.specs.Loading.{nodesAt, loaded, nodesFrom, imageAt, refusedLoad, copiesHeld, finished, loadOutcome}
-use Rattle.image.specs.Workers.{Columns, columns, columnsOf, countsOf, LaysNodes, ReadsHead, storeIn, idleStore, loadedIn}
-use Rattle.image.proofs.NodeWays.{ending-got, ending-fault}
+use Rattle.image_reading.specs.declared.Head.{Head}
+use Rattle.image_reading.specs.ImageReading.{readNodes, loaded, nodesFrom, imageAt}
+use Rattle.image_reading.specs.Workers.{Columns, columns, columnsOf, countsOf, LaysNodes, ReadsHead}
+use Rattle.image_reading.proofs.NodeWays.{capacity-here, ending-got, ending-fault}
+use Rattle.image.specs.Loading.{refusedLoad, copiesHeld, finished, loadOutcome}
+use Rattle.image.specs.Workers.{idleStore, loadedIn}
 
 -- ---- the end of loading
 
@@ -61,25 +67,29 @@ module _ (s : List ℕ) (g : Got Store) where
 
 -- ---- finish
 
-module _ (plan clock : ℕ) (counts : List ℕ) (c : Columns) {slots : List Slot} (i : slots ≡ replicate slotCount idle) where
+module _ (plan clock : ℕ) (counts keys kinds values stamps : List ℕ) {slots : List Slot} (i : slots ≡ replicate slotCount idle) where
   -- The check is of the store with all slots idle.
-  pub good-idle : {b : Bool} → b ≡ goodStore (storeIn plan clock counts c slots) → b ≡ goodStore (idleStore plan clock counts c)
-  good-idle e = e ∙ ap (λ (x : List Slot). goodStore (storeIn plan clock counts c x)) i
+  pub good-idle : {b : Bool} → b ≡ goodStore (ofParts plan clock counts keys kinds values stamps slots)
+      → b ≡ goodStore (idleStore plan clock counts keys kinds values stamps)
+  good-idle e = e ∙ ap (λ (x : List Slot). goodStore (ofParts plan clock counts keys kinds values stamps x)) i
 
   -- What an accepted image gives, from the copies held and the answer.
-  pub finish-done : (s : List ℕ) {end held : ℕ} {a : Answer} → length s ≤ end → goodStore (idleStore plan clock counts c) ≡ true → held ≡ copiesHeld counts
-      → a ≡ answer DONE held 0 0 0
-      → loadedIn (record { answer = a; plan = plan; clock = clock; slots = slots }) counts c ≡ finished s (got (idleStore plan clock counts c) end)
+  pub finish-done : (s : List ℕ) {end held : ℕ} {a : Answer} → length s ≤ end → goodStore (idleStore plan clock counts keys kinds values stamps) ≡ true
+      → held ≡ copiesHeld counts → a ≡ answer DONE held 0 0 0
+      → loadedIn (record { answer = a; plan = plan; clock = clock; slots = slots }) counts keys kinds values stamps
+      ≡ finished s (got (idleStore plan clock counts keys kinds values stamps) end)
   finish-done s {end} h good e f =
-      (λ t. record { answer = (f ∙ ap (λ (n : ℕ). answer DONE n 0 0 0) e) t; store = storeIn plan clock counts c (i t) })
-      ∙ sym (finish-accepts s (got (idleStore plan clock counts c) end) refl h good)
+      (λ t. record {
+        answer = (f ∙ ap (λ (n : ℕ). answer DONE n 0 0 0) e) t;
+        store = ofParts plan clock counts keys kinds values stamps (i t);
+      })
+      ∙ sym (finish-accepts s (got (idleStore plan clock counts keys kinds values stamps) end) refl h good)
 
 -- ---- refuse
 
-pub refused-is : (number at : ℕ) {a : Answer} {o : Outcome} → o ≡ freshOutcome 1 → a ≡ answer number at 0 0 0
-    → record { answer = a; store = o .store } ≡ refusedLoad number at
-unfolding freshOutcome planNumberTest plans planTable
-refused-is number at e f = λ t. record { answer = f t; store = e t .store }
+pub refused-is : (number at : ℕ) {a : Answer} {z : Store} → z ≡ refusedStore → a ≡ answer number at 0 0 0
+    → record { answer = a; store = z } ≡ refusedLoad number at
+refused-is number at e f = λ t. record { answer = f t; store = e t }
 
 -- ---- copies_held
 
@@ -112,39 +122,66 @@ empty-columns =
 
 -- ---- load_nodes
 
-module _ (s : List ℕ) (plan clock at : ℕ) {r : Num} {counts : List ℕ} {c : Columns} (l : LaysNodes (nodesAt s (planNumbered plan) at) r counts c) where
+-- The nodes and the capacities of a plan have places in a store.
+pub plan-places : (plan : ℕ) {nodes : ℕ} {capacities : List ℕ} → planNumberTest plan ≡ true → nodes ≡ size (planNumbered plan)
+    → capacities ≡ capacitiesRow (planNumbered plan) → (nodes ≤ mostNodes) × ((n : ℕ) → atNode capacities n ≤ width)
+plan-places plan {nodes} {capacities} t e f = (omega (arith, few), λ n. room n (decLt n (size p)))
+  where
+    p : Plan
+    p = planNumbered plan
+
+    rules : PlanRules p
+    rules = number-rules plan t
+
+    few : size p ≤ mostNodes
+    few = rules .nodes-within .1
+
+    row : (n : ℕ) → atNode capacities n ≡ capacityOf p n
+    row n = capacity-here p few f n refl
+
+    room : (n : ℕ) → Dec (n < size p) → atNode capacities n ≤ width
+    room n (yes h) = omega (arith, row n, rules .capacity-within n h .1)
+    room n (no h) =
+        let none : capacityOf p n ≡ 0 = ap (λ (d : Node). d .capacity) (List·getD-eq-default p noNode (omega arith)) in
+        omega (arith, row n)
+
+module _ (s : List ℕ) (plan clock at : ℕ) {r : Num} {counts keys kinds values stamps : List ℕ}
+    (l : LaysNodes (readNodes s (planNumbered plan) at) r counts (columns keys kinds values stamps)) where
   -- A node cannot be read.
   pub nodes-refused : r .ok ≡ false → refusedLoad (r .fault) (r .at) ≡ finished s (nodesFrom s plan clock at)
   unfolding nodesFrom
   nodes-refused h = sym (finish-stops s (nodesFrom s plan clock at) (bind-fault _ _ (ending-fault _ _ (num-fault _ (l .ends) h))))
 
   module _ (h : r .ok ≡ true) where
+    -- The nodes that were read.
+    read : (ns : List (List Copy)) × (readNodes s (planNumbered plan) at ≡ got ns (r .at))
+    read = let e = ending-got _ _ (num-got _ (l .ends) h) in (e .0, e .1)
+
+    columns-are : columns keys kinds values stamps ≡ columnsOf (read .0)
+    columns-are = l .columns-are (read .0) (r .at) (read .1)
+
     -- All nodes are read, and make a store with all slots idle.
-    pub nodes-loaded : finished s (got (idleStore plan clock counts c) (r .at)) ≡ finished s (nodesFrom s plan clock at)
+    pub nodes-loaded : finished s (got (idleStore plan clock counts keys kinds values stamps) (r .at)) ≡ finished s (nodesFrom s plan clock at)
     unfolding nodesFrom
     nodes-loaded =
-        let e = ending-got _ _ (num-got _ (l .ends) h) in
-        let columns-are = l .columns-are (e .0) (r .at) (e .1) in
         let is =
-        store-is plan (loaded clock (e .0)) (idleStore plan clock counts c) refl refl (l .counts-are (e .0) (r .at) (e .1))
+        store-is plan (loaded clock (read .0)) (idleStore plan clock counts keys kinds values stamps) refl refl (l .counts-are (read .0) (r .at) (read .1))
         (ap (λ (d : Columns). d .keys) columns-are) (ap (λ (d : Columns). d .kinds) columns-are) (ap (λ (d : Columns). d .values) columns-are)
         (ap (λ (d : Columns). d .stamps) columns-are) refl in
-        ap (finished s) (ap (λ (y : Store). got y (r .at)) is ∙ sym (bind-got _ _ (e .1)))
+        ap (finished s) (ap (λ (y : Store). got y (r .at)) is ∙ sym (bind-got _ _ (read .1)))
 
     -- They fill columns as long as a store's.
-    pub nodes-sized : Sized counts (c .keys) (c .kinds) (c .values) (c .stamps)
+    pub nodes-sized : Sized counts keys kinds values stamps
     nodes-sized =
-        let e = ending-got _ _ (num-got _ (l .ends) h) in
-        let columns-are = l .columns-are (e .0) (r .at) (e .1) in
         record {
-          counts-long = ap length (l .counts-are (e .0) (r .at) (e .1)) ∙ length-run _ 0 mostNodes;
-          keys-long = ap (λ (d : Columns). length (d .keys)) columns-are ∙ length-column (λ (x : Copy). x .key) (e .0);
-          kinds-long = ap (λ (d : Columns). length (d .kinds)) columns-are ∙ length-column (λ (x : Copy). x .kind) (e .0);
-          values-long = ap (λ (d : Columns). length (d .values)) columns-are ∙ length-column (λ (x : Copy). x .value) (e .0);
-          stamps-long = ap (λ (d : Columns). length (d .stamps)) columns-are ∙ length-column (λ (x : Copy). x .stamp) (e .0);
+          counts-long = ap length (l .counts-are (read .0) (r .at) (read .1)) ∙ length-run _ 0 mostNodes;
+          keys-long = ap (λ (d : Columns). length (d .keys)) columns-are ∙ length-column (λ (x : Copy). x .key) (read .0);
+          kinds-long = ap (λ (d : Columns). length (d .kinds)) columns-are ∙ length-column (λ (x : Copy). x .kind) (read .0);
+          values-long = ap (λ (d : Columns). length (d .values)) columns-are ∙ length-column (λ (x : Copy). x .value) (read .0);
+          stamps-long = ap (λ (d : Columns). length (d .stamps)) columns-are ∙ length-column (λ (x : Copy). x .stamp) (read .0);
         }
 
--- ---- load_in
+-- ---- load_lent
 
 module _ (s : List ℕ) {r : Head} (h : ReadsHead s r) where
   -- The head cannot be read.

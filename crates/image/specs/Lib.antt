@@ -1,4 +1,3 @@
-pub mod Image
 pub mod Loading
 pub mod Promises
 pub mod Workers

@@ -9,7 +9,7 @@ use Rattle.store.specs.declared.Store.{Store}
 use Rattle.store.specs.Answers.{BADSTORE, bare}
 use Rattle.store.specs.StoreRules.{goodStore}
 use Rattle.wire.specs.Writing.{writtenAnswer, writtenBuffer}
-use Rattle.image.specs.Image.{image}
+use Rattle.image_writing.specs.Image.{image}
 use Rattle.image.specs.Loading.{loadOutcome}
 
 -- BADSTORE, SMALL with the bytes needed, or DONE with the bytes written.

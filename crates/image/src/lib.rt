@@ -1,27 +1,22 @@
 // The evening's bytes: save and load. Document 01, "Bytes".
 ghost use mathlib.Core.Path.{_≡_};
 ghost use mathlib.Core.Bool.{true};
-ghost use mathlib.Core.List.{[]};
-ghost use lib.ListN.{length, replicate};
+ghost use lib.ListN.{length};
 ghost use Rattle.plan.specs.Sizes.{mostNodes};
-ghost use Rattle.store.specs.State.{slotCount, idle};
 ghost use Rattle.store.specs.StoreRules.{planNumberTest};
 ghost use Rattle.store.specs.Workers.{LentSized, lentStore};
-ghost use Rattle.wire.specs.Reading.{got};
-ghost use Rattle.image.specs.Loading.{nodesFrom, refusedLoad, copiesHeld, finished};
+ghost use Rattle.image_writing.specs.Workers.{WithinPlaces};
+ghost use Rattle.image_reading.specs.ImageReading.{nodesFrom};
+ghost use Rattle.image_reading.specs.Workers.{LentEmpty};
+ghost use Rattle.image.specs.Loading.{refusedLoad, copiesHeld, finished, loadOutcome};
 ghost use Rattle.image.specs.Promises.{Saves, Loads};
-ghost use Rattle.image.specs.Workers.{columns, columnsOf, countsOf, idleStore, loadedIn, LoadsIn, WithinPlaces};
+ghost use Rattle.image.specs.Workers.{LentSaves, lentLoaded, LentFinishes};
+use image_writing::lengths;
+use image_writing::writing;
 use store::Answer;
 use store::Outcome;
 use store::Slot;
 use store::Store;
-
-mod lengths; // lengths.rt: how many bytes an image takes
-mod reading; // reading.rt: an image's numbers, read into lent columns
-mod writing; // writing.rt: an image written into a lent buffer
-
-// "format 1"
-pub const FORMAT: u32 = 1;
 
 // Saves a store whose columns are lent where they lie into the buffer: DONE with the bytes written, BADSTORE, or SMALL with the bytes needed.
 pub fn save_lent<'a>(
@@ -36,16 +31,19 @@ pub fn save_lent<'a>(
     buffer: &mut [u8],
 ) -> Answer
     requires { ⌜ LentSized counts keys kinds values stamps ⌝ }
-    ensures { λ r. ⌜ Saves (lentStore plan clock (counts .entry) (keys .entry) (kinds .entry) (values .entry) (stamps .entry) slots) (now (buffer .entry)) r (now (buffer .exit)) ⌝ }
+    ensures { λ r. ⌜ LentSaves (lentStore plan clock (counts .entry) (keys .entry) (kinds .entry) (values .entry) (stamps .entry) slots) buffer r ⌝ }
 {
     if !rules::good(plan, clock, counts, keys, kinds, values, stamps, slots) {
         return Answer::bare(Answer::BADSTORE);
     }
-    let needed = lengths::image_length(plan, clock, counts, keys, kinds, values, stamps);
+    let nodes = plan::nodes(plan) as usize;
+    let needed = lengths::image_length(plan, clock, nodes, counts, keys, kinds, values, stamps);
     if buffer.len() < needed {
         return Answer::of(Answer::SMALL, needed as u64, 0, 0, 0);
     }
-    let written = writing::write_image(buffer, plan, clock, counts, keys, kinds, values, stamps);
+    let written = writing::write_image(
+        buffer, plan, clock, nodes, counts, keys, kinds, values, stamps,
+    );
     Answer::of(Answer::DONE, written as u64, 0, 0, 0)
 }
 
@@ -75,7 +73,7 @@ pub struct Loaded {
     pub slots: [Slot; Store::SLOTS],
 }
 
-// A refused load: its number and offset, and a fresh store of plan 1 in place of what stood in the columns.
+// A refused load: its number and offset, and in place of what stood in the columns the store that a refusal gives.
 fn refuse<'a>(
     number: u32,
     at: usize,
@@ -85,10 +83,9 @@ fn refuse<'a>(
     values: &'a mut [u32; Store::PLACES],
     stamps: &'a mut [u32; Store::PLACES],
 ) -> Loaded
-    ensures { λ r. ⌜ loadedIn r (now (counts .exit)) (columns (now (keys .exit)) (now (kinds .exit)) (now (values .exit)) (now (stamps .exit))) ≡ refusedLoad number at ⌝ }
+    ensures { λ r. ⌜ lentLoaded r counts keys kinds values stamps ≡ refusedLoad number at ⌝ }
 {
-    let fresh = Store::fresh(1);
-    let store = fresh.store;
+    let store = Store::refused();
     let fresh_counts = store.counts;
     *counts = fresh_counts;
     let fresh_keys = store.keys;
@@ -106,19 +103,6 @@ fn refuse<'a>(
         clock: store.clock,
         slots,
     }
-}
-
-// All slots idle.
-fn idle_slots() -> [Slot; Store::SLOTS]
-    ensures { λ r. ⌜ r ≡ replicate slotCount idle ⌝ }
-{
-    let idle = Slot {
-        running: 0,
-        key: 0,
-        node: 0,
-        visits: 0,
-    };
-    [idle; Store::SLOTS]
 }
 
 // The copies held: the sum of the counts.
@@ -148,12 +132,12 @@ fn finish<'a>(
     stamps: &'a mut [u32; Store::PLACES],
 ) -> Loaded
     requires { ⌜ LentSized counts keys kinds values stamps ⌝ }
-    ensures { λ r. ⌜ loadedIn r (now (counts .exit)) (columns (now (keys .exit)) (now (kinds .exit)) (now (values .exit)) (now (stamps .exit))) ≡ finished (now (bytes .entry)) (got (idleStore plan clock (now (counts .entry)) (columns (now (keys .entry)) (now (kinds .entry)) (now (values .entry)) (now (stamps .entry)))) end) ⌝ }
+    ensures { λ r. ⌜ LentFinishes (bytes .entry) end plan clock counts keys kinds values stamps r ⌝ }
 {
     if end < bytes.len() {
         return refuse(Answer::TRAIL, end, counts, keys, kinds, values, stamps);
     }
-    let slots = idle_slots();
+    let slots = Store::idle_slots();
     if !rules::good(plan, clock, counts, keys, kinds, values, stamps, slots) {
         return refuse(
             Answer::RULE,
@@ -182,7 +166,7 @@ fn clear<'a>(
     values: &'a mut [u32; Store::PLACES],
     stamps: &'a mut [u32; Store::PLACES],
 )
-    ensures { λ _. ⌜ (now (counts .exit) ≡ countsOf []) × (columns (now (keys .exit)) (now (kinds .exit)) (now (values .exit)) (now (stamps .exit)) ≡ columnsOf []) ⌝ }
+    ensures { λ _. ⌜ LentEmpty (counts .exit) (keys .exit) (kinds .exit) (values .exit) (stamps .exit) ⌝ }
 {
     *counts = [0; Store::NODES];
     *keys = [0; Store::PLACES];
@@ -204,10 +188,22 @@ fn load_nodes<'a>(
     stamps: &'a mut [u32; Store::PLACES],
 ) -> Loaded
     requires { ⌜ planNumberTest plan ≡ true ⌝ }
-    ensures { λ r. ⌜ loadedIn r (now (counts .exit)) (columns (now (keys .exit)) (now (kinds .exit)) (now (values .exit)) (now (stamps .exit))) ≡ finished (now (bytes .entry)) (nodesFrom (now (bytes .entry)) plan clock at) ⌝ }
+    ensures { λ r. ⌜ lentLoaded r counts keys kinds values stamps ≡ finished (now (bytes .entry)) (nodesFrom (now (bytes .entry)) plan clock at) ⌝ }
 {
     clear(counts, keys, kinds, values, stamps);
-    let end = reading::read_nodes(bytes, plan, counts, keys, kinds, values, stamps, at);
+    let nodes = plan::nodes(plan);
+    let capacities = plan::capacities_of(plan);
+    let end = image_reading::read_nodes(
+        bytes,
+        nodes,
+        &capacities,
+        counts,
+        keys,
+        kinds,
+        values,
+        stamps,
+        at,
+    );
     if !end.ok {
         return refuse(end.fault, end.at, counts, keys, kinds, values, stamps);
     }
@@ -226,7 +222,7 @@ fn load_nodes<'a>(
 
 // Loads an image into the columns of a store where they lie, whatever stood there: DONE with the copies held; or the first fault, and a fresh
 // store of plan 1.
-pub fn load_in<'a>(
+pub fn load_lent<'a>(
     bytes: &[u8],
     counts: &'a mut [u32; Store::NODES],
     keys: &'a mut [u32; Store::PLACES],
@@ -234,9 +230,9 @@ pub fn load_in<'a>(
     values: &'a mut [u32; Store::PLACES],
     stamps: &'a mut [u32; Store::PLACES],
 ) -> Loaded
-    ensures { λ r. ⌜ LoadsIn (now (bytes .entry)) r (now (counts .exit)) (columns (now (keys .exit)) (now (kinds .exit)) (now (values .exit)) (now (stamps .exit))) ⌝ }
+    ensures { λ r. ⌜ lentLoaded r counts keys kinds values stamps ≡ loadOutcome (now (bytes .entry)) ⌝ }
 {
-    let head = reading::read_head(bytes);
+    let head = image_reading::read_head(bytes);
     if !head.ok {
         return refuse(head.fault, head.at, counts, keys, kinds, values, stamps);
     }
@@ -262,7 +258,7 @@ pub fn load(bytes: &[u8]) -> Outcome
     let mut kinds = [0; Store::PLACES];
     let mut values = [0; Store::PLACES];
     let mut stamps = [0; Store::PLACES];
-    let loaded = load_in(
+    let loaded = load_lent(
         bytes,
         &mut counts,
         &mut keys,

@@ -1,5 +1,5 @@
 -- The form of a number: its first byte and the rest, and how many bytes it has.
--- Each law is shown for any kind of number (last, more) with last below 128, and then for the 32-bit numbers of document 01.
+-- Each law is shown for numbers of any size, and then for the 32-bit numbers of document 01.
 -- Assumes nothing.
 use mathlib.Core.Path.{_≡_, refl}
 use mathlib.Core.Logic.{_↔_}
@@ -11,9 +11,9 @@ use native.Mathlib.Decide.{decLt}
 use lib.Dec.{lit<, lit≤}
 use lib.ListN.{length}
 use borrow.Author.Tests.{lt-ltb, le-ltb}
-use Rattle.number.specs.Number.{lastByte, moreBytes, largest, formIn, form}
+use Rattle.number.specs.Number.{largestIn, largest, narrow, formIn, form}
 
--- ---- any kind of number
+-- ---- numbers of any size
 
 -- A number below 128 is its own one byte.
 pub form-one : (more v : ℕ) → v < 128 → formIn more v ≡ v ∷ []
@@ -65,41 +65,37 @@ form-width-in (suc more) v (suc k) h g = go (decLt v 128) k g (λ p q. form-widt
 pub record Turn (last more v : ℕ) : Type 0 where
   pub less : ℕ
   pub is : more ≡ suc less
-  pub small : v / 128 ≤ largest last less
+  pub small : v / 128 ≤ largestIn last less
   pub bytes : formIn more v ≡ (128 + v % 128) ∷ formIn less (v / 128)
 
 -- A number of 128 or above that is within its kind has such a form.
-pub form-turn : (last : ℕ) → last < 128 → (more v : ℕ) → v ≤ largest last more → 128 ≤ v → Turn last more v
-unfolding largest formIn
+pub form-turn : (last : ℕ) → last < 128 → (more v : ℕ) → v ≤ largestIn last more → 128 ≤ v → Turn last more v
+unfolding largestIn formIn
 form-turn last low zero v h g = absurd (omega arith)
 form-turn last low (suc more) v h g = record { less = more; is = refl; small = omega arith; bytes = rw (le-ltb v 128 g) }
 
 -- ---- 32-bit numbers
 
 -- The largest number is 4294967295.
-pub largest-32 : largest lastByte moreBytes ≡ 4294967295
-unfolding largest
-largest-32 = refl
+pub largest-narrow : largest narrow ≡ 4294967295
+unfolding largestIn
+largest-narrow = refl
 
--- The last byte of a full form lacks the top bit.
-pub low-32 : lastByte < 128
-low-32 = lit< tt
-
--- A number of 32 bits is within the kind.
-pub small-32 : {v : ℕ} → v ≤ 4294967295 → v ≤ largest lastByte moreBytes
-small-32 h = rw largest-32 h
+-- A number of 32 bits is within the size.
+pub small-narrow : {v : ℕ} → v ≤ 4294967295 → v ≤ largest narrow
+small-narrow h = rw largest-narrow h
 
 -- The form has at least one byte.
 pub form-some : (v : ℕ) → 1 ≤ length (form v)
 unfolding form
-form-some v = form-some-in moreBytes v
+form-some v = form-some-in (narrow .more) v
 
 -- The form has at most five bytes.
 pub form-length : (v : ℕ) → length (form v) ≤ 5
 unfolding form
-form-length v = form-length-in moreBytes v
+form-length v = form-length-in (narrow .more) v
 
 -- For k from 1 to 4, the form has at most k bytes exactly when the number is below 128 to the k.
 pub form-width : (v k : ℕ) → 1 ≤ k → k ≤ 4 → (length (form v) ≤ k) ↔ (v < 128 ^ k)
 unfolding form
-form-width v k h g = form-width-in moreBytes v k h g
+form-width v k h g = form-width-in (narrow .more) v k h g

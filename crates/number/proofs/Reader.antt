@@ -9,7 +9,7 @@ use native.Mathlib.Nat.{mul-add, mul-assoc, mul-le-mul-left}
 use lib.ListN.{length, getD}
 use Rattle.number.specs.declared.Reading.{Reading}
 use Rattle.number.specs.declared.Reading.the-variants.{Value, Cut, Malformed}
-use Rattle.number.specs.Number.{lastByte, moreBytes, largest, readLast, putBelow, readIn, readAt}
+use Rattle.number.specs.Number.{narrow, largestIn, readLast, putBelow, readIn, readAt}
 use Rattle.number.proofs.Ways.{never, last-value, last-zero, read-cut, read-above, read-ends, read-goes}
 use Rattle.number.proofs.Readings.{ends-in}
 
@@ -17,15 +17,15 @@ use Rattle.number.proofs.Readings.{ends-in}
 
 module _ (s : List ℕ) (at : ℕ) where
   -- No byte is there.
-  pub first-cut : length s ≤ at → Cut ≡ readAt s at
+  pub first-cut : length s ≤ at → Cut ≡ readAt narrow s at
   unfolding readAt
-  first-cut h = sym (read-cut s lastByte true at moreBytes h)
+  first-cut h = sym (read-cut s (narrow .last) true at (narrow .more) h)
 
   -- A number's only byte.
-  pub first-ends : {b : ℕ} → b ≡ getD s at 0 → at < length s → b < 128 → Value b (at + 1) ≡ readAt s at
+  pub first-ends : {b : ℕ} → b ≡ getD s at 0 → at < length s → b < 128 → Value b (at + 1) ≡ readAt narrow s at
   unfolding readAt
   first-ends e h g =
-      rw e (sym (read-ends s lastByte true at (moreBytes - 1) h (omega arith) ∙ last-value true (getD s at 0) (at + 1) (λ f. absurd (never f))))
+      rw e (sym (read-ends s (narrow .last) true at ((narrow .more) - 1) h (omega arith) ∙ last-value true (getD s at 0) (at + 1) (λ f. absurd (never f))))
 
 -- ---- the bytes after it
 
@@ -55,82 +55,82 @@ below-above low Malformed = refl
 
 -- What reading gives is what the bytes from `next` on give, put above the number read, and the largest number that can come of it fits 32 bits.
 pub record Going (s : List ℕ) (at value scale next more : ℕ) : Type 0 where
-  pub whole : readAt s at ≡ putAbove value scale (readIn s lastByte more false next)
-  pub fits : value + scale * largest lastByte more ≤ 4294967295
+  pub whole : readAt narrow s at ≡ putAbove value scale (readIn s (narrow .last) more false next)
+  pub fits : value + scale * largestIn (narrow .last) more ≤ 4294967295
 
 -- A first byte with the top bit.
 pub go-starts : (s : List ℕ) (at : ℕ) {b : ℕ} → b ≡ getD s at 0 → at < length s → 128 ≤ b → b < 256
-    → Going s at (b - 128) 128 (at + 1) (moreBytes - 1)
-unfolding readAt largest
+    → Going s at (b - 128) 128 (at + 1) ((narrow .more) - 1)
+unfolding readAt largestIn
 go-starts s at {b} e h g m =
     record {
       whole =
-          rw e (read-goes s lastByte true at (moreBytes - 1) h (omega arith)
-          ∙ below-above (getD s at 0 - 128) (readIn s lastByte (moreBytes - 1) false (at + 1)));
+          rw e (read-goes s (narrow .last) true at ((narrow .more) - 1) h (omega arith)
+          ∙ below-above (getD s at 0 - 128) (readIn s (narrow .last) ((narrow .more) - 1) false (at + 1)));
       fits = omega arith;
     }
 
 -- A last byte that is allowed is within the kind.
-pub last-within : (more b : ℕ) → b < 128 → (more ≡ 0 → b ≤ lastByte) → b ≤ largest lastByte more
-unfolding largest
+pub last-within : (more b : ℕ) → b < 128 → (more ≡ 0 → b ≤ narrow .last) → b ≤ largestIn (narrow .last) more
+unfolding largestIn
 last-within zero b g a = a refl
 last-within (suc more) b g a = omega arith
 
 -- Where a byte with the top bit may come, 128 is within the kind too.
-pub more-within : (more : ℕ) → (more ≡ 0 → ⊥) → 128 ≤ largest lastByte more
-unfolding largest
+pub more-within : (more : ℕ) → (more ≡ 0 → ⊥) → 128 ≤ largestIn (narrow .last) more
+unfolding largestIn
 more-within zero n = absurd (n refl)
 more-within (suc zero) n = omega arith
 more-within (suc (suc more)) n = omega arith
 
 module _ {s : List ℕ} {at value scale next more : ℕ} (k : Going s at value scale next more) where
   -- A number within the kind fits above the number read.
-  pub go-fits : {g : ℕ} → g ≤ largest lastByte more → value + scale * g ≤ 4294967295
+  pub go-fits : {g : ℕ} → g ≤ largestIn (narrow .last) more → value + scale * g ≤ 4294967295
   go-fits h = let m = mul-le-mul-left scale h in let f = k .fits in omega arith
 
   -- No byte is left.
-  pub go-cut : length s ≤ next → Cut ≡ readAt s at
+  pub go-cut : length s ≤ next → Cut ≡ readAt narrow s at
   unfolding putAbove
-  go-cut h = sym (k .whole ∙ ap (putAbove value scale) (read-cut s lastByte false next more h))
+  go-cut h = sym (k .whole ∙ ap (putAbove value scale) (read-cut s (narrow .last) false next more h))
 
   module _ {b : ℕ} (e : b ≡ getD s next 0) (h : next < length s) where
     -- What a last byte gives, put above the number read.
-    go-last : b < 128 → (more ≡ 0 → b ≤ lastByte) → readAt s at ≡ putAbove value scale (readLast false b (next + 1))
+    go-last : b < 128 → (more ≡ 0 → b ≤ narrow .last) → readAt narrow s at ≡ putAbove value scale (readLast false b (next + 1))
     go-last g a =
-        k .whole ∙ rw e (ap (putAbove value scale) (ends-in s lastByte more false next h (omega arith) (omega (arith, last-within more b g a))))
+        k .whole ∙ rw e (ap (putAbove value scale) (ends-in s (narrow .last) more false next h (omega arith) (omega (arith, last-within more b g a))))
 
     -- A last byte 00.
-    pub go-zero : b ≡ 0 → Malformed ≡ readAt s at
+    pub go-zero : b ≡ 0 → Malformed ≡ readAt narrow s at
     unfolding putAbove
     go-zero z = sym (go-last (omega arith) (λ _. omega arith) ∙ rw z (ap (putAbove value scale) (last-zero (next + 1))))
 
     -- A fifth byte above 0F.
-    pub go-above : more ≡ 0 → lastByte < b → Malformed ≡ readAt s at
+    pub go-above : more ≡ 0 → narrow .last < b → Malformed ≡ readAt narrow s at
     unfolding putAbove
     go-above z g =
-        sym (k .whole ∙ ap (λ (n : ℕ). putAbove value scale (readIn s lastByte n false next)) z
-        ∙ ap (putAbove value scale) (read-above s lastByte false next h (omega arith)))
+        sym (k .whole ∙ ap (λ (n : ℕ). putAbove value scale (readIn s (narrow .last) n false next)) z
+        ∙ ap (putAbove value scale) (read-above s (narrow .last) false next h (omega arith)))
 
     -- A last byte that is not 00 and is allowed.
-    pub go-ends : (b ≡ 0 → ⊥) → b < 128 → (more ≡ 0 → b ≤ lastByte) → Value (value + scale * b) (next + 1) ≡ readAt s at
+    pub go-ends : (b ≡ 0 → ⊥) → b < 128 → (more ≡ 0 → b ≤ narrow .last) → Value (value + scale * b) (next + 1) ≡ readAt narrow s at
     unfolding putAbove
     go-ends n g a = sym (go-last g a ∙ ap (putAbove value scale) (last-value false b (next + 1) (λ _. omega arith)))
 
     -- A byte with the top bit.
     pub go-turns : 128 ≤ b → b < 256 → (more ≡ 0 → ⊥) → Going s at (value + scale * (b - 128)) (scale * 128) (next + 1) (more - 1)
-    unfolding largest
+    unfolding largestIn
     go-turns g m n =
         let i : more ≡ suc (more - 1) = omega arith in
-        let l : largest lastByte more ≡ 127 + 128 * largest lastByte (more - 1) = ap (largest lastByte) i in
+        let l : largestIn (narrow .last) more ≡ 127 + 128 * largestIn (narrow .last) (more - 1) = ap (largestIn (narrow .last)) i in
         let f = k .fits in
-        let d = mul-add scale 127 (128 * largest lastByte (more - 1)) in
-        let a = mul-assoc scale 128 (largest lastByte (more - 1)) in
+        let d = mul-add scale 127 (128 * largestIn (narrow .last) (more - 1)) in
+        let a = mul-assoc scale 128 (largestIn (narrow .last) (more - 1)) in
         let q : scale * (b - 128) ≤ scale * 127 = mul-le-mul-left scale (omega arith) in
-        let o : scale * largest lastByte more ≡ scale * (127 + 128 * largest lastByte (more - 1)) = ap (λ (n : ℕ). scale * n) l in
+        let o : scale * largestIn (narrow .last) more ≡ scale * (127 + 128 * largestIn (narrow .last) (more - 1)) = ap (λ (n : ℕ). scale * n) l in
         record {
           whole =
-              k .whole ∙ ap (λ (n : ℕ). putAbove value scale (readIn s lastByte n false next)) i
-              ∙ ap (putAbove value scale) (read-goes s lastByte false next (more - 1) h (omega arith))
-              ∙ rw e (above-below value scale (getD s next 0 - 128) (readIn s lastByte (more - 1) false (next + 1)));
+              k .whole ∙ ap (λ (n : ℕ). putAbove value scale (readIn s (narrow .last) n false next)) i
+              ∙ ap (putAbove value scale) (read-goes s (narrow .last) false next (more - 1) h (omega arith))
+              ∙ rw e (above-below value scale (getD s next 0 - 128) (readIn s (narrow .last) (more - 1) false (next + 1)));
           fits = omega arith;
         }

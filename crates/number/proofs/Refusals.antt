@@ -1,5 +1,5 @@
 -- When each refusal comes: CUT and NUMBER are given exactly where document 01 says.
--- Each law is shown for any kind of number (last, more), and then for the 32-bit numbers of document 01.
+-- Each law is shown for numbers of any size, and then for reading at an offset.
 -- Assumes nothing.
 use mathlib.Core.Path.{_≡_, refl, sym, _∙_}
 use mathlib.Core.Logic.{_↔_, _⊎_, inl, inr, ⊎-elim}
@@ -12,7 +12,7 @@ use native.Mathlib.Decide.{decLt}
 use lib.ListN.{length, getD, List·getD-eq-default}
 use Rattle.number.specs.declared.Reading.{Reading}
 use Rattle.number.specs.declared.Reading.the-variants.{Value, Cut, Malformed}
-use Rattle.number.specs.Number.{lastByte, moreBytes, readLast, putBelow, readIn, readAt, Tops, EndsEarly, EndsInZero, EndsAbove}
+use Rattle.number.specs.Number.{NumberSize, readLast, putBelow, readIn, readAt, Tops, EndsEarly, EndsInZero, EndsAbove}
 use Rattle.number.proofs.Ways.{never, value-or-cut, value-or-malformed, cut-or-malformed, LastWay, gives, refuses, last-way, last-zero, read-cut, FullWay, full-way, MoreWay, more-way}
 
 -- ---- bytes with the top bit
@@ -83,10 +83,10 @@ cut-when-in last (suc more) first s at = (
         q ∙ below-cut (getD s at 0 - 128) (readIn s last more false (at + 1)) .1
         (again (record { few = let f = k .few in omega arith; tops = tops-tail s at (length s) (k .tops) }))
 
--- For 32-bit numbers: if the bytes end after none to four, all with the top bit set.
-pub cut-when : (s : List ℕ) (at : ℕ) → (readAt s at ≡ Cut) ↔ EndsEarly moreBytes s at
+-- So it is where a number of a size begins.
+pub cut-when : (n : NumberSize) (s : List ℕ) (at : ℕ) → (readAt n s at ≡ Cut) ↔ EndsEarly (n .more) s at
 unfolding readAt
-cut-when s at = cut-when-in lastByte moreBytes true s at
+cut-when n s at = cut-when-in (n .last) (n .more) true s at
 
 -- ---- NUMBER
 
@@ -219,16 +219,17 @@ malformed-from last (suc more) first s at =
         (again (record { tops = tops-tail s at ((at + 1) + more) (rw step (k .tops)); byte = rw step (k .byte) }))
 
 -- Where a number begins, NUMBER is given exactly if a last byte is 00 after others, or a byte after `more` others is above `last`.
-pub malformed-when-in : (last more : ℕ) (s : List ℕ) (at : ℕ)
-    → (readIn s last more true at ≡ Malformed) ↔ (EndsInZero more s at ⊎ EndsAbove last more s at)
-malformed-when-in last more s at =
-    let m = malformed-from last more true s at in
+pub malformed-when : (n : NumberSize) (s : List ℕ) (at : ℕ)
+    → (readAt n s at ≡ Malformed) ↔ (EndsInZero (n .more) s at ⊎ EndsAbove (n .last) (n .more) s at)
+unfolding readAt
+malformed-when n s at =
+    let m = malformed-from (n .last) (n .more) true s at in
     (λ e. ⊎-elim (λ k. inl (there k)) inr (m .0 e), ⊎-elim (λ k. m .1 (inl (back k))) (λ k. m .1 (inr k)))
   where
-    there : ZeroEnd true more s at → EndsInZero more s at
+    there : ZeroEnd true (n .more) s at → EndsInZero (n .more) s at
     there k = record { place = k .place; others = k .others refl; within = k .within; inside = k .inside; tops = k .tops; byte = k .byte }
 
-    back : EndsInZero more s at → ZeroEnd true more s at
+    back : EndsInZero (n .more) s at → ZeroEnd true (n .more) s at
     back k =
         record {
           place = k .place;
@@ -239,8 +240,3 @@ malformed-when-in last more s at =
           tops = k .tops;
           byte = k .byte;
         }
-
--- For 32-bit numbers: if a last byte is 00 after others, or a fifth is above 0F.
-pub malformed-when : (s : List ℕ) (at : ℕ) → (readAt s at ≡ Malformed) ↔ (EndsInZero moreBytes s at ⊎ EndsAbove lastByte moreBytes s at)
-unfolding readAt
-malformed-when s at = malformed-when-in lastByte moreBytes s at

@@ -7,27 +7,27 @@ use native.Mathlib.Omega.{arith}
 use lib.ListN.{length, set, length-set}
 use Rattle.lists.specs.Stands.{Wrote}
 use Rattle.lists.proofs.Standing.{wrote-nil, wrote-cons}
-use Rattle.number.specs.Number.{lastByte, moreBytes, largest, formIn, form}
-use Rattle.number.proofs.Forms.{form-one, form-turn, form-some-in, low-32, small-32}
+use Rattle.number.specs.Number.{narrow, largestIn, formIn, form}
+use Rattle.number.proofs.Forms.{form-one, form-turn, form-some-in, small-narrow}
 
 -- ---- length_of
 
 -- The bytes counted so far and those of the rest are one more than all, and with the bytes that may still come they are five.
 pub record Counting (value rest count : ℕ) : Type 0 where
   pub left : ℕ
-  pub room : count + left ≡ suc moreBytes
-  pub small : rest ≤ largest lastByte left
+  pub room : count + left ≡ suc (narrow .more)
+  pub small : rest ≤ largestIn (narrow .last) left
   pub total : count + length (formIn left rest) ≡ suc (length (form value))
 
 -- Before the loop one byte is counted.
 pub count-starts : (value : ℕ) → value ≤ 4294967295 → Counting value value 1
 unfolding form
-count-starts value h = record { left = moreBytes; room = refl; small = small-32 h; total = omega arith }
+count-starts value h = record { left = (narrow .more); room = refl; small = small-narrow h; total = omega arith }
 
 -- A turn counts one byte with the top bit.
 pub count-turns : {value rest count : ℕ} → 128 ≤ rest → Counting value rest count → Counting value (rest / 128) (count + 1)
 count-turns {value} {rest} g k =
-    let t = form-turn lastByte low-32 (k .left) rest (k .small) g in
+    let t = form-turn (narrow .last) (narrow .low) (k .left) rest (k .small) g in
     record {
       left = t .less;
       room = let r = k .room in let i = t .is in omega arith;
@@ -44,7 +44,7 @@ count-ends {value} {rest} g k = let s = k .total in let b = ap length (form-one 
 -- The form of the rest fits at i, and once it is written there, the form of the whole number was written at its offset.
 pub record Writing (before : List ℕ) (at value : ℕ) (buffer : List ℕ) (rest i : ℕ) : Type 0 where
   pub left : ℕ
-  pub small : rest ≤ largest lastByte left
+  pub small : rest ≤ largestIn (narrow .last) left
   pub kept : length buffer ≡ length before
   pub fits : i + length (formIn left rest) ≤ length buffer
   pub joins : (next : ℕ) (after : List ℕ) → Wrote buffer i (formIn left rest) next after → Wrote before at (form value) next after
@@ -52,7 +52,7 @@ pub record Writing (before : List ℕ) (at value : ℕ) (buffer : List ℕ) (res
 -- Before the loop the whole form is to be written.
 pub write-starts : (before : List ℕ) (at value : ℕ) → value ≤ 4294967295 → at + length (form value) ≤ length before → Writing before at value before value at
 unfolding form
-write-starts before at value h g = record { left = moreBytes; small = small-32 h; kept = refl; fits = g; joins = λ next after w. w }
+write-starts before at value h g = record { left = (narrow .more); small = small-narrow h; kept = refl; fits = g; joins = λ next after w. w }
 
 -- The rest has a byte, and there is a place for it.
 pub write-room : {before : List ℕ} {at value : ℕ} {buffer : List ℕ} {rest i : ℕ} → Writing before at value buffer rest i → i < length buffer
@@ -62,7 +62,7 @@ write-room {rest = rest} k = let f = k .fits in omega (arith, form-some-in (k .l
 pub write-turns : {before : List ℕ} {at value : ℕ} {buffer : List ℕ} {rest i : ℕ} → 128 ≤ rest → Writing before at value buffer rest i
     → Writing before at value (set buffer i (128 + rest % 128)) (rest / 128) (i + 1)
 write-turns {before} {at} {value} {buffer} {rest} {i} g k =
-    let t = form-turn lastByte low-32 (k .left) rest (k .small) g in
+    let t = form-turn (narrow .last) (narrow .low) (k .left) rest (k .small) g in
     let b = ap length (t .bytes) in
     let f = k .fits in
     let n = length-set buffer i (128 + rest % 128) in

@@ -1,12 +1,10 @@
--- Numbers as bytes. Document 01, "Bytes".
--- A kind of number has at most `more` bytes with the top bit set and a last byte, which after `more` others is at most `last`:
--- (15, 4) is 32 bits in at most five bytes, and (1, 9) would be 64 bits in at most ten.
+-- Numbers as bytes, of any size. Document 01, "Bytes".
 -- Assumes nothing.
 use mathlib.Core.Path.{_≡_}
 use mathlib.Core.Bool.{Bool, true, false, cond}
 use mathlib.Core.List.{List, [], _∷_}
 use Prim.Native.Nat.{ℕ, zero, suc, _+_, _-_, _*_, _/_, _%_, _<_, _≤_}
-use lib.Dec.{leb, ltb, eqb}
+use lib.Dec.{lit<, leb, ltb, eqb}
 use lib.ListN.{length, getD}
 use Rattle.number.specs.declared.Reading.{Reading}
 use Rattle.number.specs.declared.Reading.the-variants.{Value, Cut, Malformed}
@@ -27,20 +25,26 @@ unfoldable pub valueOf : List ℕ → ℕ
 valueOf [] = 0
 valueOf (b ∷ l) = b % 128 + 128 * valueOf l
 
--- ---- "4294967295 takes five bytes."
+-- ---- how large a number may be
 
--- A 32-bit number has at most four bytes with the top bit set.
-abbrev pub moreBytes : ℕ
-moreBytes = 4
+-- The size of a number: at most `more` bytes with the top bit set, and a last byte, which after `more` others is at most `last`.
+pub record NumberSize : Type 0 where
+  pub last : ℕ
+  pub more : ℕ
+  pub low : last < 128
 
--- After four others its last byte is at most 0F.
-abbrev pub lastByte : ℕ
-lastByte = 15
+-- The largest number that has at most `more` bytes with the top bit set and after them a last byte of at most `last`.
+unfoldable pub largestIn : ℕ → ℕ → ℕ
+largestIn last zero = last
+largestIn last (suc more) = 127 + 128 * largestIn last more
 
--- The largest number of a kind.
-unfoldable pub largest : ℕ → ℕ → ℕ
-largest last zero = last
-largest last (suc more) = 127 + 128 * largest last more
+-- The largest number of a size.
+abbrev pub largest : NumberSize → ℕ
+largest n = largestIn (n .last) (n .more)
+
+-- "4294967295 takes five bytes": the size of a 32-bit number, with a fifth byte of at most 0F.
+abbrev pub narrow : NumberSize
+narrow = record { last = 15; more = 4; low = lit< tt }
 
 -- ---- "Only the shortest form is read: 180 is B4 01; B4 81 00 is refused."
 
@@ -51,7 +55,7 @@ formIn (suc more) v = cond (ltb v 128) (v ∷ []) ((128 + v % 128) ∷ formIn mo
 
 -- The form of a 32-bit number.
 unfoldable pub form : ℕ → List ℕ
-form v = formIn moreBytes v
+form v = formIn (narrow .more) v
 
 -- ---- "At most five bytes are read: a fifth above 0F, or a last byte 00 after others, is NUMBER; CUT is given only if the
 -- bytes end after none to four, all with the top bit set."
@@ -75,9 +79,9 @@ readIn s last (suc more) first at =
     cond (leb (length s) at) Cut
     (cond (ltb (getD s at 0) 128) (readLast first (getD s at 0) (at + 1)) (putBelow (getD s at 0 - 128) (readIn s last more false (at + 1))))
 
--- What reading a 32-bit number at an offset gives.
-unfoldable pub readAt : List ℕ → ℕ → Reading
-readAt s at = readIn s lastByte moreBytes true at
+-- What reading a number of a size at an offset gives.
+unfoldable pub readAt : NumberSize → List ℕ → ℕ → Reading
+readAt n s at = readIn s (n .last) (n .more) true at
 
 -- Every byte from one offset up to another has the top bit set.
 abbrev pub Tops : List ℕ → ℕ → ℕ → Type 0

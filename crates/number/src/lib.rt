@@ -3,7 +3,7 @@ ghost use mathlib.Core.Path.{_≡_};
 ghost use Prim.Native.Nat.{_+_, _≤_, _<_};
 ghost use lib.ListN.{length};
 ghost use Rattle.lists.specs.Stands.{Wrote};
-ghost use Rattle.number.specs.Number.{form, readAt};
+ghost use Rattle.number.specs.Number.{narrow, form, readAt};
 
 // A 32-bit number has at most four bytes with the top bit set.
 const MORE: u32 = 4;
@@ -28,7 +28,7 @@ fn widen(byte: u8) -> u32
 // The number at an offset, which may lie past the end. A number of one byte is given at once; of a longer one each further byte adds its
 // group, `scale` times, and at most `more` further bytes may have the top bit.
 pub fn read_at(bytes: &[u8], at: usize) -> Reading
-    ensures { λ r. ⌜ r ≡ readAt (now (bytes .entry)) at ⌝ }
+    ensures { λ r. ⌜ r ≡ readAt narrow (now (bytes .entry)) at ⌝ }
 {
     if bytes.len() <= at {
         return Reading::Cut;

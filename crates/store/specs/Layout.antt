@@ -89,3 +89,7 @@ pub record Shape (z : Store) : Type 0 where
 -- The fresh store of a plan.
 unfoldable pub freshStore : ℕ → Store
 freshStore plan = storeOf plan (fresh (planNumbered plan))
+
+-- "A refused fresh or load returns a fresh store of plan 1".
+abbrev pub refusedStore : Store
+refusedStore = freshStore 1

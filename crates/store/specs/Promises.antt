@@ -4,7 +4,7 @@ use mathlib.Core.Bool.{cond}
 use Prim.Native.Nat.{ℕ}
 use Rattle.store.specs.declared.Outcome.{Outcome}
 use Rattle.store.specs.Answers.{DONE, PLAN, bare}
-use Rattle.store.specs.Layout.{freshStore}
+use Rattle.store.specs.Layout.{freshStore, refusedStore}
 use Rattle.store.specs.StoreRules.{planNumberTest}
 
 -- "PLAN: plan not 1 to 3"; "A refused fresh .. returns a fresh store of plan 1."
@@ -12,7 +12,7 @@ unfoldable pub freshOutcome : ℕ → Outcome
 freshOutcome plan =
     cond (planNumberTest plan)
     (record { answer = bare DONE; store = freshStore plan })
-    (record { answer = bare PLAN; store = freshStore 1 })
+    (record { answer = bare PLAN; store = refusedStore })
 
 -- The outcome of a fresh: it is given no store.
 abbrev pub Freshens : ℕ → Outcome → Type 0

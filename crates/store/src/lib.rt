@@ -2,7 +2,9 @@
 ghost use mathlib.Core.Path.{_≡_};
 ghost use Rattle.store.specs.Answers.{answer, bare};
 ghost use Rattle.store.specs.Copies.{hasValue};
-ghost use Rattle.store.specs.Layout.{freshStore};
+ghost use lib.ListN.{replicate};
+ghost use Rattle.store.specs.Layout.{freshStore, refusedStore};
+ghost use Rattle.store.specs.State.{slotCount, idle};
 ghost use Rattle.store.specs.StoreRules.{planNumberTest};
 ghost use Rattle.store.specs.Promises.{Freshens};
 
@@ -75,6 +77,20 @@ impl Copy {
         ensures { λ r. ⌜ r ≡ hasValue kind ⌝ }
     {
         kind == Copy::RESULT
+    }
+}
+
+impl Slot {
+    // "all slots idle": an idle slot is all zero.
+    pub fn idle() -> Slot
+        ensures { λ r. ⌜ r ≡ idle ⌝ }
+    {
+        Slot {
+            running: 0,
+            key: 0,
+            node: 0,
+            visits: 0,
+        }
     }
 }
 
@@ -171,22 +187,24 @@ impl Store {
 
     pub const PLACES: usize = Store::NODES * Store::WIDTH;
 
+    // All slots idle.
+    pub fn idle_slots() -> [Slot; Store::SLOTS]
+        ensures { λ r. ⌜ r ≡ replicate slotCount idle ⌝ }
+    {
+        let idle = Slot::idle();
+        [idle; Store::SLOTS]
+    }
+
     // "Fresh: clock 1, nothing held, all slots idle."
     fn empty(plan: u32) -> Store
         ensures { λ r. ⌜ r ≡ freshStore plan ⌝ }
     {
-        let idle = Slot {
-            running: 0,
-            key: 0,
-            node: 0,
-            visits: 0,
-        };
         let counts = [0; Store::NODES];
         let keys = [0; Store::PLACES];
         let kinds = [0; Store::PLACES];
         let values = [0; Store::PLACES];
         let stamps = [0; Store::PLACES];
-        let slots = [idle; Store::SLOTS];
+        let slots = Store::idle_slots();
         Store {
             plan: plan,
             clock: 1,
@@ -197,6 +215,13 @@ impl Store {
             stamps: stamps,
             slots: slots,
         }
+    }
+
+    // "A refused fresh or load returns a fresh store of plan 1".
+    pub fn refused() -> Store
+        ensures { λ r. ⌜ r ≡ refusedStore ⌝ }
+    {
+        Store::empty(1)
     }
 
     // "plan 1 to 3"
@@ -221,7 +246,7 @@ impl Store {
         }
         Outcome {
             answer: Answer::bare(Answer::PLAN),
-            store: Store::empty(1),
+            store: Store::refused(),
         }
     }
 }

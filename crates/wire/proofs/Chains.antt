@@ -8,7 +8,7 @@ use Rattle.lists.specs.Stands.{Stands}
 use Rattle.lists.proofs.Truths.{not-both}
 use Rattle.number.specs.declared.Reading.{Reading}
 use Rattle.number.specs.declared.Reading.the-variants.{Value, Cut, Malformed}
-use Rattle.number.specs.Number.{Bytes, form, readAt}
+use Rattle.number.specs.Number.{Bytes, NumberSize, narrow, form, readAt}
 use Rattle.number.proofs.Readings.{read-back, read-stands, read-small}
 use Rattle.store.specs.Answers.{CUT, NUMBER}
 use Rattle.wire.specs.declared.Num.{Num}
@@ -115,14 +115,14 @@ faults-bind (got x next) f h k = k x next
 faults-bind (fault number at) f h k = faults-fault at (h .each number at refl)
 
 -- A number's faults are CUT and NUMBER.
-pub faults-number : {P : ℕ → Type 0} (s : List ℕ) (at : ℕ) → P CUT → P NUMBER → Faults P (numberAt s at)
+pub faults-number : {P : ℕ → Type 0} (n : NumberSize) (s : List ℕ) (at : ℕ) → P CUT → P NUMBER → Faults P (numberAt n s at)
 unfolding numberAt numbered
-faults-number {P} s at c n = go (readAt s at)
+faults-number {P} n s at c m = go (readAt n s at)
   where
     go : (r : Reading) → Faults P (numbered at r)
     go (Value v next) = faults-got v next
     go Cut = faults-fault at c
-    go Malformed = faults-fault at n
+    go Malformed = faults-fault at m
 
 -- ---- numbers
 
@@ -132,30 +132,30 @@ numbered-is at (Value w m) e = cc
 numbered-is at Cut e = absurd (got-or-fault e refl)
 numbered-is at Malformed e = absurd (got-or-fault e refl)
 
-value-of : (s : List ℕ) (at : ℕ) {v next : ℕ} → numberAt s at ≡ got v next → readAt s at ≡ Value v next
+value-of : (n : NumberSize) (s : List ℕ) (at : ℕ) {v next : ℕ} → numberAt n s at ≡ got v next → readAt n s at ≡ Value v next
 unfolding numberAt
-value-of s at e = numbered-is at (readAt s at) e
+value-of n s at e = numbered-is at (readAt n s at) e
 
--- Where the form of a number stands, it is read back, whatever follows.
-pub number-back : {s : List ℕ} {at v next : ℕ} → v ≤ 4294967295 → Stands s at (form v) next → numberAt s at ≡ got v next
+-- Where the form of a 32-bit number stands, it is read back, whatever follows.
+pub number-back : {s : List ℕ} {at v next : ℕ} → v ≤ 4294967295 → Stands s at (form v) next → numberAt narrow s at ≡ got v next
 unfolding numberAt numbered
 number-back {at = at} h k = ap (numbered at) (read-back h k)
 
--- What a number that is read says: its form stands there, and it has 32 bits.
+-- What a 32-bit number that is read says: its form stands there, and it has 32 bits.
 pub record NumberStands (s : List ℕ) (at v next : ℕ) : Type 0 where
   pub stands : Stands s at (form v) next
   pub small : v ≤ 4294967295
 
-pub number-gives : (s : List ℕ) → Bytes s → (at : ℕ) → Gives (NumberStands s at) (numberAt s at)
+pub number-gives : (s : List ℕ) → Bytes s → (at : ℕ) → Gives (NumberStands s at) (numberAt narrow s at)
 number-gives s bytes at =
     record {
-      each = λ v next e. record { stands = read-stands s at bytes (value-of s at e); small = read-small s at bytes (value-of s at e) };
+      each = λ v next e. record { stands = read-stands s at bytes (value-of narrow s at e); small = read-small s at bytes (value-of narrow s at e) };
     }
 
 -- What a reading hands back is told as the declared record.
-pub told : (s : List ℕ) (at : ℕ) {r q : Reading} → q ≡ readAt s at → q ≡ r → numOf (numbered at r) ≡ numOf (numberAt s at)
+pub told : (n : NumberSize) (s : List ℕ) (at : ℕ) {r q : Reading} → q ≡ readAt n s at → q ≡ r → numOf (numbered at r) ≡ numOf (numberAt n s at)
 unfolding numberAt
-told s at e q = ap (λ (x : Reading). numOf (numbered at x)) (sym q ∙ e)
+told n s at e q = ap (λ (x : Reading). numOf (numbered at x)) (sym q ∙ e)
 
 -- What the declared record says of what was read.
 pub num-got : (g : Got ℕ) {r : Num} → r ≡ numOf g → r .ok ≡ true → g ≡ got (r .value) (r .at)

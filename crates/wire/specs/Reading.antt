@@ -1,10 +1,10 @@
 -- Reading numbers from the left, one after another: the first fault wins. Document 01, "Bytes".
-use mathlib.Core.Bool.{true, false}
+use mathlib.Core.Bool.{Bool, true, false, cond}
 use mathlib.Core.List.{List}
 use Prim.Native.Nat.{ℕ}
 use Rattle.number.specs.declared.Reading.{Reading}
 use Rattle.number.specs.declared.Reading.the-variants.{Value, Cut, Malformed}
-use Rattle.number.specs.Number.{readAt}
+use Rattle.number.specs.Number.{NumberSize, readAt}
 use Rattle.store.specs.Answers.{CUT, NUMBER}
 use Rattle.wire.specs.declared.Num.{Num}
 
@@ -24,9 +24,13 @@ numbered at (Value v next) = got v next
 numbered at Cut = fault CUT at
 numbered at Malformed = fault NUMBER at
 
--- The number at an offset.
-unfoldable pub numberAt : List ℕ → ℕ → Got ℕ
-numberAt s at = numbered at (readAt s at)
+-- The number of a size at an offset.
+unfoldable pub numberAt : NumberSize → List ℕ → ℕ → Got ℕ
+numberAt n s at = numbered at (readAt n s at)
+
+-- A check on what was just read, or the fault.
+abbrev pub checked : {A : Type 0} → Bool → ℕ → ℕ → Got A → Got A
+checked test number at rest = cond test rest (fault number at)
 
 -- What was read, as the declared record: the number and the offset after it, or the fault and its offset.
 unfoldable pub numOf : Got ℕ → Num

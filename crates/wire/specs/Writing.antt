@@ -1,9 +1,12 @@
 -- Bytes into a lent buffer. Document 01, "Answer numbers": SMALL; "Buffers keep their bytes beyond those written."
 use mathlib.Core.Bool.{cond}
 use mathlib.Core.List.{List, _++_}
-use Prim.Native.Nat.{ℕ}
+use Prim.Native.Nat.{ℕ, _+_, _≤_}
 use lib.Dec.{ltb}
 use lib.ListN.{length, drop}
+use denote.Ref.{RefT}
+use denote.Triple.Both.{Both}
+use Rattle.lists.specs.Stands.{Wrote}
 use Rattle.store.specs.declared.Answer.{Answer}
 use Rattle.store.specs.Answers.{DONE, SMALL, answer}
 
@@ -15,3 +18,15 @@ writtenAnswer bytes before =
 -- The buffer after it: as it was if it is too short, else the bytes and what lay beyond them.
 unfoldable pub writtenBuffer : List ℕ → List ℕ → List ℕ
 writtenBuffer bytes before = cond (ltb (length before) (length bytes)) before (bytes ++ drop (length bytes) before)
+
+-- A list that is lent: as it is at a function's entry, and at its exit.
+abbrev pub Lent : Type 0
+Lent = Both (RefT (List ℕ)) (RefT (List ℕ))
+
+-- A lent buffer has room for the bytes at an offset.
+abbrev pub HasRoom : RefT (List ℕ) → ℕ → List ℕ → Type 0
+HasRoom buffer at bytes = at + length bytes ≤ length (buffer .now)
+
+-- A function that is lent the buffer puts the bytes there, and goes on at `next`.
+abbrev pub Puts : Lent → ℕ → List ℕ → ℕ → Type 0
+Puts buffer at bytes next = Wrote (buffer .entry .now) at bytes next (buffer .exit .now)

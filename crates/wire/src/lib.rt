@@ -1,5 +1,6 @@
 // Numbers read one after another, where the first fault wins. What a lent buffer holds after a call is defined in specs/Writing.antt.
 ghost use mathlib.Core.Path.{_≡_};
+ghost use Rattle.number.specs.Number.{narrow};
 ghost use Rattle.wire.specs.Reading.{numberAt, numOf};
 use number::Reading;
 use store::Answer;
@@ -12,9 +13,9 @@ pub struct Num {
     pub value: u32,
 }
 
-// The number at an offset, or CUT or NUMBER with that offset.
+// The 32-bit number at an offset, or CUT or NUMBER with that offset.
 pub fn read_number(bytes: &[u8], at: usize) -> Num
-    ensures { λ r. ⌜ r ≡ numOf (numberAt (now (bytes .entry)) at) ⌝ }
+    ensures { λ r. ⌜ r ≡ numOf (numberAt narrow (now (bytes .entry)) at) ⌝ }
 {
     let reading = number::read_at(bytes, at);
     match reading {

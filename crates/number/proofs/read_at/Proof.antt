@@ -6,7 +6,7 @@ use Prim.Native.Nat.{_+_, _-_, _*_, _<_, _≤_}
 use native.Mathlib.Omega.{arith}
 use borrow.Author.Needs.{needs}
 use borrow.Author.Tests.{ltb-true, ltb-false}
-use Rattle.number.specs.Number.{lastByte, largest}
+use Rattle.number.specs.Number.{narrow, largestIn}
 use Rattle.number.proofs.Reader.{first-cut, first-ends, Going, go-starts, go-fits, go-cut, go-zero, go-above, go-ends, go-turns}
 use Rattle.number.proofs.Reader.{last-within, more-within}
 use Rattle.number.proofs.read_at.Statement.{statement}
@@ -65,12 +65,12 @@ returns-4 c =
     go-above (l .before .loop .inv) (w .widen2 .ensures) (l .loop-test .taken) (c .before .if4 .taken) (omega (arith, ltb-true))
 
 -- Past the two tests a byte that must be the last is at most 0F.
-allowed : (j : tie.Joined4 Inv-loop μ-loop) → let w = j .before .before in w .before .before .before .loop .more ≡ 0 → w .widen2 .result ≤ lastByte
+allowed : (j : tie.Joined4 Inv-loop μ-loop) → let w = j .before .before in w .before .before .before .loop .more ≡ 0 → w .widen2 .result ≤ narrow .last
 allowed j z = ⊎-elim (λ w. omega (arith, ltb-false)) (λ w. absurd (w .left z)) (j .if4 .came)
 
 -- A last byte is within what may come.
 within : (c : tie.Then6 Inv-loop μ-loop) → let w = c .before .before .before in
-    w .widen2 .result ≤ largest lastByte (w .before .before .before .loop .more)
+    w .widen2 .result ≤ largestIn (narrow .last) (w .before .before .before .loop .more)
 within c = last-within _ _ (c .if6 .taken) (allowed (c .before))
 
 mul-t20 : tie.Need-mul-t20 Inv-loop μ-loop

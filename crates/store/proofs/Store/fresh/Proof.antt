@@ -22,13 +22,13 @@ returns c =
 bare-requires-2 : tie.Need-bare-requires-2
 bare-requires-2 c κs = search needs
 
-empty-requires-2 : tie.Need-empty-requires-2
-empty-requires-2 c κs = search needs
+refused-requires : tie.Need-refused-requires
+refused-requires c κs = search needs
 
 returns-2 : tie.Need-returns-2
 returns-2 c =
     let p = c .before .before .before in
-    fresh-refused (p .before .args .plan) (c .before .bare2 .result) (c .empty2 .result) (sym (p .is-plan .ensures) ∙ c .before .before .if1 .left) (c .before .bare2 .ensures) (c .empty2 .ensures)
+    fresh-refused (p .before .args .plan) (c .before .bare2 .result) (c .refused .result) (sym (p .is-plan .ensures) ∙ c .before .before .if1 .left) (c .before .bare2 .ensures) (c .refused .ensures)
 
 pub fresh-spec : {M : Type 1} → statement M
 fresh-spec =
@@ -39,5 +39,5 @@ fresh-spec =
     empty-requires
     returns
     bare-requires-2
-    empty-requires-2
+    refused-requires
     returns-2)

@@ -1,0 +1,4 @@
+pub mod CopyLengths
+pub mod CopyWriting
+pub mod CopyReading
+pub mod CopyTrips

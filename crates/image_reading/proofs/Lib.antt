@@ -1,0 +1,3 @@
+pub mod HeadWays
+pub mod NodeWays
+pub mod ReadWays

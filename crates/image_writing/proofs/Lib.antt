@@ -1,0 +1,2 @@
+pub mod ImageLengths
+pub mod WriteWays
