@@ -1,3 +1,4 @@
+pub mod WhichPlan
 pub mod Laying
 pub mod RulingLists
 pub mod RulingLines

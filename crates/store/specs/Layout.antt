@@ -43,7 +43,7 @@ abbrev pub nodeOf : Store → ℕ → List Copy
 nodeOf z n = nodeIn (z .counts) (z .keys) (z .kinds) (z .values) (z .stamps) n
 
 -- Which plan a store has: that of its number.
-abbrev pub planOf : Store → Plan
+unfoldable pub planOf : Store → Plan
 planOf z = planNumbered (z .plan)
 
 -- The state that these parts hold, of so many nodes.

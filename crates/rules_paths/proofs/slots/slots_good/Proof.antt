@@ -1,4 +1,4 @@
--- `rules_paths::searches::slots_good` meets its contract. The loop's invariant: all slots pass if those from i on do. The measure is their number.
+-- `rules_paths::slots::slots_good` meets its contract. The loop's invariant: all slots pass if those from i on do. The measure is their number.
 -- Assumes nothing.
 use mathlib.Core.Path.{_≡_, refl, sym, _∙_}
 use mathlib.Core.Bool.{Bool}
@@ -10,26 +10,29 @@ use borrow.Author.Needs.{needs}
 use borrow.Author.Tests.{not-true, not-false}
 use Rattle.lists.specs.Runs.{allFrom, allBelow}
 use Rattle.lists.proofs.Running.{all-stop, all-turn, all-end}
-use Rattle.plan.specs.PlanTable.{planNumbered}
+use Rattle.plan.specs.Plan.{Plan}
+use Rattle.plan.specs.PlanArrays.{RowsOf}
 use Rattle.store.specs.declared.Slot.{Slot}
 use Rattle.store.specs.State.{slotCount, idle}
 use Rattle.store.specs.StoreRules.{slotTest}
-use Rattle.rules_paths.proofs.searches.slots_good.Statement.{statement}
-use Rattle.rules_paths.proofs.searches.slots_good.Tie as tie
+use Rattle.rules_paths.proofs.slots.slots_good.Statement.{statement}
+use Rattle.rules_paths.proofs.slots.slots_good.Tie as tie
 
 -- The test of each slot.
-abbrev eachSlot : ℕ → List Slot → ℕ → Bool
-eachSlot plan slots i = slotTest (planNumbered plan) (getD slots i idle)
+abbrev eachSlot : Plan → List Slot → ℕ → Bool
+eachSlot p slots i = slotTest p (getD slots i idle)
 
 abbrev Inv-loop : tie.InvT-loop
-Inv-loop plan edges lows highs targets slots i₀ i =
-    (i ≤ slotCount) × (allBelow slotCount (eachSlot plan slots) ≡ allFrom i (slotCount - i) (eachSlot plan slots))
+Inv-loop nodes edges lows highs targets slots i₀ i =
+    (i ≤ slotCount)
+    × ((p : Plan) → RowsOf p nodes edges lows highs targets
+    → allBelow slotCount (eachSlot p slots) ≡ allFrom i (slotCount - i) (eachSlot p slots))
 
 abbrev μ-loop : tie.MeasureT-loop
-μ-loop plan edges lows highs targets slots i₀ i = slotCount - i
+μ-loop nodes edges lows highs targets slots i₀ i = slotCount - i
 
 loop-holds : tie.Need-loop-holds Inv-loop μ-loop
-loop-holds c = (search needs, refl)
+loop-holds c = (search needs, λ p rows. refl)
 
 mul-slot-good : tie.Need-mul-slot-good Inv-loop μ-loop
 mul-slot-good c = search needs
@@ -43,8 +46,7 @@ slot-good-requires c κs = search needs
 returns : tie.Need-returns Inv-loop μ-loop
 returns c =
     let l = c .before .before .before .before in
-    let f = eachSlot (l .before .args .plan) (l .before .args .t6) in
-    sym (l .loop .inv .1 ∙ all-stop f (l .loop .i) slotCount (omega arith) (sym (c .before .slot-good .ensures) ∙ not-true (c .before .slot-good .result) (c .if1 .taken)))
+    λ p rows. sym (l .loop .inv .1 p rows ∙ all-stop (eachSlot p (l .before .args .t6)) (l .loop .i) slotCount (omega arith) (sym (c .before .slot-good .ensures p rows) ∙ not-true (c .before .slot-good .result) (c .if1 .taken)))
 
 add-i : tie.Need-add-i Inv-loop μ-loop
 add-i c = search needs
@@ -55,13 +57,12 @@ loop-less c = search needs
 loop-again : tie.Need-loop-again Inv-loop μ-loop
 loop-again c =
     let l = c .before .before .before .before in
-    let f = eachSlot (l .before .args .plan) (l .before .args .t6) in
-    (omega arith, l .loop .inv .1 ∙ all-turn f (l .loop .i) slotCount (omega arith) (sym (c .before .slot-good .ensures) ∙ not-false (c .before .slot-good .result) (c .if1 .left)))
+    (omega arith, λ p rows. l .loop .inv .1 p rows ∙ all-turn (eachSlot p (l .before .args .t6)) (l .loop .i) slotCount (omega arith) (sym (c .before .slot-good .ensures p rows) ∙ not-false (c .before .slot-good .result) (c .if1 .left)))
 
 returns-2 : tie.Need-returns-2 Inv-loop μ-loop
 returns-2 c =
     let l = c .before in
-    sym (l .loop .inv .1 ∙ all-end (eachSlot (l .before .args .plan) (l .before .args .t6)) (l .loop .i) slotCount (omega arith))
+    λ p rows. sym (l .loop .inv .1 p rows ∙ all-end (eachSlot p (l .before .args .t6)) (l .loop .i) slotCount (omega arith))
 
 pub slots-good-spec : {M : Type 1} → statement M
 slots-good-spec =

@@ -2,10 +2,9 @@
 ghost use mathlib.Core.Path.{_≡_};
 ghost use mathlib.Core.Bool.{_&&_};
 ghost use lib.Dec.{eqb};
-ghost use Rattle.plan.specs.PlanTable.{planNumbered};
+ghost use Rattle.plan.specs.PlanArrays.{EachPlan};
 ghost use Rattle.store.specs.StoreRules.{slotTest};
 ghost use Rattle.rules_paths.specs.Workers.{slotsTest};
-ghost use Rattle.plan.specs.PlanArrays.{ArraysOf};
 use crate::paths;
 use store::Slot;
 use store::Store;
@@ -25,15 +24,14 @@ fn rests(slot: Slot) -> bool
 
 // One slot: idle, or "a running search stands on its key's path, its visits equal to the path nodes above it".
 fn slot_good<'a>(
-    plan: u32,
+    nodes: u32,
     edges: &'a [u32; plan::MOST_NODES],
     lows: &'a [[u32; plan::MOST_EDGES]; plan::MOST_NODES],
     highs: &'a [[u32; plan::MOST_EDGES]; plan::MOST_NODES],
     targets: &'a [[u32; plan::MOST_EDGES]; plan::MOST_NODES],
     slot: Slot,
 ) -> bool
-    requires { ⌜ ArraysOf plan (now edges) (now lows) (now highs) (now targets) ⌝ }
-    ensures { λ r. ⌜ r ≡ slotTest (planNumbered plan) slot ⌝ }
+    ensures { λ r. ⌜ EachPlan nodes edges lows highs targets (λ p. r ≡ slotTest p slot) ⌝ }
 {
     if slot.running == 0 {
         return rests(slot);
@@ -42,7 +40,7 @@ fn slot_good<'a>(
         return false;
     }
     paths::stands_at(
-        plan,
+        nodes,
         edges,
         lows,
         highs,
@@ -55,19 +53,18 @@ fn slot_good<'a>(
 
 // All slots.
 pub fn slots_good<'a>(
-    plan: u32,
+    nodes: u32,
     edges: &'a [u32; plan::MOST_NODES],
     lows: &'a [[u32; plan::MOST_EDGES]; plan::MOST_NODES],
     highs: &'a [[u32; plan::MOST_EDGES]; plan::MOST_NODES],
     targets: &'a [[u32; plan::MOST_EDGES]; plan::MOST_NODES],
     slots: [Slot; Store::SLOTS],
 ) -> bool
-    requires { ⌜ ArraysOf plan (now edges) (now lows) (now highs) (now targets) ⌝ }
-    ensures { λ r. ⌜ r ≡ slotsTest plan slots ⌝ }
+    ensures { λ r. ⌜ EachPlan nodes edges lows highs targets (λ p. r ≡ slotsTest p slots) ⌝ }
 {
     let mut i = 0;
     while i < Store::SLOTS {
-        if !slot_good(plan, edges, lows, highs, targets, slots[i]) {
+        if !slot_good(nodes, edges, lows, highs, targets, slots[i]) {
             return false;
         }
         i += 1;
