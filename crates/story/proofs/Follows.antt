@@ -11,7 +11,7 @@ use lib.ListN.{getD}
 use Rattle.lists.proofs.Truths.{bool?, not-both, and-right, both-le}
 use Rattle.lists.proofs.Options.{option?, not-none-and-some, one-some}
 use Rattle.plan.specs.Plan.{Plan}
-use Rattle.plan.specs.PlanTable.{planNumbered, plans}
+use Rattle.plan.specs.PlanTable.{plans}
 use Rattle.plan.proofs.TableLaws.{plans-three}
 use Rattle.store.specs.declared.Outcome.{Outcome}
 use Rattle.store.specs.declared.Store.{Store}
@@ -295,7 +295,7 @@ effect-keeps e p rules s good = event-keeps p rules e s good
 module _ (e : Event) (z : Store) where
   pub event-keeps-plan : planOf (onEvent e z .store) ≡ planOf z
   unfolding onEvent
-  event-keeps-plan = ap planNumbered (plan-stays (λ p s. effect p e s) z)
+  event-keeps-plan = plan-stays (λ p s. effect p e s) z
 
   pub event-on-bad : goodStore z ≡ false → onEvent e z .store ≡ z
   unfolding onEvent
