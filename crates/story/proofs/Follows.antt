@@ -4,7 +4,7 @@ use mathlib.Core.Bool.{Bool, true, false, cond, not, _&&_}
 use mathlib.Core.Logic.{_⊎_, inl, inr}
 use mathlib.Core.List.{List, [], _∷_, _++_}
 use mathlib.Core.Option.{Option, none, some}
-use Prim.Native.Nat.{ℕ}
+use Prim.Native.Nat.{ℕ, _≤_}
 use native.Mathlib.Omega.{arith}
 use lib.Dec.{eqb}
 use lib.ListN.{getD}
@@ -18,11 +18,11 @@ use Rattle.store.specs.declared.Store.{Store}
 use Rattle.store.specs.Copies.{isSome}
 use Rattle.store.specs.Copies.Kind.{withdrawn, result}
 use Rattle.store.specs.State.{State}
-use Rattle.store.specs.Layout.{planOf, stateOf}
+use Rattle.store.specs.Layout.{planOf, stateOf, freshStore}
 use Rattle.store.specs.StoreRules.{planNumberTest, goodStore}
 use Rattle.store.specs.Calls.{Effect, onStore}
 use Rattle.store.specs.Promises.{freshOutcome}
-use Rattle.store.proofs.Lifting.{same-call, Keeps, on-bad, on-good, plan-stays, store-stays, on-keeps, state-agrees, fresh-good}
+use Rattle.store.proofs.Lifting.{same-call, Keeps, on-bad, on-good, number-stays, plan-stays, store-stays, on-keeps, state-agrees, fresh-good}
 use Rattle.schedule.specs.declared.Step.{Step}
 use Rattle.schedule.specs.Schedule.{ENTER, WITHDRAW, CARRY, START, STEP, CANCEL}
 use Rattle.schedule.specs.Running.{noStep, unknownStep, stepOf, runOutcome}
@@ -103,30 +103,14 @@ run-event z list place = go (run-way z list place)
     go (inl e) = ap (λ (o : Outcome). o .store) e
     go (inr w) = w .1 ∙ sym (ap (λ (e : Event). onEvent e z .store) (w .0) ∙ asks-nothing z)
 
--- Every outcome of fresh has a good store, a refused one too.
-fresh-outcome-good : (plan : ℕ) → goodStore (freshOutcome plan .store) ≡ true
+-- Every outcome of fresh, a refused one too, has the fresh store of a plan of the table.
+fresh-outcome : (plan : ℕ) (P : Store → Type 0) → ((n : ℕ) → 1 ≤ n → n ≤ plans → P (freshStore n)) → P (freshOutcome plan .store)
 unfolding freshOutcome planNumberTest
-fresh-outcome-good plan = go (bool? (planNumberTest plan))
+fresh-outcome plan P f = go (bool? (planNumberTest plan))
   where
-    go : (planNumberTest plan ≡ true) ⊎ (planNumberTest plan ≡ false) → goodStore (freshOutcome plan .store) ≡ true
-    go (inl t) = let w = both-le 1 plan plan plans t in rw t (fresh-good plan (w .0) (w .1))
-    go (inr t) = rw t (fresh-good 1 (omega arith) (omega (arith, plans-three)))
-
-fresh-outcome-idle : (plan : ℕ) → AllIdle (freshOutcome plan .store)
-unfolding freshOutcome
-fresh-outcome-idle plan = go (bool? (planNumberTest plan))
-  where
-    go : (planNumberTest plan ≡ true) ⊎ (planNumberTest plan ≡ false) → AllIdle (freshOutcome plan .store)
-    go (inl t) = rw t (fresh-idle plan .all-idle)
-    go (inr t) = rw t (fresh-idle 1 .all-idle)
-
-fresh-outcome-declared : (plan : ℕ) → Declared (freshOutcome plan .store)
-unfolding freshOutcome
-fresh-outcome-declared plan = go (bool? (planNumberTest plan))
-  where
-    go : (planNumberTest plan ≡ true) ⊎ (planNumberTest plan ≡ false) → Declared (freshOutcome plan .store)
-    go (inl t) = rw t (fresh-idle plan .declared)
-    go (inr t) = rw t (fresh-idle 1 .declared)
+    go : (planNumberTest plan ≡ true) ⊎ (planNumberTest plan ≡ false) → P (freshOutcome plan .store)
+    go (inl t) = let w = both-le 1 plan plan plans t in rw t (f plan (w .0) (w .1))
+    go (inr t) = rw t (f 1 (omega arith) (omega (arith, plans-three)))
 
 -- A call is its event on the store, of any store; or it is a fresh or a load, and gives an outcome of its own.
 pub record OwnOutcome (c : Call) : Type 0 where
@@ -165,9 +149,9 @@ call-way (fresh plan) =
       is = refl;
       leaves = λ z. refl;
       answers = λ z. refl;
-      good = fresh-outcome-good plan;
-      idles = fresh-outcome-idle plan;
-      declared = λ d. fresh-outcome-declared plan;
+      good = fresh-outcome plan (λ (y : Store). goodStore y ≡ true) fresh-good;
+      idles = fresh-outcome plan AllIdle (λ n low high. fresh-idle n .all-idle);
+      declared = λ d. fresh-outcome plan Declared (λ n low high. fresh-idle n .declared);
       else-nothing = refl;
     })
 call-way (load bytes) =
@@ -293,6 +277,10 @@ effect-keeps : (e : Event) → Keeps (λ p s. effect p e s)
 effect-keeps e p rules s good = event-keeps p rules e s good
 
 module _ (e : Event) (z : Store) where
+  event-keeps-number : onEvent e z .store .plan ≡ z .plan
+  unfolding onEvent
+  event-keeps-number = number-stays (λ p s. effect p e s) z
+
   pub event-keeps-plan : planOf (onEvent e z .store) ≡ planOf z
   unfolding onEvent
   event-keeps-plan = plan-stays (λ p s. effect p e s) z
@@ -343,8 +331,9 @@ unfolding storeAfterAll
 after-append [] ds z = refl
 after-append (c ∷ cs) ds z = after-append cs ds (storeAfter c z)
 
--- Over a sequence in which the store is not replaced, its state follows the events, and its plan stays.
+-- Over a sequence in which the store is not replaced, its state follows the events, and its plan stays, by number too.
 pub record FollowsEvents (cs : List Call) (z : Store) : Type 0 where
+  pub number : storeAfterAll cs z .plan ≡ z .plan
   pub plan : planOf (storeAfterAll cs z) ≡ planOf z
   pub state : stateOf (storeAfterAll cs z) ≡ stateAfterAll (planOf z) (eventsOf cs) (stateOf z)
 
@@ -363,7 +352,7 @@ rest-stays c cs t = and-right (not (isSome (replacement c))) (sameStore cs) t
 
 pub follows-events : (cs : List Call) (z : Store) → goodStore z ≡ true → sameStore cs ≡ true → FollowsEvents cs z
 unfolding storeAfterAll eventsOf stateAfterAll
-follows-events [] z good t = record { plan = refl; state = refl }
+follows-events [] z good t = record { number = refl; plan = refl; state = refl }
 follows-events (c ∷ cs) z good t =
     let is : storeAfter c z ≡ onEvent (eventOf c) z .store = event-on c z (first-stays c cs t) in
     let plan : planOf (storeAfter c z) ≡ planOf z = ap (λ (y : Store). planOf y) is ∙ event-keeps-plan (eventOf c) z in
@@ -371,6 +360,7 @@ follows-events (c ∷ cs) z good t =
     ap stateOf is ∙ event-state (eventOf c) z good in
     let again = follows-events cs (storeAfter c z) (call-keeps-good c z good) (rest-stays c cs t) in
     record {
+      number = again .number ∙ ap (λ (y : Store). y .plan) is ∙ event-keeps-number (eventOf c) z;
       plan = again .plan ∙ plan;
       state = again .state ∙ rw (state, plan);
     }
