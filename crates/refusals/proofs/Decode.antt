@@ -28,7 +28,7 @@ use Rattle.refusals.proofs.Reading.{After, first-fault, same-fault, num
 
 module _ (s : List ℕ) where
   steps-fault : (most from number at : ℕ) → (stepsAt s most from ≡ fault number at) ↔ StepsStop s most from number at
-  unfolding stepsAt
+  unfolding stepsAt GoodSteps
   steps-fault zero from number at = (λ e. there (bool? (leb (length s) from)) e, λ h. back h)
     where
       there : (leb (length s) from ≡ true) ⊎ (leb (length s) from ≡ false) → cond {A = Got (List Step)} (leb (length s) from) (got [] from) (fault MANY from) ≡ fault number at

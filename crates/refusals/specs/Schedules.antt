@@ -16,7 +16,7 @@ abbrev pub scheduleFaults : List ℕ
 scheduleFaults = CUT ∷ NUMBER ∷ PLAN ∷ OP ∷ MANY ∷ []
 
 -- So many good steps stand from one offset up to another.
-abbrev pub GoodSteps : List ℕ → ℕ → ℕ → ℕ → Type 0
+unfoldable pub GoodSteps : List ℕ → ℕ → ℕ → ℕ → Type 0
 GoodSteps s zero from end = from ≡ end
 GoodSteps s (suc n) from end = (x : Step) × (next : ℕ) × (from < length s) × (stepAt s from ≡ got x next) × GoodSteps s n next end
 

@@ -15,9 +15,10 @@ use Rattle.plan.specs.PlanTable.{planNumbered, plans}
 use Rattle.store.specs.declared.Copy.{Copy}
 use Rattle.store.specs.declared.Store.{Store}
 use Rattle.store.specs.State.{lastClock, fresh}
-use Rattle.store.specs.Layout.{planOf, stateOf, storeOf, freshStore}
+use Rattle.store.specs.Layout.{planOf, stateOf, freshStore}
 use Rattle.store.specs.StoreRules.{planNumberTest, goodStore}
 use Rattle.store.specs.Promises.{freshOutcome}
+use Rattle.store.proofs.WhichPlan.{plan-back}
 use Rattle.store.proofs.Lifting.{plan-good, state-good, fresh-back, fresh-good}
 use Rattle.steps.specs.Carries.{bit}
 use Rattle.theory.specs.Events.{Event, entryOf, optionList, held, ofLine, copiesOf, carried, worth, rounds}
@@ -151,7 +152,7 @@ from-fresh plan low high k v r h =
     let es = rounds p k v r in
     let good = fresh-good plan low high in
     let w = reached p (plan-good (freshStore plan) good) k v r h in
-    let its : planOf (freshStore plan) ≡ planNumbered plan = unfold freshStore storeOf in refl in
+    let its : p ≡ planNumbered plan = unfold freshStore in plan-back plan (fresh (planNumbered plan)) in
     let begins : stateOf (freshStore plan) ≡ fresh p = fresh-back plan low high ∙ ap fresh (sym its) in (
       ap (copiesOf k) (same-history (callsOf es) (freshStore plan) good (calls-stay es) [])
           ∙ (rw (begins, events-back es) (copies-entered p k es (fresh p)) ∙ w .0),

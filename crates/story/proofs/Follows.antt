@@ -11,7 +11,7 @@ use lib.ListN.{getD}
 use Rattle.lists.proofs.Truths.{bool?, not-both, and-right, both-le}
 use Rattle.lists.proofs.Options.{option?, not-none-and-some, one-some}
 use Rattle.plan.specs.Plan.{Plan}
-use Rattle.plan.specs.PlanTable.{planNumbered, plans}
+use Rattle.plan.specs.PlanTable.{plans}
 use Rattle.plan.proofs.TableLaws.{plans-three}
 use Rattle.store.specs.declared.Outcome.{Outcome}
 use Rattle.store.specs.declared.Store.{Store}
@@ -22,7 +22,7 @@ use Rattle.store.specs.Layout.{planOf, stateOf, freshStore}
 use Rattle.store.specs.StoreRules.{planNumberTest, goodStore}
 use Rattle.store.specs.Calls.{Effect, onStore}
 use Rattle.store.specs.Promises.{freshOutcome}
-use Rattle.store.proofs.Lifting.{same-call, Keeps, on-bad, on-good, plan-stays, store-stays, on-keeps, state-agrees, fresh-good}
+use Rattle.store.proofs.Lifting.{same-call, Keeps, on-bad, on-good, number-stays, plan-stays, store-stays, on-keeps, state-agrees, fresh-good}
 use Rattle.schedule.specs.declared.Step.{Step}
 use Rattle.schedule.specs.Schedule.{ENTER, WITHDRAW, CARRY, START, STEP, CANCEL}
 use Rattle.schedule.specs.Running.{noStep, unknownStep, stepOf, runOutcome}
@@ -277,9 +277,13 @@ effect-keeps : (e : Event) → Keeps (λ p s. effect p e s)
 effect-keeps e p rules s good = event-keeps p rules e s good
 
 module _ (e : Event) (z : Store) where
+  event-keeps-number : onEvent e z .store .plan ≡ z .plan
+  unfolding onEvent
+  event-keeps-number = number-stays (λ p s. effect p e s) z
+
   pub event-keeps-plan : planOf (onEvent e z .store) ≡ planOf z
   unfolding onEvent
-  event-keeps-plan = ap planNumbered (plan-stays (λ p s. effect p e s) z)
+  event-keeps-plan = plan-stays (λ p s. effect p e s) z
 
   pub event-on-bad : goodStore z ≡ false → onEvent e z .store ≡ z
   unfolding onEvent
@@ -327,8 +331,9 @@ unfolding storeAfterAll
 after-append [] ds z = refl
 after-append (c ∷ cs) ds z = after-append cs ds (storeAfter c z)
 
--- Over a sequence in which the store is not replaced, its state follows the events, and its plan stays.
+-- Over a sequence in which the store is not replaced, its state follows the events, and its plan stays, by number too.
 pub record FollowsEvents (cs : List Call) (z : Store) : Type 0 where
+  pub number : storeAfterAll cs z .plan ≡ z .plan
   pub plan : planOf (storeAfterAll cs z) ≡ planOf z
   pub state : stateOf (storeAfterAll cs z) ≡ stateAfterAll (planOf z) (eventsOf cs) (stateOf z)
 
@@ -347,7 +352,7 @@ rest-stays c cs t = and-right (not (isSome (replacement c))) (sameStore cs) t
 
 pub follows-events : (cs : List Call) (z : Store) → goodStore z ≡ true → sameStore cs ≡ true → FollowsEvents cs z
 unfolding storeAfterAll eventsOf stateAfterAll
-follows-events [] z good t = record { plan = refl; state = refl }
+follows-events [] z good t = record { number = refl; plan = refl; state = refl }
 follows-events (c ∷ cs) z good t =
     let is : storeAfter c z ≡ onEvent (eventOf c) z .store = event-on c z (first-stays c cs t) in
     let plan : planOf (storeAfter c z) ≡ planOf z = ap (λ (y : Store). planOf y) is ∙ event-keeps-plan (eventOf c) z in
@@ -355,6 +360,7 @@ follows-events (c ∷ cs) z good t =
     ap stateOf is ∙ event-state (eventOf c) z good in
     let again = follows-events cs (storeAfter c z) (call-keeps-good c z good) (rest-stays c cs t) in
     record {
+      number = again .number ∙ ap (λ (y : Store). y .plan) is ∙ event-keeps-number (eventOf c) z;
       plan = again .plan ∙ plan;
       state = again .state ∙ rw (state, plan);
     }

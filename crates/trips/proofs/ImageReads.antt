@@ -1,5 +1,5 @@
 -- A whole image: it is read back where it stands, and where one is read, its bytes stand. Assumes nothing.
-use mathlib.Core.Path.{_≡_, refl, ap, _∙_}
+use mathlib.Core.Path.{_≡_, refl, ap, _∙_, subst}
 use mathlib.Core.Bool.{true}
 use mathlib.Core.List.{List, [], _++_}
 use Prim.Native.Nat.{ℕ, _+_, _*_, _<_, _≤_}
@@ -12,7 +12,7 @@ use Rattle.lists.specs.Stands.{Stands}
 use Rattle.lists.proofs.Standing.{stands-join, stands-left, stands-right}
 use Rattle.lists.proofs.Truths.{both-le, le-both}
 use Rattle.number.specs.Number.{Bytes, form}
-use Rattle.plan.specs.Plan.{size}
+use Rattle.plan.specs.Plan.{Plan, size}
 use Rattle.plan.specs.PlanRules.{PlanRules}
 use Rattle.plan.specs.PlanTable.{planNumbered, plans}
 use Rattle.plan.proofs.TableLaws.{plans-three, table-rules}
@@ -23,6 +23,7 @@ use Rattle.store.specs.Copies.{noCopy}
 use Rattle.store.specs.State.{State, lastClock, nodeAt, copyAt}
 use Rattle.store.specs.Layout.{planOf, planOf, width, copyOf, stateOf, storeOf}
 use Rattle.store.specs.StoreRules.{StoreRules, planNumberTest}
+use Rattle.store.proofs.WhichPlan.{plan-numbered, known-rules}
 use Rattle.store.proofs.Laying.{length-nodes, state-count, state-copy, state-back, store-back}
 use Rattle.wire.specs.Reading.{got}
 use Rattle.wire.proofs.Chains.{bind-got, check-holds, Gives, gives-got, gives-check, gives-bind, number-back, number-gives}
@@ -64,7 +65,7 @@ module _ (z : Store) (rules : StoreRules z) (declared : Declared z) where
       }
     where
       plan : PlanRules (planOf z)
-      plan = table-rules (z .plan) (rules .plan-known .0) (rules .plan-known .1)
+      plan = known-rules z (rules .plan-known)
 
       copies : (n i : ℕ) → n < size (planOf z) → i < length (nodeAt (stateOf z) n) → Writable (copyAt (stateOf z) n i)
       copies n i h g =
@@ -80,7 +81,8 @@ module _ (z : Store) (rules : StoreRules z) (declared : Declared z) where
   pub store-read : {s : List ℕ} {next : ℕ} → Stands s 0 (image z) next → imageAt s ≡ got (idled z) next
   unfolding idled storeOf
   store-read {next = next} h =
-      image-back (z .plan) (stateOf z) (rules .plan-known) (rules .state-rules .clock-within) nodes-writable h
+      image-back (z .plan) (stateOf z) (rules .plan-known) (rules .state-rules .clock-within)
+      (subst (λ (p : Plan). WritableNodes p (stateOf z .nodes)) (plan-numbered z) nodes-writable) h
       ∙ ap (λ (y : Store). got (idled y) next) (store-back z rules)
 
 -- ---- what is read stands there

@@ -23,8 +23,9 @@ use Rattle.store.specs.Answers.{DONE, PLAN, FORMAT, RULE, answer}
 use Rattle.store.specs.Copies.{noCopy}
 use Rattle.store.specs.State.{State, slotCount, idle, copyAt, fresh}
 use Rattle.store.specs.StateRules.{StateRules}
-use Rattle.store.specs.Layout.{width, places, stateOf, placeOf, column, storeOf, freshStore}
+use Rattle.store.specs.Layout.{planOf, width, places, stateOf, placeOf, column, storeOf, freshStore}
 use Rattle.store.specs.StoreRules.{StoreRules, planNumberTest, goodStore}
+use Rattle.store.proofs.WhichPlan.{plan-numbered}
 use Rattle.store.proofs.Ruling.{good-rules, rules-good}
 use Rattle.store.proofs.Lifting.{fresh-node, fresh-good}
 use Rattle.wire.specs.Reading.{got, numberAt}
@@ -74,9 +75,12 @@ idled-rules z r =
           };
       plan-known = r .plan-known;
       unused-places-all-zero = r .unused-places-all-zero;
-      unused-counts-zero = r .unused-counts-zero;
-      state-rules = idle-rules (r .state-rules);
+      unused-counts-zero = rw same (r .unused-counts-zero);
+      state-rules = rw same (idle-rules (r .state-rules));
     }
+  where
+    same : planOf (idled z) ≡ planOf z
+    same = plan-numbered (idled z) ∙ sym (plan-numbered z)
 
 pub idled-good : (z : Store) → goodStore z ≡ true → goodStore (idled z) ≡ true
 idled-good z good = rules-good (idled z) (idled-rules z (good-rules z good))

@@ -7,7 +7,7 @@ use Rattle.plan.specs.Plan.{holds, firstEdge, next, walk, pathFrom}
 use Rattle.plan.specs.PlanTable.{planTable, plans, planNumbered}
 use Rattle.store.specs.Copies.{hasValue, find, member, different}
 use Rattle.store.specs.State.{fresh, firstOn, inReach}
-use Rattle.store.specs.Layout.{nodeIn, stateOf, column, storeOf, freshStore}
+use Rattle.store.specs.Layout.{nodeIn, planOf, stateOf, column, storeOf, freshStore}
 use Rattle.store.specs.StoreRules.{
   shapeTest,
   planNumberTest,
@@ -40,7 +40,7 @@ use Rattle.worked.specs.Worked.{answersOf, storeAfterSteps, storeAfterIn
 
 -- Whoever unfolds this unfolds all definitions that the table is about.
 opened : Bool
-unfolding run allFrom formIn form readLast putBelow readIn readAt holds firstEdge next walk pathFrom planTable plans planNumbered find member different fresh firstOn inReach nodeIn stateOf column storeOf freshStore shapeTest planNumberTest clockTest hasValue kindTest copyTest placeTest allZero unusedTest nodeTest stampsFrom standsAt slotTest goodStore onStore ofStore put room entered entry carries merge countHeld mergeAlong carriedTo carriedOut carryStep lowestIdle startStep withRunning stepStep cancelStep visitsOn lookAnswer bind numbered numberAt writtenAnswer writtenBuffer valueBytes copyBytes copiesBytes nodeBytes nodesBytes imageOf imageAt finished loadOutcome saveBuffer linesFrom lineBytes linesBytes pageBytes pageAnswer pageBuffer knownStep hasTwo secondAt stepAt stepsAt scheduleAt stepOf printedSteps printedSchedule answersOf storeAfterSteps storeAfterInput
+unfolding run allFrom formIn form readLast putBelow readIn readAt holds firstEdge next walk pathFrom planTable plans planNumbered find member different fresh firstOn inReach nodeIn planOf stateOf column storeOf freshStore shapeTest planNumberTest clockTest hasValue kindTest copyTest placeTest allZero unusedTest nodeTest stampsFrom standsAt slotTest goodStore onStore ofStore put room entered entry carries merge countHeld mergeAlong carriedTo carriedOut carryStep lowestIdle startStep withRunning stepStep cancelStep visitsOn lookAnswer bind numbered numberAt writtenAnswer writtenBuffer valueBytes copyBytes copiesBytes nodeBytes nodesBytes imageOf imageAt finished loadOutcome saveBuffer linesFrom lineBytes linesBytes pageBytes pageAnswer pageBuffer knownStep hasTwo secondAt stepAt stepsAt scheduleAt stepOf printedSteps printedSchedule answersOf storeAfterSteps storeAfterInput
 opened = true
 
 pub worked : Worked
