@@ -24,21 +24,16 @@ highKeysTo t = record { lowest = 2147483648; highest = lastKey; target = t }
 abbrev pub node : ℕ → List Edge → Node
 node c es = record { capacity = c; edges = es }
 
--- | 1 | 8, 16, 32, 64 | 0 to 1, 1 to 2, 2 to 3, all keys |
-abbrev pub plan1 : Plan
-plan1 = node 8 (allKeysTo 1 ∷ []) ∷ node 16 (allKeysTo 2 ∷ []) ∷ node 32 (allKeysTo 3 ∷ []) ∷ node 64 [] ∷ []
-
--- | 2 | 8, 32, 32 | 0 to 1 keys 0..2147483647; 0 to 2 keys 2147483648..4294967295 |
-abbrev pub plan2 : Plan
-plan2 = node 8 (lowKeysTo 1 ∷ highKeysTo 2 ∷ []) ∷ node 32 [] ∷ node 32 [] ∷ []
-
--- | 3 | 8, 16, 16, 64 | 0 to 1 and 0 to 2 as in plan 2; 1 to 3 and 2 to 3, all keys |
-abbrev pub plan3 : Plan
-plan3 = node 8 (lowKeysTo 1 ∷ highKeysTo 2 ∷ []) ∷ node 16 (allKeysTo 3 ∷ []) ∷ node 16 (allKeysTo 3 ∷ []) ∷ node 64 [] ∷ []
-
--- The three plans.
+-- The plans, a row for each, as document 01 has them: number, capacities, edges.
 unfoldable pub planTable : List Plan
-planTable = plan1 ∷ plan2 ∷ plan3 ∷ []
+planTable =
+    -- | 1 | 8, 16, 32, 64 | 0 to 1, 1 to 2, 2 to 3, all keys |
+    (node 8 (allKeysTo 1 ∷ []) ∷ node 16 (allKeysTo 2 ∷ []) ∷ node 32 (allKeysTo 3 ∷ []) ∷ node 64 [] ∷ [])
+    -- | 2 | 8, 32, 32 | 0 to 1 keys 0..2147483647; 0 to 2 keys 2147483648..4294967295 |
+    ∷ (node 8 (lowKeysTo 1 ∷ highKeysTo 2 ∷ []) ∷ node 32 [] ∷ node 32 [] ∷ [])
+    -- | 3 | 8, 16, 16, 64 | 0 to 1 and 0 to 2 as in plan 2; 1 to 3 and 2 to 3, all keys |
+    ∷ (node 8 (lowKeysTo 1 ∷ highKeysTo 2 ∷ []) ∷ node 16 (allKeysTo 3 ∷ []) ∷ node 16 (allKeysTo 3 ∷ []) ∷ node 64 [] ∷ [])
+    ∷ []
 
 -- The number of plans: a plan's number is from 1 to this.
 unfoldable pub plans : ℕ

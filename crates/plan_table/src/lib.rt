@@ -41,15 +41,6 @@ const TWO_LOW: [u32; MOST_EDGES] = [0, 2147483648, 0, 0];
 
 const TWO_HIGH: [u32; MOST_EDGES] = [2147483647, 4294967295, 0, 0];
 
-// One node's targets, by edge: one edge to 1, to 2 or to 3, or two edges, to 1 and to 2.
-const TO_1: [u32; MOST_EDGES] = [1, 0, 0, 0];
-
-const TO_2: [u32; MOST_EDGES] = [2, 0, 0, 0];
-
-const TO_3: [u32; MOST_EDGES] = [3, 0, 0, 0];
-
-const TO_1_AND_2: [u32; MOST_EDGES] = [1, 2, 0, 0];
-
 // By node and then by edge.
 const LOWEST: [[[u32; MOST_EDGES]; MOST_NODES]; PLANS + 1] = [
     [NONE, NONE, NONE, NONE, NONE, NONE, NONE, NONE],
@@ -67,9 +58,27 @@ const HIGHEST: [[[u32; MOST_EDGES]; MOST_NODES]; PLANS + 1] = [
 
 const TARGETS: [[[u32; MOST_EDGES]; MOST_NODES]; PLANS + 1] = [
     [NONE, NONE, NONE, NONE, NONE, NONE, NONE, NONE],
-    [TO_1, TO_2, TO_3, NONE, NONE, NONE, NONE, NONE],
-    [TO_1_AND_2, NONE, NONE, NONE, NONE, NONE, NONE, NONE],
-    [TO_1_AND_2, TO_3, TO_3, NONE, NONE, NONE, NONE, NONE],
+    [
+        [1, 0, 0, 0],
+        [2, 0, 0, 0],
+        [3, 0, 0, 0],
+        NONE,
+        NONE,
+        NONE,
+        NONE,
+        NONE,
+    ],
+    [[1, 2, 0, 0], NONE, NONE, NONE, NONE, NONE, NONE, NONE],
+    [
+        [1, 2, 0, 0],
+        [3, 0, 0, 0],
+        [3, 0, 0, 0],
+        NONE,
+        NONE,
+        NONE,
+        NONE,
+        NONE,
+    ],
 ];
 
 // The table's row for a number: its own, or that of no plan.

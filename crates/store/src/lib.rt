@@ -26,7 +26,7 @@ pub struct Slot {
     pub visits: u32,
 }
 
-// The places in four columns; node n has those from 64 n on, and uses the first, as many as its count says, by rising key.
+// The places in four columns; node n has those from WIDTH n on, and uses the first, as many as its count says, by rising key.
 #[repr(C)]
 pub struct Store {
     pub plan: u32,
