@@ -13,7 +13,6 @@ use Rattle.plan.specs.declared.Edge.{Edge}
 use Rattle.plan.specs.Sizes.{mostNodes, mostEdges}
 use Rattle.plan.specs.Plan.{Plan, size, capacityOf, edgesOf, edgeOf}
 use Rattle.plan.specs.PlanRules.{PlanRules}
-use Rattle.plan.specs.PlanTable.{planNumbered}
 
 -- A number for each edge, by node and then by edge.
 abbrev pub Grid : Type 0
@@ -50,13 +49,6 @@ countsRow p = run 0 mostNodes (λ n. length (edgesOf p n))
 -- A number of each of its edges: 0 where it has no edge.
 unfoldable pub gridOf : (Edge → ℕ) → Plan → Grid
 gridOf part p = run 0 mostNodes (λ n. run 0 mostEdges (λ i. part (edgeOf p n i)))
-
--- Arrays that are the plan's, taken once and lent.
-pub record ArraysOf (plan : ℕ) (edges : List ℕ) (lows highs targets : Grid) : Type 0 where
-  pub edges-of : edges ≡ countsRow (planNumbered plan)
-  pub lows-of : lows ≡ gridOf (λ (e : Edge). e .lowest) (planNumbered plan)
-  pub highs-of : highs ≡ gridOf (λ (e : Edge). e .highest) (planNumbered plan)
-  pub targets-of : targets ≡ gridOf (λ (e : Edge). e .target) (planNumbered plan)
 
 -- The node count and the rows, taken once and lent, are those of a plan that meets the plan rules.
 pub record RowsOf (p : Plan) (nodes : ℕ) (edges : List ℕ) (lows highs targets : Grid) : Type 0 where

@@ -9,7 +9,7 @@ use Rattle.lists.proofs.Running.{same-all, all-and}
 use Rattle.plan.specs.Sizes.{mostNodes}
 use Rattle.plan.specs.Plan.{Plan, capacityOf, next, path}
 use Rattle.plan.specs.PlanRules.{PlanRules}
-use Rattle.plan.specs.PlanArrays.{atNode, capacitiesRow}
+use Rattle.plan.specs.PlanArrays.{capacitiesRow}
 use Rattle.plan.proofs.RowsLent.{capacity-of}
 use Rattle.store.specs.declared.Store.{Store}
 use Rattle.store.specs.Copies.{stampOf, member}

@@ -26,15 +26,15 @@ pub fn good<'a>(
     if clock < 1 {
         return false;
     }
-    let capacities = plan::capacities_of(plan);
+    let capacities = plan_table::capacities_of(plan);
     if !rules_nodes::nodes_tidy(clock, &capacities, counts, keys, kinds, values, stamps) {
         return false;
     }
-    let nodes = plan::nodes(plan);
-    let edges = plan::edge_counts_of(plan);
-    let lows = plan::lowest_of(plan);
-    let highs = plan::highest_of(plan);
-    let targets = plan::targets_of(plan);
+    let nodes = plan_table::nodes(plan);
+    let edges = plan_table::edge_counts_of(plan);
+    let lows = plan_table::lowest_of(plan);
+    let highs = plan_table::highest_of(plan);
+    let targets = plan_table::targets_of(plan);
     if !rules_paths::on_their_paths(
         nodes,
         &edges,

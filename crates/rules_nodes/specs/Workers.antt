@@ -6,7 +6,8 @@ use Prim.Native.Nat.{ℕ, suc, _+_, _-_, _*_, _≤_}
 use lib.Dec.{leb, ltb}
 use lib.ListN.{length}
 use denote.Ref.{RefT}
-use Rattle.lists.specs.Runs.{allFrom}
+use Rattle.lists.specs.Runs.{allFrom, allBelow}
+use Rattle.plan.specs.Sizes.{mostNodes}
 use Rattle.plan.specs.PlanArrays.{atNode}
 use Rattle.store.specs.declared.Copy.{Copy}
 use Rattle.store.specs.Layout.{width, places, copyIn}
@@ -51,7 +52,11 @@ lentUsed clock keys kinds values stamps from end =
 abbrev pub lentUnused : RefT (List ℕ) → RefT (List ℕ) → RefT (List ℕ) → RefT (List ℕ) → ℕ → ℕ → Bool
 lentUnused keys kinds values stamps = unusedTest (keys .now) (kinds .now) (values .now) (stamps .now)
 
--- a node passes, by its number,
+-- a node passes,
 abbrev pub lentTidy : RefT (List ℕ) → ℕ → RefT (List ℕ) → RefT (List ℕ) → RefT (List ℕ) → RefT (List ℕ) → RefT (List ℕ) → ℕ → Bool
 lentTidy capacities clock counts keys kinds values stamps =
     tidyTest (capacities .now) clock (counts .now) (keys .now) (kinds .now) (values .now) (stamps .now)
+
+-- and all nodes do.
+abbrev pub lentAllTidy : RefT (List ℕ) → ℕ → RefT (List ℕ) → RefT (List ℕ) → RefT (List ℕ) → RefT (List ℕ) → RefT (List ℕ) → Bool
+lentAllTidy capacities clock counts keys kinds values stamps = allBelow mostNodes (lentTidy capacities clock counts keys kinds values stamps)

@@ -1,12 +1,11 @@
 // The rules of a node's own numbers, on lent columns: its count, its used places and the others.
 ghost use mathlib.Core.Path.{_≡_};
 ghost use Prim.Native.Nat.{_<_, _≤_};
-ghost use Rattle.lists.specs.Runs.{allBelow};
 ghost use Rattle.plan.specs.Sizes.{mostNodes};
 ghost use Rattle.store.specs.Layout.{places};
 ghost use Rattle.store.specs.StoreRules.{kindTest};
 ghost use Rattle.store.specs.Workers.{LentSized};
-ghost use Rattle.rules_nodes.specs.Workers.{markTest, keyRises, AllFit, LentColumns, lentUsed, lentUnused, lentTidy};
+ghost use Rattle.rules_nodes.specs.Workers.{markTest, keyRises, AllFit, LentColumns, lentUsed, lentUnused, lentTidy, lentAllTidy};
 use plan::arrays;
 use store::Copy;
 use store::Store;
@@ -147,7 +146,7 @@ pub fn nodes_tidy<'a>(
     stamps: &'a [u32; Store::PLACES],
 ) -> bool
     requires { ⌜ AllFit (now capacities) × LentSized counts keys kinds values stamps ⌝ }
-    ensures { λ r. ⌜ r ≡ allBelow mostNodes (lentTidy (capacities .entry) clock (counts .entry) (keys .entry) (kinds .entry) (values .entry) (stamps .entry)) ⌝ }
+    ensures { λ r. ⌜ r ≡ lentAllTidy (capacities .entry) clock (counts .entry) (keys .entry) (kinds .entry) (values .entry) (stamps .entry) ⌝ }
 {
     let mut node = 0;
     while node < Store::NODES as u32 {

@@ -13,8 +13,8 @@ use Rattle.lists.proofs.Storing.{sets-below, sets-past, sets-inside, set-run, g
 use Rattle.plan.specs.Sizes.{mostNodes}
 use Rattle.plan.specs.Plan.{Plan, size}
 use Rattle.plan.specs.PlanRules.{PlanRules}
-use Rattle.plan.specs.PlanTable.{planNumbered, plans}
-use Rattle.plan.proofs.TableLaws.{table-rules}
+use Rattle.plan_table.specs.PlanTable.{planNumbered, plans}
+use Rattle.plan_table.proofs.TableLaws.{table-rules}
 use Rattle.store.specs.declared.Copy.{Copy}
 use Rattle.store.specs.declared.Slot.{Slot}
 use Rattle.store.specs.declared.Store.{Store}

@@ -11,7 +11,7 @@ use Rattle.lists.proofs.Running.{all-at, at-all, all-below, below-all}
 use Rattle.plan.specs.Sizes.{mostNodes}
 use Rattle.plan.specs.Plan.{Node, Plan, noNode, size, capacityOf}
 use Rattle.plan.specs.PlanRules.{PlanRules}
-use Rattle.plan.specs.PlanTable.{plans}
+use Rattle.plan_table.specs.PlanTable.{plans}
 use Rattle.store.specs.declared.Store.{Store}
 use Rattle.store.specs.Copies.{noCopy, different}
 use Rattle.store.specs.State.{State, copyAt, slotAt, idle, lastClock, slotCount}

@@ -9,7 +9,7 @@ use lib.Seq.{slice}
 use Rattle.lists.specs.Runs.{run, allFrom, allBelow}
 use Rattle.plan.specs.Sizes.{mostNodes}
 use Rattle.plan.specs.Plan.{Plan, size, capacityOf, next, path}
-use Rattle.plan.specs.PlanTable.{plans}
+use Rattle.plan_table.specs.PlanTable.{plans}
 use Rattle.store.specs.declared.Copy.{Copy}
 use Rattle.store.specs.declared.Slot.{Slot}
 use Rattle.store.specs.declared.Store.{Store}

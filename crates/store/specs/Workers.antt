@@ -12,10 +12,12 @@ use denote.Triple.Both.{Both}
 use Rattle.plan.specs.Sizes.{mostNodes}
 use Rattle.plan.specs.Plan.{Plan}
 use Rattle.plan.specs.PlanArrays.{Grid, RowsOf}
+use Rattle.store.specs.declared.Found.{Found}
 use Rattle.store.specs.declared.Slot.{Slot}
 use Rattle.store.specs.declared.Store.{Store}
+use Rattle.store.specs.Copies.{keyOf, find, foundOf}
 use Rattle.store.specs.State.{State}
-use Rattle.store.specs.Layout.{width, places, stateIn}
+use Rattle.store.specs.Layout.{width, places, copyIn, nodeIn, stateIn}
 
 -- The number of a column at a place.
 abbrev pub numberIn : List ℕ → ℕ → ℕ
@@ -91,6 +93,16 @@ storeAtExit plan clock counts keys kinds values stamps slots =
 abbrev pub lentState : ℕ → RefT (List ℕ) → RefT (List ℕ) → RefT (List ℕ) → RefT (List ℕ) → RefT (List ℕ) → State
 lentState nodes counts keys kinds values stamps =
     stateIn nodes 0 (counts .now) (keys .now) (kinds .now) (values .now) (stamps .now) []
+
+-- What a look finds among the places from..end of lent columns,
+abbrev pub lentAmong : RefT (List ℕ) → RefT (List ℕ) → RefT (List ℕ) → RefT (List ℕ) → ℕ → ℕ → ℕ → Found
+lentAmong keys kinds values stamps from end k =
+    foundOf (find keyOf (run from (end - from) (copyIn (keys .now) (kinds .now) (values .now) (stamps .now))) k)
+
+-- and in a node.
+abbrev pub lentFound : RefT (List ℕ) → RefT (List ℕ) → RefT (List ℕ) → RefT (List ℕ) → RefT (List ℕ) → ℕ → ℕ → Found
+lentFound counts keys kinds values stamps n k =
+    foundOf (find keyOf (nodeIn (counts .now) (keys .now) (kinds .now) (values .now) (stamps .now) n) k)
 
 -- Lent columns that are as long as a store's.
 abbrev pub LentSized : RefT (List ℕ) → RefT (List ℕ) → RefT (List ℕ) → RefT (List ℕ) → RefT (List ℕ) → Type 0

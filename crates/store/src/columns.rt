@@ -1,14 +1,12 @@
-// The workers on the store's columns, each lent: 512 places, 64 to a node, read by places from..end.
+// The workers on the store's columns, each lent: Store::PLACES places, Store::WIDTH to a node, read by places from..end.
 ghost use mathlib.Core.Path.{_≡_};
-ghost use Prim.Native.Nat.{_-_, _≤_, _<_};
+ghost use Prim.Native.Nat.{_≤_, _<_};
 ghost use lib.ListN.{length};
 ghost use lib.Seq.{slice};
-ghost use Rattle.lists.specs.Runs.{run};
-ghost use Rattle.store.specs.Copies.{keyOf, find, foundOf};
 ghost use Rattle.plan.specs.Sizes.{mostNodes};
-ghost use Rattle.store.specs.Layout.{places, copyIn, nodeIn};
+ghost use Rattle.store.specs.Layout.{places};
 ghost use Rattle.store.specs.StoreRules.{allZero};
-ghost use Rattle.store.specs.Workers.{placeIn, RisesIn, Ordered, opened};
+ghost use Rattle.store.specs.Workers.{placeIn, RisesIn, Ordered, opened, lentAmong, lentFound};
 use crate::Copy;
 use crate::Found;
 use crate::Store;
@@ -32,7 +30,7 @@ pub fn seek(keys: &[u32; Store::PLACES], from: usize, end: usize, key: u32) -> u
 }
 
 // A look in one node: the copy of the key among the places from..end, by halves, or nothing.
-fn look_in<'a>(
+fn look_among<'a>(
     keys: &'a [u32; Store::PLACES],
     kinds: &'a [u32; Store::PLACES],
     values: &'a [u32; Store::PLACES],
@@ -42,7 +40,7 @@ fn look_in<'a>(
     key: u32,
 ) -> Found
     requires { ⌜ (from ≤ end) × (end ≤ places) × RisesIn (now keys) from end ⌝ }
-    ensures { λ r. ⌜ r ≡ foundOf (find keyOf (run from (end - from) (copyIn (now (keys .entry)) (now (kinds .entry)) (now (values .entry)) (now (stamps .entry)))) key) ⌝ }
+    ensures { λ r. ⌜ r ≡ lentAmong (keys .entry) (kinds .entry) (values .entry) (stamps .entry) from end key ⌝ }
 {
     let mut low = from;
     let mut high = end;
@@ -80,12 +78,12 @@ pub fn look_at<'a>(
     key: u32,
 ) -> Found
     requires { ⌜ (node < mostNodes) × Ordered (now counts) (now keys) node ⌝ }
-    ensures { λ r. ⌜ r ≡ foundOf (find keyOf (nodeIn (now (counts .entry)) (now (keys .entry)) (now (kinds .entry)) (now (values .entry)) (now (stamps .entry)) node) key) ⌝ }
+    ensures { λ r. ⌜ r ≡ lentFound (counts .entry) (keys .entry) (kinds .entry) (values .entry) (stamps .entry) node key ⌝ }
 {
     let n = node as usize;
     let from = Store::WIDTH * n;
     let end = from + counts[n] as usize;
-    look_in(keys, kinds, values, stamps, from, end, key)
+    look_among(keys, kinds, values, stamps, from, end, key)
 }
 
 // The number put in at a place; those from there up to end move one place up, over the one at end.

@@ -28,7 +28,7 @@ pub struct Slot {
     pub visits: u32,
 }
 
-// The places in four columns; node n has those from 64 n on, and uses the first, as many as its count says, by rising key.
+// The places in four columns; node n has those from WIDTH n on, and uses the first, as many as its count says, by rising key.
 #[repr(C)]
 pub struct Store {
     pub plan: u32,
@@ -183,7 +183,7 @@ impl Store {
 
     pub const NODES: usize = plan::MOST_NODES;
 
-    pub const WIDTH: usize = 64;
+    pub const WIDTH: usize = plan::MOST_CAPACITY;
 
     pub const PLACES: usize = Store::NODES * Store::WIDTH;
 
@@ -231,7 +231,7 @@ impl Store {
         if plan < 1 {
             return false;
         }
-        plan as usize <= plan::PLANS
+        plan as usize <= plan_table::PLANS
     }
 
     // A fresh store of the plan; "plan not 1 to 3": PLAN, and a fresh store of plan 1.

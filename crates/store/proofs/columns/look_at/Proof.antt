@@ -20,15 +20,15 @@ cast-end c = search needs
 add-end : tie.Need-add-end
 add-end c = search needs
 
-look-in-requires : tie.Need-look-in-requires
-look-in-requires c κs = search needs
+look-among-requires : tie.Need-look-among-requires
+look-among-requires c κs = search needs
 
 returns : tie.Need-returns
 returns c =
     let a = c .before .before .args in
-    c .look-in .ensures ∙ node-looked (a .counts .now) (a .keys .now) (a .kinds .now) (a .values .now) (a .stamps .now) (a .node) (a .key)
+    c .look-among .ensures ∙ node-looked (a .counts .now) (a .keys .now) (a .kinds .now) (a .values .now) (a .stamps .now) (a .node) (a .key)
 
 pub look-at-spec : {M : Type 1} → statement M
 look-at-spec =
     tie.close
-    (tie.spec mul-from mul-end element-copy-out-end cast-end add-end look-in-requires returns)
+    (tie.spec mul-from mul-end element-copy-out-end cast-end add-end look-among-requires returns)

@@ -8,8 +8,9 @@ use native.Mathlib.Nat.{not-suc-le-zero}
 use lib.ListN.{getD, List·getD-eq-default}
 use Rattle.lists.specs.Runs.{allFrom, allBelow}
 use Rattle.lists.proofs.Running.{all-below}
+use Rattle.plan.specs.Sizes.{lastKey}
 use Rattle.plan.specs.Plan.{holds, firstEdge, next}
 use Rattle.plan.specs.PlanRules.{
   PlanRules,
   apart,
   nodesTest,
@@ -22,12 +23,17 @@ use Rattle.plan.specs.PlanRules.{
   coverTest,
   planTest,
 }
-use Rattle.plan.specs.PlanTable.{planTable, plans, planNumbered}
+use Rattle.plan_table.specs.PlanTable.{planTable, plans, planNumbered}
 use Rattle.plan.proofs.RulesLaws.{test-rules}
 
-pub plans-three : plans ≡ 3
+-- There is a first plan, and a plan's number has 32 bits, as a key has.
+pub first-plan : 1 ≤ plans
 unfolding plans planTable
-plans-three = refl
+first-plan = omega arith
+
+pub plans-fit : plans ≤ lastKey
+unfolding plans planTable
+plans-fit = omega arith
 
 -- Every plan of the table passes the test.
 pub table-passes : allBelow plans (λ i. planTest (getD planTable i [])) ≡ true

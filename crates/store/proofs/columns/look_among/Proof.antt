@@ -1,11 +1,11 @@
--- `store::columns::look_in` meets its contract. Assumes nothing.
+-- `store::columns::look_among` meets its contract. Assumes nothing.
 use Prim.Native.Nat.{_+_, _-_, _/_, _≤_, _<_}
 use native.Mathlib.Omega.{arith}
 use borrow.Author.Needs.{needs}
 use Rattle.store.specs.Workers.{numberIn, placeIn}
 use Rattle.store.proofs.Halving.{place-bounds, half-up, half-down, look-held, look-nothing}
-use Rattle.store.proofs.columns.look_in.Statement.{statement}
-use Rattle.store.proofs.columns.look_in.Tie as tie
+use Rattle.store.proofs.columns.look_among.Statement.{statement}
+use Rattle.store.proofs.columns.look_among.Tie as tie
 
 -- The place of the key lies between low and high, and the key at high is greater.
 abbrev Inv-loop : tie.InvT-loop
@@ -89,8 +89,8 @@ returns-2 c =
     let m = l .loop .low + (l .loop .high - l .loop .low) / 2 in
     look-held (a .keys .now) (a .from) (a .end) (omega arith) (l .before .pre .2) (a .kinds .now) (a .values .now) (a .stamps .now) (a .key) m (omega arith) (omega arith) (t .if2 .taken)
 
-pub look-in-spec : {M : Type 1} → statement M
-look-in-spec =
+pub look-among-spec : {M : Type 1} → statement M
+look-among-spec =
     tie.close
     (tie.spec
     Inv-loop
