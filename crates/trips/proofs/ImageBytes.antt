@@ -1,9 +1,8 @@
 -- Each byte of an image is a byte. Assumes nothing.
-use mathlib.Core.Bool.{Bool, true, false, cond}
 use mathlib.Core.List.{List, [], _∷_}
 use Prim.Native.Nat.{ℕ, suc, _<_}
 use native.Mathlib.Omega.{arith}
-use lib.Dec.{eqb, lit≤}
+use lib.Dec.{lit≤}
 use lib.ListN.{length, getD}
 use Rattle.number.specs.Number.{Bytes, form}
 use Rattle.number.proofs.Meaning.{form-bytes}
@@ -11,24 +10,16 @@ use Rattle.plan.specs.Plan.{Plan}
 use Rattle.plan.proofs.TableLaws.{plans-three}
 use Rattle.store.specs.declared.Copy.{Copy}
 use Rattle.store.specs.declared.Store.{Store}
-use Rattle.store.specs.Copies.{RESULT, noCopy}
-use Rattle.store.specs.Layout.{planOf, planOf, stateOf}
+use Rattle.store.specs.Copies.{noCopy}
+use Rattle.store.specs.Layout.{planOf, stateOf}
 use Rattle.store.specs.StoreRules.{StoreRules}
 use Rattle.wire.proofs.ByteStrings.{no-bytes, bytes-join}
-use Rattle.image.specs.Image.{formatNumber, valueBytes, copyBytes, copiesBytes, nodeBytes, nodesBytes, imageOf, image, Declared}
-use Rattle.trips.proofs.ImageParts.{kind-small, Writable, WritableNodes, rest-writable}
+use Rattle.copies.specs.CopyBytes.{copyBytes}
+use Rattle.copies.proofs.CopyTrips.{Writable, copy-bytes}
+use Rattle.image_writing.specs.Image.{formatNumber, copiesBytes, nodeBytes, nodesBytes, imageOf, image}
+use Rattle.trips.specs.Trips.{Declared}
+use Rattle.trips.proofs.ImageParts.{WritableNodes, rest-writable}
 use Rattle.trips.proofs.ImageReads.{nodes-writable}
-
-copy-bytes : (x : Copy) → Writable x → Bytes (copyBytes x)
-unfolding copyBytes valueBytes
-copy-bytes x w =
-    bytes-join (form (x .key)) _ (form-bytes (x .key) (w .key))
-    (bytes-join (form (x .kind)) _ (form-bytes (x .kind) (omega (arith, kind-small x (w .kind-and-value))))
-    (bytes-join (valueBytes (x .kind) (x .value)) _ (value (eqb (x .kind) RESULT)) (form-bytes (x .stamp) (w .stamp))))
-  where
-    value : (t : Bool) → Bytes (cond t (form (x .value)) [])
-    value true = form-bytes (x .value) (w .value)
-    value false = no-bytes
 
 copies-bytes : (xs : List Copy) → ((i : ℕ) → i < length xs → Writable (getD xs i noCopy)) → Bytes (copiesBytes xs)
 unfolding copiesBytes

@@ -21,15 +21,17 @@ use Rattle.store.specs.declared.Store.{Store}
 use Rattle.store.specs.Answers.{PLAN, FORMAT, RULE}
 use Rattle.store.specs.Copies.{noCopy}
 use Rattle.store.specs.State.{State, lastClock, nodeAt, copyAt}
-use Rattle.store.specs.Layout.{planOf, planOf, width, copyOf, stateOf, storeOf}
+use Rattle.store.specs.Layout.{planOf, width, copyOf, stateOf, storeOf}
 use Rattle.store.specs.StoreRules.{StoreRules, planNumberTest}
 use Rattle.store.proofs.WhichPlan.{plan-numbered, known-rules}
 use Rattle.store.proofs.Laying.{length-nodes, state-count, state-copy, state-back, store-back}
 use Rattle.wire.specs.Reading.{got}
 use Rattle.wire.proofs.Chains.{bind-got, check-holds, Gives, gives-got, gives-check, gives-bind, number-back, number-gives}
-use Rattle.image.specs.Image.{formatNumber, nodesBytes, imageOf, image, Declared}
-use Rattle.image.specs.Loading.{loaded, nodesFrom, clockFrom, planFrom, imageAt, idled}
-use Rattle.trips.proofs.ImageParts.{Writable, Small, WritableNodes, nodes-back, NodesStand, nodes-gives}
+use Rattle.copies.proofs.CopyTrips.{Writable, Small}
+use Rattle.image_writing.specs.Image.{formatNumber, nodesBytes, imageOf, image}
+use Rattle.image_reading.specs.ImageReading.{loaded, nodesFrom, clockFrom, planFrom, imageAt}
+use Rattle.trips.specs.Trips.{Declared, idled}
+use Rattle.trips.proofs.ImageParts.{WritableNodes, nodes-back, NodesStand, nodes-gives}
 
 plan-number : {plan : ℕ} → planNumberTest plan ≡ true → (1 ≤ plan) × (plan ≤ plans)
 unfolding planNumberTest

@@ -1,5 +1,4 @@
 pub mod ImageParts
 pub mod ImageReads
 pub mod ImageBytes
-pub mod LoadWays
 pub mod RoundTrips

@@ -10,7 +10,7 @@ use lib.ListN.{length, getD, take, replicate, length-append, length-replicate}
 use Rattle.lists.proofs.Standing.{stands-itself, stands-front, stands-whole, no-elements}
 use Rattle.lists.proofs.Running.{getD-run-0, getD-run-past}
 use Rattle.lists.proofs.Storing.{getD-same}
-use Rattle.number.specs.Number.{Bytes}
+use Rattle.number.specs.Number.{Bytes, narrow}
 use Rattle.plan.specs.Plan.{Plan}
 use Rattle.plan.specs.Sizes.{lastKey}
 use Rattle.plan.specs.PlanTable.{planNumbered}
@@ -23,7 +23,7 @@ use Rattle.store.specs.Answers.{DONE, PLAN, FORMAT, RULE, answer}
 use Rattle.store.specs.Copies.{noCopy}
 use Rattle.store.specs.State.{State, slotCount, idle, copyAt, fresh}
 use Rattle.store.specs.StateRules.{StateRules}
-use Rattle.store.specs.Layout.{planOf, width, places, stateOf, placeOf, column, storeOf, freshStore}
+use Rattle.store.specs.Layout.{planOf, width, places, stateOf, placeOf, column, storeOf, freshStore, refusedStore}
 use Rattle.store.specs.StoreRules.{StoreRules, planNumberTest, goodStore}
 use Rattle.store.proofs.WhichPlan.{plan-numbered}
 use Rattle.store.proofs.Ruling.{good-rules, rules-good}
@@ -31,14 +31,16 @@ use Rattle.store.proofs.Lifting.{fresh-node, fresh-good}
 use Rattle.wire.specs.Reading.{got, numberAt}
 use Rattle.wire.proofs.Chains.{Gives, gives-got, gives-check, gives-bind, gives-any}
 use Rattle.wire.proofs.Buffers.{done-front}
-use Rattle.image.specs.Image.{formatNumber, image, lastValue, Declared}
-use Rattle.image.specs.Loading.{nodesAt, loaded, nodesFrom, clockFrom, planFrom, imageAt, loadOutcome, idled}
+use Rattle.copies.specs.CopyBytes.{lastValue}
+use Rattle.copies.proofs.CopyTrips.{Small, small-none}
+use Rattle.image_writing.specs.Image.{formatNumber, image}
+use Rattle.image_reading.specs.ImageReading.{readNodes, loaded, nodesFrom, clockFrom, planFrom, imageAt}
+use Rattle.image.specs.Loading.{loadOutcome}
 use Rattle.image.specs.Promises.{saveBuffer}
-use Rattle.trips.specs.Trips.{loadedAsItself, AllIdle, IdleAndDeclared}
-use Rattle.trips.proofs.ImageParts.{Small, small-none}
+use Rattle.trips.specs.Trips.{Declared, idled, loadedAsItself, AllIdle, IdleAndDeclared}
 use Rattle.trips.proofs.ImageReads.{store-read, image-gives}
 use Rattle.image.proofs.LoadEnds.{finish-accepts}
-use Rattle.trips.proofs.LoadWays.{LoadWay, stops, trails, breaks, accepts, load-way, load-accepted}
+use Rattle.image.proofs.LoadWays.{LoadWay, stops, trails, breaks, accepts, load-way, load-accepted}
 
 -- ---- all slots idle
 
@@ -130,7 +132,7 @@ one-image s t bytes-s done-s bytes-t done-t e = sym (loaded-saves s bytes-s done
 pub load-good : (s : List ℕ) → goodStore (loadOutcome s .store) ≡ true
 load-good s = go (load-way s)
   where
-    refused : goodStore (freshStore 1) ≡ true
+    refused : goodStore (refusedStore) ≡ true
     refused = fresh-good 1 (lit≤ tt) (omega (arith, plans-three))
 
     go : LoadWay s → goodStore (loadOutcome s .store) ≡ true
@@ -186,13 +188,13 @@ load-idle s bytes = go (load-way s)
 reads-idle : (s : List ℕ) → Gives (λ (z : Store) (end : ℕ). z .slots ≡ replicate slotCount idle) (imageAt s)
 unfolding imageAt planFrom clockFrom nodesFrom storeOf
 reads-idle s =
-    gives-bind _ _ (gives-any (numberAt s 0)) λ format a u.
+    gives-bind _ _ (gives-any (numberAt narrow s 0)) λ format a u.
     gives-check (eqb format formatNumber) FORMAT 0 _ λ one.
-    gives-bind _ _ (gives-any (numberAt s a)) λ plan b v.
+    gives-bind _ _ (gives-any (numberAt narrow s a)) λ plan b v.
     gives-check (planNumberTest plan) PLAN a _ λ known.
-    gives-bind _ _ (gives-any (numberAt s b)) λ clock c w.
+    gives-bind _ _ (gives-any (numberAt narrow s b)) λ clock c w.
     gives-check (ltb 0 clock) RULE b _ λ above.
-    gives-bind _ _ (gives-any (nodesAt s (planNumbered plan) c)) λ ns d x.
+    gives-bind _ _ (gives-any (readNodes s (planNumbered plan) c)) λ ns d x.
     gives-got refl
 
 pub load-all-idle : (s : List ℕ) → AllIdle (loadOutcome s .store)

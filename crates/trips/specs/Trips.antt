@@ -1,12 +1,33 @@
 -- What is said of save and load, there and back.
 use mathlib.Core.Path.{_≡_}
-use lib.ListN.{replicate}
+use Prim.Native.Nat.{ℕ, _≤_}
+use lib.ListN.{getD, replicate}
+use Rattle.plan.specs.Sizes.{lastKey}
 use Rattle.store.specs.declared.Outcome.{Outcome}
 use Rattle.store.specs.declared.Store.{Store}
 use Rattle.store.specs.Answers.{DONE, answer}
 use Rattle.store.specs.State.{slotCount, idle}
-use Rattle.image.specs.Image.{Declared}
-use Rattle.image.specs.Loading.{copiesHeld, idled}
+use Rattle.copies.specs.CopyBytes.{lastValue}
+use Rattle.image.specs.Loading.{copiesHeld}
+
+-- A store of the declared type: its keys and values have 32 bits. (Its other numbers have them by the store rules.)
+pub record Declared (z : Store) : Type 0 where
+  pub keys-fit : (i : ℕ) → getD (z .keys) i 0 ≤ lastKey
+  pub values-fit : (i : ℕ) → getD (z .values) i 0 ≤ lastValue
+
+-- A store with all slots idle.
+unfoldable pub idled : Store → Store
+idled z =
+    record {
+      plan = z .plan;
+      clock = z .clock;
+      counts = z .counts;
+      keys = z .keys;
+      kinds = z .kinds;
+      values = z .values;
+      stamps = z .stamps;
+      slots = replicate slotCount idle;
+    }
 
 -- "loading a saved store gives it with all slots idle": DONE with the copies held, and the store.
 abbrev pub loadedAsItself : Store → Outcome

@@ -6,19 +6,16 @@ use Rattle.store.specs.declared.Store.{Store}
 use Rattle.store.specs.StoreRules.{goodStore}
 use Rattle.store.proofs.Ruling.{good-rules}
 use Rattle.wire.specs.Reading.{got}
-use Rattle.image.specs.Workers.{Columns, columns, idleStore}
+use Rattle.image.specs.Workers.{idleStore}
 use Rattle.image.proofs.SaveWays.{good-within}
 use Rattle.image.proofs.LoadEnds.{finish-trails, finish-breaks, good-idle, finish-done}
 use borrow.Author.Needs.{needs}
 use Rattle.image.proofs.finish.Statement.{statement}
 use Rattle.image.proofs.finish.Tie as tie
 
--- The columns at the beginning, and the store of what was read; the beginning, seen from the check.
-abbrev lent : tie.Start → Columns
-lent s = let a = s .args in columns (a .keys .now) (a .kinds .now) (a .values .now) (a .stamps .now)
-
+-- The store of what was read; the beginning, seen from the check.
 abbrev asked : tie.Start → Store
-asked s = let a = s .args in idleStore (a .plan) (a .clock) (a .counts .now) (lent s)
+asked s = let a = s .args in idleStore (a .plan) (a .clock) (a .counts .now) (a .keys .now) (a .kinds .now) (a .values .now) (a .stamps .now)
 
 abbrev first : tie.After-good2 → tie.Start
 first g = g .before .before .before .before .before .before .before .before .before
@@ -27,10 +24,10 @@ first g = g .before .before .before .before .before .before .before .before .bef
 checked : (g : tie.After-good2) → g .good2 .result ≡ goodStore (asked (first g))
 checked g =
     let a = first g .args in
-    good-idle (a .plan) (a .clock) (a .counts .now) (lent (first g)) (g .before .before .before .before .before .before .idle-slots .ensures) (g .good2 .ensures)
+    good-idle (a .plan) (a .clock) (a .counts .now) (a .keys .now) (a .kinds .now) (a .values .now) (a .stamps .now) (g .before .before .before .before .before .before .idle-slots .ensures) (g .good2 .ensures)
 
 good : (i : tie.Else2) → goodStore (asked (first (i .before))) ≡ true
-good i = sym (checked (i .before)) ∙ not-false _ (i .if2 .left)
+good i = sym (checked (i .before)) ∙ not-false (i .before .good2 .result) (i .if2 .left)
 
 refuse-requires : tie.Need-refuse-requires
 refuse-requires c κs = search needs
@@ -56,7 +53,7 @@ returns-2 c =
     let check = test .before in
     let start = first check in
     c .refuse2 .ensures
-    ∙ sym (finish-breaks (start .args .bytes .now) (got (asked start) (start .args .end)) refl (check .before .before .before .before .before .before .before .if1 .left) (sym (checked check) ∙ not-true _ (test .if2 .taken)))
+    ∙ sym (finish-breaks (start .args .bytes .now) (got (asked start) (start .args .end)) refl (check .before .before .before .before .before .before .before .if1 .left) (sym (checked check) ∙ not-true (check .good2 .result) (test .if2 .taken)))
 
 copies-held-requires : tie.Need-copies-held-requires
 copies-held-requires c κs =
@@ -71,9 +68,8 @@ returns-3 c =
     let held = c .before in
     let test = held .before .before in
     let check = test .before in
-    let start = first check in
-    let a = start .args in
-    finish-done (a .plan) (a .clock) (a .counts .now) (lent start) (check .before .before .before .before .before .before .idle-slots .ensures) (a .bytes .now) (check .before .before .before .before .before .before .before .if1 .left) (good test)
+    let a = first check .args in
+    finish-done (a .plan) (a .clock) (a .counts .now) (a .keys .now) (a .kinds .now) (a .values .now) (a .stamps .now) (check .before .before .before .before .before .before .idle-slots .ensures) (a .bytes .now) (check .before .before .before .before .before .before .before .if1 .left) (good test)
     (held .copies-held .ensures) (c .of .ensures)
 
 pub finish-spec : {M : Type 1} → statement M

@@ -6,7 +6,7 @@ use borrow.Author.Tests.{not-true, not-false}
 use Rattle.store.specs.declared.Store.{Store}
 use Rattle.store.specs.StoreRules.{goodStore}
 use Rattle.store.specs.Workers.{ofParts}
-use Rattle.image.proofs.SaveWays.{save-bad, good-plan, good-within, save-small, save-done}
+use Rattle.image.proofs.SaveWays.{save-bad, good-nodes, good-within, save-small, save-done}
 use borrow.Author.Needs.{needs}
 use Rattle.image.proofs.save_lent.Statement.{statement}
 use Rattle.image.proofs.save_lent.Tie as tie
@@ -33,10 +33,19 @@ bare-requires c κs = search needs
 returns : tie.Need-returns
 returns c =
     let check = c .before .before in
-    save-bad (asked check) (first check .args .buffer .now) (sym (check .good2 .ensures) ∙ not-true _ (c .before .if1 .taken)) (c .bare .ensures)
+    save-bad (asked check) (first check .args .buffer .now) (sym (check .good2 .ensures) ∙ not-true (check .good2 .result) (c .before .if1 .taken)) (c .bare .ensures)
+
+nodes-requires : tie.Need-nodes-requires
+nodes-requires c κs = search needs
+
+cast-nodes : tie.Need-cast-nodes
+cast-nodes c = search needs
 
 image-length-requires : tie.Need-image-length-requires
-image-length-requires c κs = (good-plan (asked (c .before)) (good c), good-within (asked (c .before)) (good c))
+image-length-requires c κs =
+    let test = c .before in
+    let z = asked (test .before) in
+    (good-nodes z (good test) (c .nodes .ensures), good-within z (good test))
 
 of-requires : tie.Need-of-requires
 of-requires c κs = search needs
@@ -44,15 +53,19 @@ of-requires c κs = search needs
 returns-2 : tie.Need-returns-2
 returns-2 c =
     let length = c .before .before in
-    let check = length .before .before in
-    save-small (asked check) (good (length .before)) (first check .args .buffer .now) (length .image-length .ensures) (c .before .if2 .taken) (c .of .ensures)
+    let nodes = length .before in
+    let test = nodes .before in
+    save-small (asked (test .before)) (good test) (first (test .before) .args .buffer .now) (nodes .nodes .ensures) (length .image-length .ensures) (c .before .if2 .taken)
+    (c .of .ensures)
 
 write-image-requires : tie.Need-write-image-requires
 write-image-requires c κs =
     let length = c .before .before in
-    let z = asked (length .before .before) in
+    let nodes = length .before in
+    let test = nodes .before in
+    let z = asked (test .before) in
     let fits = c .before .if2 .left in
-    (good-plan z (good (length .before)), good-within z (good (length .before)), omega (arith, length .image-length .ensures))
+    ((good-nodes z (good test) (nodes .nodes .ensures), good-within z (good test)), omega (arith, length .image-length .ensures))
 
 of-requires-2 : tie.Need-of-requires-2
 of-requires-2 c κs = search needs
@@ -64,8 +77,9 @@ returns-3 : tie.Need-returns-3
 returns-3 c =
     let written = c .before .before .before in
     let length = written .before .before .before in
-    let check = length .before .before in
-    save-done (asked check) (good (length .before)) (first check .args .buffer .now) (length .image-length .ensures) (written .before .before .if2 .left)
+    let nodes = length .before in
+    let test = nodes .before in
+    save-done (asked (test .before)) (good test) (first (test .before) .args .buffer .now) (nodes .nodes .ensures) (length .image-length .ensures) (written .before .before .if2 .left)
     (written .write-image .ensures) (c .of2 .ensures)
 
 pub save-lent-spec : {M : Type 1} → statement M
@@ -75,6 +89,8 @@ save-lent-spec =
     good-requires
     bare-requires
     returns
+    nodes-requires
+    cast-nodes
     image-length-requires
     of-requires
     returns-2
