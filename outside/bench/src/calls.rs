@@ -23,7 +23,8 @@ fn row(
     Row { name, library: Box::new(library), model: Box::new(model) }
 }
 
-fn raw(store: &model::Store) -> olipranj::Store {
+/// The same store on the library's side.
+pub fn raw(store: &model::Store) -> olipranj::Store {
     let slot = |slot: model::Slot| olipranj::Slot {
         running: slot.running,
         key: slot.key,

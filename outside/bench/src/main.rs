@@ -8,6 +8,7 @@ mod day;
 mod dynamic;
 mod leveldb;
 mod measure;
+mod orders;
 mod portals;
 mod sqlite;
 mod stores;
@@ -16,6 +17,7 @@ fn main() {
     let part = std::env::args().nth(1);
     if part.as_deref() != Some("day") {
         calls::print();
+        orders::print();
     }
     if part.as_deref() != Some("calls") {
         day::print();
