@@ -1,4 +1,4 @@
--- `examples::decode_short` meets its contract: a walk of its MIR, by hand, as that of `records::decode_list`, over 255 records and with the answer alone.
+-- `examples_bytes::decode_short` meets its contract: a walk of its MIR, by hand, as that of `records::decode_list`, over 255 records and with the answer alone.
 use mathlib.Core.Path.{_≡_, refl, sym, subst}
 use Prim.Native.Nat.{ℕ}
 use mathlib.Core.List.{List, [], _∷_, map}
@@ -57,10 +57,10 @@ use Rattle.records.proofs.decode as dec
 use Rattle.records.proofs.decode.Symbol as dec-def
 use Rattle.records.proofs.decode.Symbol.{name as #records·decode}
 use Rattle.records.proofs.decode.Met as dec-thm
-use Rattle.examples.proofs.decode_short.Key.{name as #examples·decode-short}
-use Rattle.examples.proofs.decode_short as f
-use Rattle.examples.proofs.decode_short.Statement as stated
-use Rattle.examples.proofs.decode_short.Code as code
+use Rattle.examples_bytes.proofs.decode_short.Key.{name as #examples_bytes·decode-short}
+use Rattle.examples_bytes.proofs.decode_short as f
+use Rattle.examples_bytes.proofs.decode_short.Statement as stated
+use Rattle.examples_bytes.proofs.decode_short.Code as code
 
 abbrev RA : RattleType
 RA = Array T.the-row 255
@@ -191,6 +191,6 @@ pub decode-short-spec : {M : Type 1} → stated.statement M
 unfolding code.routine tablesOf
 decode-short-spec 𝓤 H 𝓜 𝓖 𝓡 =
     entered 𝓤 H (tripleOf 𝓤 H (𝓖 .A) f.signature (f.spec 𝓤 H (𝓖 .A) (𝓜 .mem) (𝓡 .run)))
-    (tables 𝓤 H 𝓜 𝓡 code.env .C) (tables 𝓤 H 𝓜 𝓡 code.env .Λ) #examples·decode-short code.function (code.unfolded 𝓤 H 𝓜 𝓡)
+    (tables 𝓤 H 𝓜 𝓡 code.env .C) (tables 𝓤 H 𝓜 𝓡 code.env .Λ) #examples_bytes·decode-short code.function (code.unfolded 𝓤 H 𝓜 𝓡)
     (f-meets 𝓤 H (𝓖 .A) (givenOf 𝓤 H 𝓜 𝓖) (𝓜 .mem) (𝓡 .run) (tablesOf 𝓤 H 𝓜 (tables 𝓤 H 𝓜 𝓡 code.env))
     (cited 𝓤 H (Dc 𝓤 H (𝓖 .A) (𝓜 .mem) (𝓡 .run)) 𝓜 𝓡 code.env #records·decode dec-def.routine code.calls-records·decode (dec-thm.met 𝓤 H 𝓜 𝓖 𝓡)))
