@@ -3,7 +3,7 @@ ghost use mathlib.Core.Path.{_≡_};
 ghost use Prim.Native.Nat.{_-_, _≤_};
 ghost use lib.ListN.{length};
 ghost use Rattle.plan.specs.PlanRules.{IsEdge};
-ghost use Rattle.plan.specs.PlanTable.{planNumbered};
+ghost use Rattle.plan_table.specs.PlanTable.{planNumbered};
 ghost use Rattle.store.specs.Answers.{DONE, answer};
 ghost use Rattle.store.specs.Layout.{width};
 ghost use Rattle.store.specs.Workers.{LentSized, lentStore};
@@ -122,7 +122,7 @@ pub fn settle<'a>(
     if !rules::good(plan, clock, counts, keys, kinds, values, stamps, slots) {
         return refused(Answer::BADSTORE, first);
     }
-    if plan::nodes(plan) <= node {
+    if plan_table::nodes(plan) <= node {
         return refused(Answer::NODE, first);
     }
     if plan::edge_count(plan, node) <= edge {

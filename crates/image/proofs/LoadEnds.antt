@@ -13,7 +13,7 @@ use Rattle.lists.proofs.Running.{length-run}
 use Rattle.plan.specs.Sizes.{mostNodes}
 use Rattle.plan.specs.Plan.{Node, Plan, noNode, size, capacityOf}
 use Rattle.plan.specs.PlanRules.{PlanRules}
-use Rattle.plan.specs.PlanTable.{planNumbered}
+use Rattle.plan_table.specs.PlanTable.{planNumbered}
 use Rattle.plan.specs.PlanArrays.{atNode, capacitiesRow}
 use Rattle.store.specs.declared.Answer.{Answer}
 use Rattle.store.specs.declared.Copy.{Copy}

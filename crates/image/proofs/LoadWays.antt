@@ -11,7 +11,7 @@ use Rattle.lists.proofs.Truths.{bool?, not-both, or-right}
 use mathlib.Core.Logic.{_⊎_, inl, inr}
 use Rattle.number.specs.Number.{narrow}
 use Rattle.plan.specs.Plan.{Plan}
-use Rattle.plan.specs.PlanTable.{planNumbered}
+use Rattle.plan_table.specs.PlanTable.{planNumbered}
 use Rattle.store.specs.declared.Outcome.{Outcome}
 use Rattle.store.specs.declared.Store.{Store}
 use Rattle.store.specs.Answers.{DONE, PLAN, CUT, NUMBER, FORMAT, RULE, TRAIL, answer}

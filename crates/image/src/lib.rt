@@ -36,7 +36,7 @@ pub fn save_lent<'a>(
     if !rules::good(plan, clock, counts, keys, kinds, values, stamps, slots) {
         return Answer::bare(Answer::BADSTORE);
     }
-    let nodes = plan::nodes(plan) as usize;
+    let nodes = plan_table::nodes(plan) as usize;
     let needed = lengths::image_length(plan, clock, nodes, counts, keys, kinds, values, stamps);
     if buffer.len() < needed {
         return Answer::of(Answer::SMALL, needed as u64, 0, 0, 0);
@@ -191,8 +191,8 @@ fn load_nodes<'a>(
     ensures { λ r. ⌜ lentLoaded r counts keys kinds values stamps ≡ finished (now (bytes .entry)) (nodesFrom (now (bytes .entry)) plan clock at) ⌝ }
 {
     clear(counts, keys, kinds, values, stamps);
-    let nodes = plan::nodes(plan);
-    let capacities = plan::capacities_of(plan);
+    let nodes = plan_table::nodes(plan);
+    let capacities = plan_table::capacities_of(plan);
     let end = image_reading::read_nodes(
         bytes,
         nodes,

@@ -7,7 +7,7 @@ use lib.ListN.{length, replicate}
 use Rattle.lists.specs.Runs.{run, allFrom}
 use Rattle.number.specs.Number.{formIn, form}
 use Rattle.plan.specs.Plan.{holds, firstEdge, next, walk, pathFrom}
-use Rattle.plan.specs.PlanTable.{planTable, plans, planNumbered}
+use Rattle.plan_table.specs.PlanTable.{planTable, plans, planNumbered}
 use Rattle.store.specs.declared.Copy.{Copy}
 use Rattle.store.specs.declared.Store.{Store}
 use Rattle.store.specs.Copies.{hasValue, RESULT, copy, find, member, different}

@@ -18,8 +18,8 @@ use Rattle.lists.proofs.Truths.{bool?}
 use Rattle.plan.specs.Sizes.{mostNodes}
 use Rattle.plan.specs.Plan.{size}
 use Rattle.plan.specs.PlanRules.{PlanRules}
-use Rattle.plan.specs.PlanTable.{planNumbered}
-use Rattle.plan.proofs.TableLaws.{table-rules}
+use Rattle.plan_table.specs.PlanTable.{planNumbered}
+use Rattle.plan_table.proofs.TableLaws.{table-rules}
 use Rattle.store.specs.declared.Copy.{Copy}
 use Rattle.store.specs.declared.Store.{Store}
 use Rattle.store.specs.Copies.{noCopy, keyOf, find}

@@ -2,7 +2,7 @@
 ghost use Prim.Native.Nat.{_≤_};
 ghost use lib.ListN.{length};
 ghost use Rattle.lists.specs.Stands.{Wrote};
-ghost use Rattle.plan.specs.PlanTable.{planNumbered};
+ghost use Rattle.plan_table.specs.PlanTable.{planNumbered};
 ghost use Rattle.store.specs.Layout.{stateOf};
 ghost use Rattle.store.specs.Workers.{holding, LentSized, lentStore};
 ghost use Rattle.page.specs.Page.{lastSample, mostPageBytes, pageOf};

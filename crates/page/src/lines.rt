@@ -4,7 +4,7 @@ ghost use mathlib.Core.List.{[]};
 ghost use Prim.Native.Nat.{_<_, _≤_};
 ghost use lib.ListN.{length};
 ghost use Rattle.plan.specs.Sizes.{mostNodes};
-ghost use Rattle.plan.specs.PlanTable.{planNumbered};
+ghost use Rattle.plan_table.specs.PlanTable.{planNumbered};
 ghost use Rattle.store.specs.Layout.{stateOf};
 ghost use Rattle.store.specs.Workers.{Ordered, holding};
 ghost use Rattle.page.specs.Page.{analytes, lastSample, linesOf};
@@ -77,7 +77,7 @@ fn current_places(
     requires { ⌜ Pageable plan (now counts) (now keys) × (sample ≤ lastSample) ⌝ }
     ensures { λ r. ⌜ CurrentAt plan (now (counts .entry)) (now (keys .entry)) sample r ⌝ }
 {
-    let nodes = plan::nodes(plan) as usize;
+    let nodes = plan_table::nodes(plan) as usize;
     let mut current = [Store::PLACES; MOST_LINES];
     let mut laid = 0;
     while laid < nodes {

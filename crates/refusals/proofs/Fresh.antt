@@ -5,7 +5,7 @@ use mathlib.Core.Logic.{_↔_, _⊎_, inl, inr}
 use Prim.Native.Nat.{ℕ, _≤_}
 use native.Mathlib.Omega.{arith}
 use Rattle.lists.proofs.Truths.{bool?, refuted, both-le, le-both, not-both}
-use Rattle.plan.specs.PlanTable.{plans}
+use Rattle.plan_table.specs.PlanTable.{plans}
 use Rattle.store.specs.declared.Outcome.{Outcome}
 use Rattle.store.specs.Answers.{DONE, PLAN, bare}
 use Rattle.store.specs.Layout.{freshStore}

@@ -12,7 +12,7 @@ use borrow.Author.Tests.{eqb-true, eqb-false, ne-eqb, ltb-false, le-ltb}
 use Rattle.lists.proofs.Truths.{bool?, not-both}
 use Rattle.number.specs.Number.{moreBytes, lastByte, EndsEarly, EndsInZero, EndsAbove}
 use Rattle.plan.specs.Plan.{Plan}
-use Rattle.plan.specs.PlanTable.{planNumbered}
+use Rattle.plan_table.specs.PlanTable.{planNumbered}
 use Rattle.store.specs.declared.Copy.{Copy}
 use Rattle.store.specs.declared.Outcome.{Outcome}
 use Rattle.store.specs.declared.Store.{Store}

@@ -17,7 +17,7 @@ use Rattle.number.specs.declared.Reading.the-variants.{Value, Cut, Malformed}
 use Rattle.number.specs.Number.{Bytes, form, moreBytes, readAt}
 use Rattle.number.proofs.Forms.{form-one, form-some, form-length}
 use Rattle.plan.specs.Sizes.{lastKey}
-use Rattle.plan.specs.PlanTable.{planTable, plans}
+use Rattle.plan_table.specs.PlanTable.{planTable, plans}
 use Rattle.store.specs.declared.Answer.{Answer}
 use Rattle.store.specs.Answers.{PLAN, OP, MANY}
 use Rattle.store.specs.StoreRules.{planNumberTest}

@@ -2,7 +2,7 @@
 ghost use mathlib.Core.Path.{_≡_};
 ghost use mathlib.Core.Option.{none, some};
 ghost use Rattle.store.specs.Workers.{holding, LentSized, lentStore};
-ghost use Rattle.plan.specs.PlanTable.{planNumbered};
+ghost use Rattle.plan_table.specs.PlanTable.{planNumbered};
 ghost use Rattle.store.specs.Layout.{stateOf};
 ghost use Rattle.plan.specs.PlanArrays.{ArraysOf};
 ghost use Rattle.steps.specs.Promises.{Looks};
@@ -97,10 +97,10 @@ fn looked<'a>(
     requires { ⌜ Lookable plan (now counts) (now keys) ⌝ }
     ensures { λ r. ⌜ r ≡ lookAnswer key (planNumbered plan) (stateOf (holding plan 0 (now (counts .entry)) (now (keys .entry)) (now (kinds .entry)) (now (values .entry)) (now (stamps .entry)))) ⌝ }
 {
-    let edges = plan::edge_counts_of(plan);
-    let lows = plan::lowest_of(plan);
-    let highs = plan::highest_of(plan);
-    let targets = plan::targets_of(plan);
+    let edges = plan_table::edge_counts_of(plan);
+    let lows = plan_table::lowest_of(plan);
+    let highs = plan_table::highest_of(plan);
+    let targets = plan_table::targets_of(plan);
     let seen = look_down(
         plan,
         &edges,

@@ -7,8 +7,8 @@ use mathlib.Core.List.{List, [], _∷_, map}
 use Prim.Native.Nat.{ℕ}
 use native.Mathlib.Omega.{arith}
 use Rattle.lists.proofs.Truths.{bool?, not-both, le-both}
-use Rattle.plan.specs.PlanTable.{plans}
-use Rattle.plan.proofs.TableLaws.{plans-three}
+use Rattle.plan_table.specs.PlanTable.{plans}
+use Rattle.plan_table.proofs.TableLaws.{plans-three}
 use Rattle.store.specs.declared.Outcome.{Outcome}
 use Rattle.store.specs.declared.Store.{Store}
 use Rattle.store.specs.Layout.{freshStore}

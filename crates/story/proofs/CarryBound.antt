@@ -11,7 +11,7 @@ use native.Mathlib.Nat.{add-zero, mul-add}
 use Rattle.lists.proofs.Truths.{bool?, not-both, le-both}
 use Rattle.lists.proofs.Options.{option?}
 use Rattle.plan.specs.Plan.{edgesOn}
-use Rattle.plan.specs.PlanTable.{planNumbered, plans}
+use Rattle.plan_table.specs.PlanTable.{planNumbered, plans}
 use Rattle.store.specs.declared.Copy.{Copy}
 use Rattle.store.specs.declared.Store.{Store}
 use Rattle.store.specs.State.{lastClock, fresh}

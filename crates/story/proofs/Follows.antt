@@ -11,8 +11,8 @@ use lib.ListN.{getD}
 use Rattle.lists.proofs.Truths.{bool?, not-both, and-right, both-le}
 use Rattle.lists.proofs.Options.{option?, not-none-and-some, one-some}
 use Rattle.plan.specs.Plan.{Plan}
-use Rattle.plan.specs.PlanTable.{plans}
-use Rattle.plan.proofs.TableLaws.{plans-three}
+use Rattle.plan_table.specs.PlanTable.{plans}
+use Rattle.plan_table.proofs.TableLaws.{plans-three}
 use Rattle.store.specs.declared.Outcome.{Outcome}
 use Rattle.store.specs.declared.Store.{Store}
 use Rattle.store.specs.Copies.{isSome}

@@ -9,7 +9,7 @@ use Prim.Native.Nat.{ℕ, _+_, _≤_}
 use native.Mathlib.Omega.{arith}
 use native.Mathlib.Nat.{zero-add}
 use Rattle.lists.proofs.Options.{option?}
-use Rattle.plan.specs.PlanTable.{planNumbered, plans}
+use Rattle.plan_table.specs.PlanTable.{planNumbered, plans}
 use Rattle.store.specs.declared.Store.{Store}
 use Rattle.store.specs.Copies.{isSome}
 use Rattle.store.specs.State.{State, line}

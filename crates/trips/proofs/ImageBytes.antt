@@ -7,7 +7,7 @@ use lib.ListN.{length, getD}
 use Rattle.number.specs.Number.{Bytes, form}
 use Rattle.number.proofs.Meaning.{form-bytes}
 use Rattle.plan.specs.Plan.{Plan}
-use Rattle.plan.proofs.TableLaws.{plans-three}
+use Rattle.plan_table.proofs.TableLaws.{plans-three}
 use Rattle.store.specs.declared.Copy.{Copy}
 use Rattle.store.specs.declared.Store.{Store}
 use Rattle.store.specs.Copies.{noCopy}

@@ -14,8 +14,8 @@ use Rattle.lists.proofs.Truths.{both-le, le-both}
 use Rattle.number.specs.Number.{Bytes, form}
 use Rattle.plan.specs.Plan.{Plan, size}
 use Rattle.plan.specs.PlanRules.{PlanRules}
-use Rattle.plan.specs.PlanTable.{planNumbered, plans}
-use Rattle.plan.proofs.TableLaws.{plans-three, table-rules}
+use Rattle.plan_table.specs.PlanTable.{planNumbered, plans}
+use Rattle.plan_table.proofs.TableLaws.{plans-three, table-rules}
 use Rattle.store.specs.declared.Copy.{Copy}
 use Rattle.store.specs.declared.Store.{Store}
 use Rattle.store.specs.Answers.{PLAN, FORMAT, RULE}

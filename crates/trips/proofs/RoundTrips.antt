@@ -13,8 +13,8 @@ use Rattle.lists.proofs.Storing.{getD-same}
 use Rattle.number.specs.Number.{Bytes, narrow}
 use Rattle.plan.specs.Plan.{Plan}
 use Rattle.plan.specs.Sizes.{lastKey}
-use Rattle.plan.specs.PlanTable.{planNumbered}
-use Rattle.plan.proofs.TableLaws.{plans-three}
+use Rattle.plan_table.specs.PlanTable.{planNumbered}
+use Rattle.plan_table.proofs.TableLaws.{plans-three}
 use Rattle.store.specs.declared.Copy.{Copy}
 use Rattle.store.specs.declared.Outcome.{Outcome}
 use Rattle.store.specs.declared.Slot.{Slot}

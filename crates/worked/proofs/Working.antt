@@ -4,7 +4,7 @@ use mathlib.Core.Bool.{Bool, true}
 use Rattle.lists.specs.Runs.{run, allFrom}
 use Rattle.number.specs.Number.{formIn, form, readLast, putBelow, readIn, readAt}
 use Rattle.plan.specs.Plan.{holds, firstEdge, next, walk, pathFrom}
-use Rattle.plan.specs.PlanTable.{planTable, plans, planNumbered}
+use Rattle.plan_table.specs.PlanTable.{planTable, plans, planNumbered}
 use Rattle.store.specs.Copies.{hasValue, find, member, different}
 use Rattle.store.specs.State.{fresh, firstOn, inReach}
 use Rattle.store.specs.Layout.{nodeIn, planOf, stateOf, column, storeOf, freshStore}

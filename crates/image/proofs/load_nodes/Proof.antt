@@ -1,7 +1,7 @@
 -- `image::load_nodes` meets its contract. Assumes nothing.
 use mathlib.Core.Path.{_∙_}
 use borrow.Author.Tests.{not-true, not-false}
-use Rattle.plan.specs.PlanTable.{planNumbered}
+use Rattle.plan_table.specs.PlanTable.{planNumbered}
 use Rattle.image.proofs.LoadEnds.{plan-places, nodes-refused, nodes-loaded, nodes-sized}
 use borrow.Author.Needs.{needs}
 use Rattle.image.proofs.load_nodes.Statement.{statement}

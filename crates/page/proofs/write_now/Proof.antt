@@ -8,7 +8,7 @@ use Rattle.store.specs.Workers.{holding}
 use Rattle.page.specs.Page.{pageBytes}
 use Rattle.page.proofs.PageWriting.{page-room}
 use Rattle.page.proofs.write_now.Statement.{statement}
-use Rattle.plan.specs.PlanTable.{planNumbered}
+use Rattle.plan_table.specs.PlanTable.{planNumbered}
 use Rattle.page.proofs.write_now.Tie as tie
 
 -- The state of the columns lent.

@@ -5,8 +5,8 @@ use native.Mathlib.Omega.{arith}
 use borrow.Author.Needs.{needs}
 use Rattle.plan.specs.Sizes.{mostNodes}
 use Rattle.plan.specs.Plan.{size}
-use Rattle.plan.specs.PlanTable.{planNumbered}
-use Rattle.plan.proofs.TableLaws.{table-rules}
+use Rattle.plan_table.specs.PlanTable.{planNumbered}
+use Rattle.plan_table.proofs.TableLaws.{table-rules}
 use Rattle.page.proofs.NodeByNode.{LaidFrom, nodes-start, nodes-turn, nodes-end}
 use Rattle.page.proofs.lines.current_places.Statement.{statement}
 use Rattle.page.proofs.lines.current_places.Tie as tie

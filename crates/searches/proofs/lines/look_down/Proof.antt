@@ -7,9 +7,9 @@ use borrow.Author.Needs.{needs}
 use Rattle.plan.specs.Sizes.{mostNodes}
 use Rattle.plan.specs.Plan.{size, next}
 use Rattle.plan.specs.PlanRules.{PlanRules}
-use Rattle.plan.specs.PlanTable.{planNumbered}
+use Rattle.plan_table.specs.PlanTable.{planNumbered}
 use Rattle.plan.proofs.NextLaws.{next-down}
-use Rattle.plan.proofs.TableLaws.{table-rules}
+use Rattle.plan_table.proofs.TableLaws.{table-rules}
 use Rattle.store.specs.declared.Store.{Store}
 use Rattle.store.specs.Workers.{holding}
 use Rattle.store.specs.Layout.{planOf}

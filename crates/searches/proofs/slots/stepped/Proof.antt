@@ -12,7 +12,7 @@ use Rattle.steps.specs.Searches.{stepStep}
 use Rattle.searches.proofs.Slotting.{turn-stays, no-slot, slot-rests}
 use borrow.Author.Needs.{needs}
 use Rattle.searches.proofs.slots.stepped.Statement.{statement}
-use Rattle.plan.specs.PlanTable.{planNumbered}
+use Rattle.plan_table.specs.PlanTable.{planNumbered}
 use Rattle.searches.proofs.slots.stepped.Tie as tie
 
 -- The store of the columns and slots, at a clock.

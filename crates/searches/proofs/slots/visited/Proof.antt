@@ -4,7 +4,7 @@ use Prim.Native.Nat.{ℕ, _+_, _<_}
 use native.Mathlib.Omega.{arith}
 use lib.ListN.{length, getD}
 use Rattle.plan.specs.Sizes.{mostNodes}
-use Rattle.plan.proofs.TableLaws.{table-rules}
+use Rattle.plan_table.proofs.TableLaws.{table-rules}
 use Rattle.store.specs.declared.Store.{Store}
 use Rattle.store.specs.State.{slotCount, idle}
 use Rattle.store.specs.Workers.{ofParts}
