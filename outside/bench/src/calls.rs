@@ -176,6 +176,6 @@ pub fn print() {
     println!("Nanoseconds, library / model = ratio:\n");
     println!("| plan | call | fresh store | half full | full |");
     println!("|---|---|---|---|---|");
-    (1..=3).for_each(print_plan);
+    (1..=model::PLANS.len() as u32).for_each(print_plan);
     print_broken();
 }

@@ -1,6 +1,6 @@
 //! The stores that calls are measured on, made by the model's calls.
 
-use model::{carry, enter, fresh, start, Plan, Store};
+use model::{carry, enter, fresh, start, Plan, Store, NODE_PLACES};
 
 /// How full a store is.
 #[derive(Clone, Copy, PartialEq)]
@@ -38,7 +38,7 @@ pub fn make(number: u32, fill: Fill) -> Store {
         Fill::Half => (2, 2),
         Fill::Full => (1, 7),
     };
-    let plan = Plan::numbered(number).expect("1 to 3");
+    let plan = Plan::numbered(number).expect("a plan of the table");
     for node in (0..plan.nodes()).rev() {
         fill_node(&mut store, plan, node, plan.capacities[node] / part);
         assert_eq!(store.counts[node] as usize, plan.capacities[node] / part);
@@ -75,8 +75,13 @@ fn choose(node: usize, next: u32) -> u32 {
     line_of(next % 2, first)
 }
 
+/// The keys that a node holds.
+fn held(store: &Store, node: usize) -> &[u32] {
+    &store.keys[node * NODE_PLACES..node * NODE_PLACES + store.counts[node] as usize]
+}
+
 fn has(store: &Store, node: usize, key: u32) -> bool {
-    store.keys[node * 64..node * 64 + store.counts[node] as usize].contains(&key)
+    held(store, node).contains(&key)
 }
 
 /// Carries along all edges on the way from the root to the node.
@@ -105,9 +110,9 @@ mod tests {
             [(1, Fill::Half), (1, Fill::Full), (2, Fill::Full), (3, Fill::Half), (3, Fill::Full)]
         {
             let store = make(number, fill);
-            let plan = Plan::numbered(number).expect("1 to 3");
+            let plan = Plan::numbered(number).expect("a plan of the table");
             for node in (0..plan.nodes()).filter(|&node| !plan.edges[node].is_empty()) {
-                let keys = &store.keys[node * 64..node * 64 + store.counts[node] as usize];
+                let keys = held(&store, node);
                 let again = keys.iter().filter(|&&key| below(&store, plan, node, key) > 0).count();
                 assert_eq!(2 * again, keys.len(), "plan {number}, node {node}");
             }
