@@ -1,5 +1,4 @@
 pub mod Sizes
 pub mod Plan
 pub mod PlanRules
-pub mod PlanTable
 pub mod PlanArrays

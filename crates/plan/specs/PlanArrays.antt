@@ -7,12 +7,12 @@ use Prim.Native.Nat.{ℕ, min}
 use lib.Dec.{ltb}
 use lib.ListN.{length, getD}
 use denote.Ref.{RefT}
+use denote.Triple.Both.{Both}
 use Rattle.lists.specs.Runs.{run}
 use Rattle.plan.specs.declared.Edge.{Edge}
 use Rattle.plan.specs.Sizes.{mostNodes, mostEdges}
 use Rattle.plan.specs.Plan.{Plan, size, capacityOf, edgesOf, edgeOf}
 use Rattle.plan.specs.PlanRules.{PlanRules}
-use Rattle.plan.specs.PlanTable.{planNumbered}
 
 -- A number for each edge, by node and then by edge.
 abbrev pub Grid : Type 0
@@ -50,13 +50,6 @@ countsRow p = run 0 mostNodes (λ n. length (edgesOf p n))
 unfoldable pub gridOf : (Edge → ℕ) → Plan → Grid
 gridOf part p = run 0 mostNodes (λ n. run 0 mostEdges (λ i. part (edgeOf p n i)))
 
--- Arrays that are the plan's, taken once and lent.
-pub record ArraysOf (plan : ℕ) (edges : List ℕ) (lows highs targets : Grid) : Type 0 where
-  pub edges-of : edges ≡ countsRow (planNumbered plan)
-  pub lows-of : lows ≡ gridOf (λ (e : Edge). e .lowest) (planNumbered plan)
-  pub highs-of : highs ≡ gridOf (λ (e : Edge). e .highest) (planNumbered plan)
-  pub targets-of : targets ≡ gridOf (λ (e : Edge). e .target) (planNumbered plan)
-
 -- The node count and the rows, taken once and lent, are those of a plan that meets the plan rules.
 pub record RowsOf (p : Plan) (nodes : ℕ) (edges : List ℕ) (lows highs targets : Grid) : Type 0 where
   pub rules : PlanRules p
@@ -69,3 +62,12 @@ pub record RowsOf (p : Plan) (nodes : ℕ) (edges : List ℕ) (lows highs target
 -- The same over references.
 abbrev pub LentRowsOf : Plan → ℕ → RefT (List ℕ) → RefT Grid → RefT Grid → RefT Grid → Type 0
 LentRowsOf p nodes edges lows highs targets = RowsOf p nodes (edges .now) (lows .now) (highs .now) (targets .now)
+
+-- What is lent to be read, as an `ensures` sees it: on entry and on exit.
+abbrev pub Lent : Type 0 → Type 0
+Lent A = Both (RefT A) (RefT A)
+
+-- A fact of each plan that has these rows.
+abbrev pub EachPlan : ℕ → Lent (List ℕ) → Lent Grid → Lent Grid → Lent Grid → (Plan → Type 0) → Type 0
+EachPlan nodes edges lows highs targets fact =
+    (p : Plan) → LentRowsOf p nodes (edges .entry) (lows .entry) (highs .entry) (targets .entry) → fact p

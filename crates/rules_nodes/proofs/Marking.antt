@@ -8,9 +8,8 @@ use native.Mathlib.Numerals.{add-one}
 use lib.Dec.{ltb, eqb}
 use borrow.Author.Tests.{le-leb, lt-leb}
 use Rattle.store.specs.declared.Copy.{Copy}
-use Rattle.store.specs.declared.Store.{Store}
 use Rattle.store.specs.Copies.{lastKind, hasValue}
-use Rattle.store.specs.Layout.{copyOf}
+use Rattle.store.specs.Layout.{copyIn}
 use Rattle.store.specs.StoreRules.{kindTest}
 use Rattle.store.specs.Workers.{numberIn}
 use Rattle.rules_nodes.specs.Workers.{markTest, keyRises, usedTest}
@@ -51,11 +50,11 @@ module _ (keys : List ℕ) (end i : ℕ) where
   rises-next h = rw (lt-leb end (suc i) (omega arith), add-one)
 
 -- A used place.
-module _ (z : Store) (end i : ℕ) where
-  pub used-order : keyRises (z .keys) end i ≡ false → usedTest z end i ≡ false
+module _ (clock : ℕ) (keys kinds values stamps : List ℕ) (end i : ℕ) where
+  pub used-order : keyRises keys end i ≡ false → usedTest clock keys kinds values stamps end i ≡ false
   unfolding usedTest
   used-order h = rw h
 
-  pub used-mark : keyRises (z .keys) end i ≡ true → usedTest z end i ≡ markTest (z .clock) (copyOf z i)
+  pub used-mark : keyRises keys end i ≡ true → usedTest clock keys kinds values stamps end i ≡ markTest clock (copyIn keys kinds values stamps i)
   unfolding usedTest
   used-mark h = rw h

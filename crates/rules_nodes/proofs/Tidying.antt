@@ -2,7 +2,7 @@
 use mathlib.Core.Path.{_≡_, sym, ap, _∙_}
 use mathlib.Core.Bool.{Bool, true, false, and-false, _&&_}
 use mathlib.Core.Logic.{⊎-elim}
-use mathlib.Core.List.{[]}
+use mathlib.Core.List.{List}
 use Prim.Native.Nat.{ℕ, suc, _+_, _-_, _*_, _<_, _≤_}
 use native.Mathlib.Omega.{arith}
 use native.Mathlib.Decide.{decLt}
@@ -16,84 +16,96 @@ use Rattle.lists.proofs.Running.{all-at, all-below}
 use Rattle.plan.specs.Sizes.{mostNodes}
 use Rattle.plan.specs.Plan.{Node, Plan, noNode, size, capacityOf}
 use Rattle.plan.specs.PlanRules.{PlanRules}
-use Rattle.store.specs.declared.Store.{Store}
-use Rattle.store.specs.Layout.{planOf, width, countOf}
-use Rattle.store.specs.StoreRules.{planNumberTest, allZero, unusedTest}
-use Rattle.store.specs.Workers.{numberIn, holding, Ordered, AllOrdered}
-use Rattle.rules_nodes.specs.Workers.{usedTest, tidyTest}
-use Rattle.store.proofs.Freshening.{number-rules}
+use Rattle.plan.specs.PlanArrays.{atNode, capacitiesRow}
+use Rattle.plan.proofs.RowsLent.{capacity-of}
+use Rattle.store.specs.Layout.{width}
+use Rattle.store.specs.StoreRules.{allZero, unusedTest}
+use Rattle.store.specs.Workers.{numberIn, Ordered, AllOrdered}
+use Rattle.rules_nodes.specs.Workers.{usedTest, tidyTest, AllFit}
 
--- Four tests.
-module _ (a b c d : Bool) where
-  pub first-fails : a ≡ false → false ≡ (a && b && c && d)
-  first-fails h = rw h
+-- Unused places, column by column.
+module _ (keys kinds values stamps : List ℕ) (from end : ℕ) where
+  abbrev unused : Bool
+  unused = unusedTest keys kinds values stamps from end
 
-  pub second-fails : b ≡ false → false ≡ (a && b && c && d)
-  second-fails h = rw (h, and-false a)
+  abbrev zeros : List ℕ → Bool
+  zeros column = allZero (slice from end column)
 
-  pub third-fails : c ≡ false → false ≡ (a && b && c && d)
-  third-fails h = rw (h, and-false (a && b))
+  pub keys-fail : zeros keys ≡ false → false ≡ unused
+  unfolding unusedTest
+  keys-fail h = rw h
 
-  pub fourth-decides : a ≡ true → b ≡ true → c ≡ true → d ≡ (a && b && c && d)
-  fourth-decides h g k = rw (h, g, k)
+  pub kinds-fail : zeros kinds ≡ false → false ≡ unused
+  unfolding unusedTest
+  kinds-fail h = rw (h, and-false (zeros keys))
 
--- A node has places for as many copies as it may hold; one that the plan lacks may hold none.
-pub capacity-fits : (p : Plan) → PlanRules p → (n : ℕ) → capacityOf p n ≤ width
-capacity-fits p rules n = go (decLt n (size p))
+  pub values-fail : zeros values ≡ false → false ≡ unused
+  unfolding unusedTest
+  values-fail h = rw (h, and-false (zeros keys && zeros kinds))
+
+  pub stamps-decide : zeros keys ≡ true → zeros kinds ≡ true → zeros values ≡ true → zeros stamps ≡ unused
+  unfolding unusedTest
+  stamps-decide h g k = rw (h, g, k)
+
+-- A plan that meets the plan rules has places for as many copies as a node may hold; one that the plan lacks may hold none.
+pub rows-fit : (p : Plan) → PlanRules p → (capacities : List ℕ) → capacities ≡ capacitiesRow p → AllFit capacities
+rows-fit p rules capacities e n = rw (capacity-of p rules capacities e n) (go (decLt n (size p)))
   where
     go : Dec (n < size p) → capacityOf p n ≤ width
     go (yes h) = rules .capacity-within n h .1
-    go (no h) = let e : capacityOf p n ≡ 0 = ap (λ (d : Node). d .capacity) (List·getD-eq-default p noNode (omega arith)) in omega arith
+    go (no h) = let none : capacityOf p n ≡ 0 = ap (λ (d : Node). d .capacity) (List·getD-eq-default p noNode (omega arith)) in omega arith
 
-module _ (z : Store) (n : ℕ) where
-  pub node-over : capacityOf (planOf z) n < countOf z n → tidyTest z n ≡ false
-  unfolding tidyTest
-  node-over h = rw (lt-leb (countOf z n) (capacityOf (planOf z) n) h)
+module _ (capacities : List ℕ) (clock : ℕ) (counts keys kinds values stamps : List ℕ) (n : ℕ) where
+  abbrev count : ℕ
+  count = numberIn counts n
 
-  -- The test of its used places reads neither the plan nor the counts.
+  abbrev tidy : Bool
+  tidy = tidyTest capacities clock counts keys kinds values stamps n
+
   abbrev usedAt : ℕ → ℕ → Bool
-  usedAt = usedTest (holding 0 (z .clock) [] (z .keys) (z .kinds) (z .values) (z .stamps))
+  usedAt = usedTest clock keys kinds values stamps
+
+  pub node-over : atNode capacities n < count → tidy ≡ false
+  unfolding tidyTest
+  node-over h = rw (lt-leb count (atNode capacities n) h)
 
   -- The node has the places from .. end in use.
-  module _ (from end : ℕ) (f : from ≡ width * n) (e : end ≡ width * n + countOf z n) where
-    used : allFrom from (end - from) (usedAt end) ≡ allFrom (width * n) (countOf z n) (usedTest z (width * n + countOf z n))
-    unfolding usedTest
-    used = let s : end - from ≡ countOf z n = omega arith in rw (s, f, e)
+  module _ (from end : ℕ) (f : from ≡ width * n) (e : end ≡ width * n + count) where
+    used : allFrom from (end - from) (usedAt end) ≡ allFrom (width * n) count (usedAt (width * n + count))
+    used = let s : end - from ≡ count = omega arith in rw (s, f, e)
 
-    pub node-used : allFrom from (end - from) (usedAt end) ≡ false → tidyTest z n ≡ false
+    pub node-used : allFrom from (end - from) (usedAt end) ≡ false → tidy ≡ false
     unfolding tidyTest
-    node-used h = rw (sym used ∙ h, and-false (leb (countOf z n) (capacityOf (planOf z) n)))
+    node-used h = rw (sym used ∙ h, and-false (leb count (atNode capacities n)))
 
-    pub node-unused : countOf z n ≤ capacityOf (planOf z) n → allFrom from (end - from) (usedAt end) ≡ true
-        → tidyTest z n
-        ≡ (allZero (slice end (from + width) (z .keys)) && allZero (slice end (from + width) (z .kinds)) && allZero (slice end (from + width) (z .values)) && allZero (slice end (from + width) (z .stamps)))
-    unfolding tidyTest unusedTest
-    node-unused h g = rw (le-leb (countOf z n) (capacityOf (planOf z) n) h, sym used ∙ g, e, f)
+    pub node-unused : count ≤ atNode capacities n → allFrom from (end - from) (usedAt end) ≡ true
+        → tidy ≡ unusedTest keys kinds values stamps end (from + width)
+    unfolding tidyTest
+    node-unused h g = rw (le-leb count (atNode capacities n) h, sym used ∙ g, e, f)
 
   -- In a node that passes a look can go by halves.
-  module _ (number : planNumberTest (z .plan) ≡ true) (t : tidyTest z n ≡ true) where
-    within : countOf z n ≤ capacityOf (planOf z) n
+  module _ (t : tidy ≡ true) where
+    within : count ≤ atNode capacities n
     unfolding tidyTest
-    within = leb-true (countOf z n) (capacityOf (planOf z) n) (search (and-left, and-right) depth 8)
+    within = leb-true count (atNode capacities n) (search (and-left, and-right) depth 8)
 
-    place-used : (i : ℕ) → width * n ≤ i → i < width * n + countOf z n → usedTest z (width * n + countOf z n) i ≡ true
+    place-used : (i : ℕ) → width * n ≤ i → i < width * n + count → usedAt (width * n + count) i ≡ true
     unfolding tidyTest
-    place-used = all-at (usedTest z (width * n + countOf z n)) (width * n) (countOf z n) (search (and-left, and-right) depth 8)
+    place-used = all-at (usedAt (width * n + count)) (width * n) count (search (and-left, and-right) depth 8)
 
-    rising : (i : ℕ) → suc i < width * n + countOf z n → usedTest z (width * n + countOf z n) i ≡ true → numberIn (z .keys) i < numberIn (z .keys) (suc i)
+    rising : (i : ℕ) → suc i < width * n + count → usedAt (width * n + count) i ≡ true → numberIn keys i < numberIn keys (suc i)
     unfolding usedTest
     rising i h g =
-        ⊎-elim (λ (a : leb (width * n + countOf z n) (suc i) ≡ true). absurd (let b = leb-true (width * n + countOf z n) (suc i) a in omega arith))
-        (λ (a : ltb (numberIn (z .keys) i) (numberIn (z .keys) (suc i)) ≡ true). ltb-true (numberIn (z .keys) i) (numberIn (z .keys) (suc i)) a)
-        (or-cases (leb (width * n + countOf z n) (suc i)) (ltb (numberIn (z .keys) i) (numberIn (z .keys) (suc i))) (search (and-left, and-right) depth 8))
+        ⊎-elim (λ (a : leb (width * n + count) (suc i) ≡ true). absurd (let b = leb-true (width * n + count) (suc i) a in omega arith))
+        (λ (a : ltb (numberIn keys i) (numberIn keys (suc i)) ≡ true). ltb-true (numberIn keys i) (numberIn keys (suc i)) a)
+        (or-cases (leb (width * n + count) (suc i)) (ltb (numberIn keys i) (numberIn keys (suc i))) (search (and-left, and-right) depth 8))
 
-    pub node-ordered : Ordered (z .counts) (z .keys) n
-    node-ordered =
-        record {
-          fits = omega (arith, within, capacity-fits (planOf z) (number-rules (z .plan) number) n);
-          rises = λ i h g. rising i g (place-used i h (omega arith));
-        }
+    pub node-ordered : AllFit capacities → Ordered counts keys n
+    node-ordered fit = record { fits = omega (arith, within, fit n); rises = λ i h g. rising i g (place-used i h (omega arith)) }
 
 -- So it can in all nodes, if they pass.
-pub nodes-ordered : (z : Store) → planNumberTest (z .plan) ≡ true → allBelow mostNodes (tidyTest z) ≡ true → AllOrdered (z .counts) (z .keys)
-nodes-ordered z number t n h = node-ordered z n number (all-below (tidyTest z) mostNodes t n h)
+pub nodes-ordered : (capacities : List ℕ) → AllFit capacities → (clock : ℕ) (counts keys kinds values stamps : List ℕ)
+    → allBelow mostNodes (tidyTest capacities clock counts keys kinds values stamps) ≡ true → AllOrdered counts keys
+nodes-ordered capacities fit clock counts keys kinds values stamps t n h =
+    node-ordered capacities clock counts keys kinds values stamps n
+    (all-below (tidyTest capacities clock counts keys kinds values stamps) mostNodes t n h) fit

@@ -1,13 +1,15 @@
--- The test of a node's own numbers, part by part.
+-- The test of a node's own numbers, part by part, on columns.
+use mathlib.Core.Path.{_≡_}
 use mathlib.Core.Bool.{Bool, _&&_, _||_}
 use mathlib.Core.List.{List}
-use Prim.Native.Nat.{ℕ, suc, _+_, _*_}
+use Prim.Native.Nat.{ℕ, suc, _+_, _-_, _*_, _≤_}
 use lib.Dec.{leb, ltb}
+use lib.ListN.{length}
+use denote.Ref.{RefT}
 use Rattle.lists.specs.Runs.{allFrom}
-use Rattle.plan.specs.Plan.{capacityOf}
+use Rattle.plan.specs.PlanArrays.{atNode}
 use Rattle.store.specs.declared.Copy.{Copy}
-use Rattle.store.specs.declared.Store.{Store}
-use Rattle.store.specs.Layout.{planOf, width, copyOf, countOf}
+use Rattle.store.specs.Layout.{width, places, copyIn}
 use Rattle.store.specs.StoreRules.{kindTest, unusedTest}
 use Rattle.store.specs.Workers.{numberIn}
 
@@ -20,12 +22,36 @@ abbrev pub keyRises : List ℕ → ℕ → ℕ → Bool
 keyRises keys end i = leb end (suc i) || ltb (numberIn keys i) (numberIn keys (suc i))
 
 -- both at a used place, in a node whose used places go up to the end,
-unfoldable pub usedTest : Store → ℕ → ℕ → Bool
-usedTest z end i = keyRises (z .keys) end i && markTest (z .clock) (copyOf z i)
+unfoldable pub usedTest : ℕ → List ℕ → List ℕ → List ℕ → List ℕ → ℕ → ℕ → Bool
+usedTest clock keys kinds values stamps end i = keyRises keys end i && markTest clock (copyIn keys kinds values stamps i)
 
--- and the count, the used places and the others of a node.
-unfoldable pub tidyTest : Store → ℕ → Bool
-tidyTest z n =
-    leb (countOf z n) (capacityOf (planOf z) n)
-    && allFrom (width * n) (countOf z n) (usedTest z (width * n + countOf z n))
-    && unusedTest z (width * n + countOf z n) (width * n + width)
+-- and the count, within what the node may hold, the used places and the others of a node.
+unfoldable pub tidyTest : List ℕ → ℕ → List ℕ → List ℕ → List ℕ → List ℕ → List ℕ → ℕ → Bool
+tidyTest capacities clock counts keys kinds values stamps n =
+    let count = numberIn counts n in
+    let end = width * n + count in
+    leb count (atNode capacities n) && allFrom (width * n) count (usedTest clock keys kinds values stamps end)
+    && unusedTest keys kinds values stamps end (width * n + width)
+
+-- Every node has places for as many copies as it may hold.
+abbrev pub AllFit : List ℕ → Type 0
+AllFit capacities = (n : ℕ) → atNode capacities n ≤ width
+
+-- Four lent columns that are as long as a store's.
+abbrev pub LentColumns : RefT (List ℕ) → RefT (List ℕ) → RefT (List ℕ) → RefT (List ℕ) → Type 0
+LentColumns keys kinds values stamps =
+    (length (keys .now) ≡ places) × (length (kinds .now) ≡ places) × (length (values .now) ≡ places) × (length (stamps .now) ≡ places)
+
+-- The tests over references: the places from..end are well used,
+abbrev pub lentUsed : ℕ → RefT (List ℕ) → RefT (List ℕ) → RefT (List ℕ) → RefT (List ℕ) → ℕ → ℕ → Bool
+lentUsed clock keys kinds values stamps from end =
+    allFrom from (end - from) (usedTest clock (keys .now) (kinds .now) (values .now) (stamps .now) end)
+
+-- they are unused,
+abbrev pub lentUnused : RefT (List ℕ) → RefT (List ℕ) → RefT (List ℕ) → RefT (List ℕ) → ℕ → ℕ → Bool
+lentUnused keys kinds values stamps = unusedTest (keys .now) (kinds .now) (values .now) (stamps .now)
+
+-- a node passes, by its number,
+abbrev pub lentTidy : RefT (List ℕ) → ℕ → RefT (List ℕ) → RefT (List ℕ) → RefT (List ℕ) → RefT (List ℕ) → RefT (List ℕ) → ℕ → Bool
+lentTidy capacities clock counts keys kinds values stamps =
+    tidyTest (capacities .now) clock (counts .now) (keys .now) (kinds .now) (values .now) (stamps .now)

@@ -1,18 +1,12 @@
 // The rules of a node's own numbers, on lent columns: its count, its used places and the others.
 ghost use mathlib.Core.Path.{_≡_};
-ghost use mathlib.Core.Bool.{true, _&&_};
-ghost use Prim.Native.Nat.{_-_, _<_, _≤_};
-ghost use mathlib.Core.List.{[]};
-ghost use lib.ListN.{length};
-ghost use lib.Seq.{slice};
-ghost use Rattle.lists.specs.Runs.{allFrom, allBelow};
+ghost use Prim.Native.Nat.{_<_, _≤_};
+ghost use Rattle.lists.specs.Runs.{allBelow};
 ghost use Rattle.plan.specs.Sizes.{mostNodes};
-ghost use Rattle.plan.specs.PlanTable.{planNumbered};
-ghost use Rattle.plan.specs.PlanArrays.{capacitiesRow};
 ghost use Rattle.store.specs.Layout.{places};
-ghost use Rattle.store.specs.StoreRules.{planNumberTest, kindTest, allZero};
-ghost use Rattle.store.specs.Workers.{holding, LentSized};
-ghost use Rattle.rules_nodes.specs.Workers.{markTest, keyRises, usedTest, tidyTest};
+ghost use Rattle.store.specs.StoreRules.{kindTest};
+ghost use Rattle.store.specs.Workers.{LentSized};
+ghost use Rattle.rules_nodes.specs.Workers.{markTest, keyRises, AllFit, LentColumns, lentUsed, lentUnused, lentTidy};
 use plan::arrays;
 use store::Copy;
 use store::Store;
@@ -66,7 +60,7 @@ fn used_good<'a>(
     end: usize,
 ) -> bool
     requires { ⌜ end ≤ places ⌝ }
-    ensures { λ r. ⌜ r ≡ allFrom from (end - from) (usedTest (holding 0 clock [] (now (keys .entry)) (now (kinds .entry)) (now (values .entry)) (now (stamps .entry))) end) ⌝ }
+    ensures { λ r. ⌜ r ≡ lentUsed clock (keys .entry) (kinds .entry) (values .entry) (stamps .entry) from end ⌝ }
 {
     let mut i = from;
     while i < end {
@@ -100,8 +94,8 @@ fn unused_good<'a>(
     from: usize,
     end: usize,
 ) -> bool
-    requires { ⌜ (from ≤ end) × (end ≤ places) × (length (now keys) ≡ places) × (length (now kinds) ≡ places) × (length (now values) ≡ places) × (length (now stamps) ≡ places) ⌝ }
-    ensures { λ r. ⌜ r ≡ (allZero (slice from end (now (keys .entry))) && allZero (slice from end (now (kinds .entry))) && allZero (slice from end (now (values .entry))) && allZero (slice from end (now (stamps .entry)))) ⌝ }
+    requires { ⌜ (from ≤ end) × (end ≤ places) × LentColumns keys kinds values stamps ⌝ }
+    ensures { λ r. ⌜ r ≡ lentUnused (keys .entry) (kinds .entry) (values .entry) (stamps .entry) from end ⌝ }
 {
     if !columns::all_zero(keys, from, end) {
         return false;
@@ -116,10 +110,9 @@ fn unused_good<'a>(
 }
 
 // A node: "counts within capacity", its used places, and the others.
-fn node_tidy<'a, 'b>(
-    plan: u32,
+fn node_tidy<'a>(
     clock: u32,
-    capacities: &'b [u32; plan::MOST_NODES],
+    capacities: &'a [u32; plan::MOST_NODES],
     counts: &'a [u32; Store::NODES],
     keys: &'a [u32; Store::PLACES],
     kinds: &'a [u32; Store::PLACES],
@@ -127,8 +120,8 @@ fn node_tidy<'a, 'b>(
     stamps: &'a [u32; Store::PLACES],
     node: u32,
 ) -> bool
-    requires { ⌜ (node < mostNodes) × (planNumberTest plan ≡ true) × LentSized counts keys kinds values stamps × (now capacities ≡ capacitiesRow (planNumbered plan)) ⌝ }
-    ensures { λ r. ⌜ r ≡ tidyTest (holding plan clock (now (counts .entry)) (now (keys .entry)) (now (kinds .entry)) (now (values .entry)) (now (stamps .entry))) node ⌝ }
+    requires { ⌜ (node < mostNodes) × AllFit (now capacities) × LentSized counts keys kinds values stamps ⌝ }
+    ensures { λ r. ⌜ r ≡ lentTidy (capacities .entry) clock (counts .entry) (keys .entry) (kinds .entry) (values .entry) (stamps .entry) node ⌝ }
 {
     let n = node as usize;
     let count = counts[n];
@@ -143,33 +136,22 @@ fn node_tidy<'a, 'b>(
     unused_good(keys, kinds, values, stamps, end, from + Store::WIDTH)
 }
 
-// All nodes.
+// All nodes, by what each may hold.
 pub fn nodes_tidy<'a>(
-    plan: u32,
     clock: u32,
+    capacities: &'a [u32; plan::MOST_NODES],
     counts: &'a [u32; Store::NODES],
     keys: &'a [u32; Store::PLACES],
     kinds: &'a [u32; Store::PLACES],
     values: &'a [u32; Store::PLACES],
     stamps: &'a [u32; Store::PLACES],
 ) -> bool
-    requires { ⌜ (planNumberTest plan ≡ true) × LentSized counts keys kinds values stamps ⌝ }
-    ensures { λ r. ⌜ r ≡ allBelow mostNodes (tidyTest (holding plan clock (now (counts .entry)) (now (keys .entry)) (now (kinds .entry)) (now (values .entry)) (now (stamps .entry)))) ⌝ }
+    requires { ⌜ AllFit (now capacities) × LentSized counts keys kinds values stamps ⌝ }
+    ensures { λ r. ⌜ r ≡ allBelow mostNodes (lentTidy (capacities .entry) clock (counts .entry) (keys .entry) (kinds .entry) (values .entry) (stamps .entry)) ⌝ }
 {
-    let capacities = plan::capacities_of(plan);
     let mut node = 0;
     while node < Store::NODES as u32 {
-        if !node_tidy(
-            plan,
-            clock,
-            &capacities,
-            counts,
-            keys,
-            kinds,
-            values,
-            stamps,
-            node,
-        ) {
+        if !node_tidy(clock, capacities, counts, keys, kinds, values, stamps, node) {
             return false;
         }
         node += 1;

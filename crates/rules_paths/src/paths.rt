@@ -1,20 +1,16 @@
-// The rules of paths, on the plan's lent arrays and lent columns. A key's path is walked down by its next steps, at most as many nodes as the
+// The rules of paths, on the plan's lent rows and lent columns. A key's path is walked down by its next steps, at most as many nodes as the
 // plan has.
 ghost use mathlib.Core.Path.{_≡_};
-ghost use mathlib.Core.Bool.{true};
 ghost use Prim.Native.Nat.{_<_};
 ghost use Rattle.lists.specs.Runs.{allBelow};
 ghost use Rattle.plan.specs.Sizes.{mostNodes};
 ghost use Rattle.plan.specs.Plan.{path};
-ghost use Rattle.plan.specs.Plan.{next as nextOf};
-ghost use Rattle.plan.specs.PlanTable.{planNumbered};
-ghost use Rattle.store.specs.Copies.{stampOf, member};
-ghost use Rattle.store.specs.State.{inReach};
-ghost use Rattle.store.specs.Layout.{places, stateOf};
-ghost use Rattle.store.specs.StoreRules.{planNumberTest, standsAt};
-ghost use Rattle.rules_paths.specs.Workers.{keyed, placedTest, pathsTest};
-ghost use Rattle.plan.specs.PlanArrays.{ArraysOf};
-ghost use Rattle.store.specs.Workers.{AllOrdered};
+ghost use Rattle.plan.specs.PlanArrays.{EachPlan};
+ghost use Rattle.store.specs.Copies.{member};
+ghost use Rattle.store.specs.Layout.{places};
+ghost use Rattle.store.specs.StoreRules.{standsAt};
+ghost use Rattle.store.specs.Workers.{LentLookable};
+ghost use Rattle.rules_paths.specs.Workers.{lentBelow, lentPlaced, lentPaths};
 use plan::Hop;
 use plan::arrays;
 use store::Store;
@@ -22,7 +18,7 @@ use store::columns;
 
 // The node stands on the key's path.
 fn on_path<'a>(
-    plan: u32,
+    nodes: u32,
     edges: &'a [u32; plan::MOST_NODES],
     lows: &'a [[u32; plan::MOST_EDGES]; plan::MOST_NODES],
     highs: &'a [[u32; plan::MOST_EDGES]; plan::MOST_NODES],
@@ -30,10 +26,9 @@ fn on_path<'a>(
     key: u32,
     node: u32,
 ) -> bool
-    requires { ⌜ ArraysOf plan (now edges) (now lows) (now highs) (now targets) ⌝ }
-    ensures { λ r. ⌜ r ≡ member node (path (planNumbered plan) key) ⌝ }
+    ensures { λ r. ⌜ EachPlan nodes edges lows highs targets (λ p. r ≡ member node (path p key)) ⌝ }
 {
-    let mut left = plan::nodes(plan);
+    let mut left = nodes;
     let mut hop = Hop::To(0);
     while 0 < left {
         let Hop::To(at) = hop else {
@@ -50,7 +45,7 @@ fn on_path<'a>(
 
 // The node stands on the key's path, with so many path nodes above it.
 pub fn stands_at<'a>(
-    plan: u32,
+    nodes: u32,
     edges: &'a [u32; plan::MOST_NODES],
     lows: &'a [[u32; plan::MOST_EDGES]; plan::MOST_NODES],
     highs: &'a [[u32; plan::MOST_EDGES]; plan::MOST_NODES],
@@ -59,10 +54,9 @@ pub fn stands_at<'a>(
     node: u32,
     above: u32,
 ) -> bool
-    requires { ⌜ ArraysOf plan (now edges) (now lows) (now highs) (now targets) ⌝ }
-    ensures { λ r. ⌜ r ≡ standsAt node (path (planNumbered plan) key) above ⌝ }
+    ensures { λ r. ⌜ EachPlan nodes edges lows highs targets (λ p. r ≡ standsAt node (path p key) above) ⌝ }
 {
-    let mut left = plan::nodes(plan);
+    let mut left = nodes;
     let mut step = Hop::To(0);
     let mut over = above;
     while 0 < left {
@@ -81,7 +75,7 @@ pub fn stands_at<'a>(
 
 // The stamp of the key's first copy below a node, down its path; 0 where there is none.
 fn stamp_below<'a>(
-    plan: u32,
+    nodes: u32,
     edges: &'a [u32; plan::MOST_NODES],
     lows: &'a [[u32; plan::MOST_EDGES]; plan::MOST_NODES],
     highs: &'a [[u32; plan::MOST_EDGES]; plan::MOST_NODES],
@@ -92,10 +86,10 @@ fn stamp_below<'a>(
     node: u32,
     key: u32,
 ) -> u32
-    requires { ⌜ (planNumberTest plan ≡ true) × ArraysOf plan (now edges) (now lows) (now highs) (now targets) × AllOrdered (now counts) (now keys) ⌝ }
-    ensures { λ r. ⌜ r ≡ stampOf (inReach (planNumbered plan) (stateOf (keyed plan (now (counts .entry)) (now (keys .entry)) (now (stamps .entry)))) key (nextOf (planNumbered plan) node key)) ⌝ }
+    requires { ⌜ LentLookable nodes edges lows highs targets counts keys ⌝ }
+    ensures { λ r. ⌜ EachPlan nodes edges lows highs targets (λ p. r ≡ lentBelow p nodes counts keys stamps node key) ⌝ }
 {
-    let mut left = plan::nodes(plan);
+    let mut left = nodes;
     let mut hop = arrays::next_in(edges, lows, highs, targets, node, key);
     while 0 < left {
         let Hop::To(at) = hop else {
@@ -115,7 +109,7 @@ fn stamp_below<'a>(
 
 // "each copy in a node of its key's path"; "down a path, a key's stamps strictly fall".
 fn copy_placed<'a>(
-    plan: u32,
+    nodes: u32,
     edges: &'a [u32; plan::MOST_NODES],
     lows: &'a [[u32; plan::MOST_EDGES]; plan::MOST_NODES],
     highs: &'a [[u32; plan::MOST_EDGES]; plan::MOST_NODES],
@@ -126,15 +120,15 @@ fn copy_placed<'a>(
     node: u32,
     i: usize,
 ) -> bool
-    requires { ⌜ (i < places) × (planNumberTest plan ≡ true) × ArraysOf plan (now edges) (now lows) (now highs) (now targets) × AllOrdered (now counts) (now keys) ⌝ }
-    ensures { λ r. ⌜ r ≡ placedTest (keyed plan (now (counts .entry)) (now (keys .entry)) (now (stamps .entry))) node i ⌝ }
+    requires { ⌜ (i < places) × LentLookable nodes edges lows highs targets counts keys ⌝ }
+    ensures { λ r. ⌜ EachPlan nodes edges lows highs targets (λ p. r ≡ lentPlaced p nodes counts keys stamps node i) ⌝ }
 {
     let key = keys[i];
-    if !on_path(plan, edges, lows, highs, targets, key, node) {
+    if !on_path(nodes, edges, lows, highs, targets, key, node) {
         return false;
     }
     stamp_below(
-        plan,
+        nodes,
         edges,
         lows,
         highs,
@@ -150,7 +144,7 @@ fn copy_placed<'a>(
 
 // The copies of a node.
 fn node_placed<'a>(
-    plan: u32,
+    nodes: u32,
     edges: &'a [u32; plan::MOST_NODES],
     lows: &'a [[u32; plan::MOST_EDGES]; plan::MOST_NODES],
     highs: &'a [[u32; plan::MOST_EDGES]; plan::MOST_NODES],
@@ -160,15 +154,15 @@ fn node_placed<'a>(
     stamps: &'a [u32; Store::PLACES],
     node: u32,
 ) -> bool
-    requires { ⌜ (node < mostNodes) × (planNumberTest plan ≡ true) × ArraysOf plan (now edges) (now lows) (now highs) (now targets) × AllOrdered (now counts) (now keys) ⌝ }
-    ensures { λ r. ⌜ r ≡ pathsTest (keyed plan (now (counts .entry)) (now (keys .entry)) (now (stamps .entry))) node ⌝ }
+    requires { ⌜ (node < mostNodes) × LentLookable nodes edges lows highs targets counts keys ⌝ }
+    ensures { λ r. ⌜ EachPlan nodes edges lows highs targets (λ p. r ≡ lentPaths p nodes counts keys stamps node) ⌝ }
 {
     let n = node as usize;
     let end = Store::WIDTH * n + counts[n] as usize;
     let mut i = Store::WIDTH * n;
     while i < end {
         if !copy_placed(
-            plan,
+            nodes,
             edges,
             lows,
             highs,
@@ -188,7 +182,7 @@ fn node_placed<'a>(
 
 // The copies of all nodes.
 pub fn nodes_placed<'a>(
-    plan: u32,
+    nodes: u32,
     edges: &'a [u32; plan::MOST_NODES],
     lows: &'a [[u32; plan::MOST_EDGES]; plan::MOST_NODES],
     highs: &'a [[u32; plan::MOST_EDGES]; plan::MOST_NODES],
@@ -197,13 +191,13 @@ pub fn nodes_placed<'a>(
     keys: &'a [u32; Store::PLACES],
     stamps: &'a [u32; Store::PLACES],
 ) -> bool
-    requires { ⌜ (planNumberTest plan ≡ true) × ArraysOf plan (now edges) (now lows) (now highs) (now targets) × AllOrdered (now counts) (now keys) ⌝ }
-    ensures { λ r. ⌜ r ≡ allBelow mostNodes (pathsTest (keyed plan (now (counts .entry)) (now (keys .entry)) (now (stamps .entry)))) ⌝ }
+    requires { ⌜ LentLookable nodes edges lows highs targets counts keys ⌝ }
+    ensures { λ r. ⌜ EachPlan nodes edges lows highs targets (λ p. r ≡ allBelow mostNodes (lentPaths p nodes counts keys stamps)) ⌝ }
 {
     let mut node = 0;
     while node < Store::NODES as u32 {
         if !node_placed(
-            plan,
+            nodes,
             edges,
             lows,
             highs,

@@ -7,12 +7,9 @@ use lib.Dec.{leb}
 use lib.ListN.{replicate}
 use borrow.Author.Tests.{le-leb, lt-leb}
 use Rattle.lists.proofs.Storing.{getD-same}
-use Rattle.lists.proofs.Truths.{both-le}
 use Rattle.plan.specs.Sizes.{mostNodes}
 use Rattle.plan.specs.Plan.{size}
-use Rattle.plan.specs.PlanRules.{PlanRules}
-use Rattle.plan.specs.PlanTable.{planNumbered, plans}
-use Rattle.plan.proofs.TableLaws.{table-rules}
+use Rattle.plan_table.specs.PlanTable.{planNumbered, plans}
 use Rattle.store.specs.declared.Answer.{Answer}
 use Rattle.store.specs.declared.Store.{Store}
 use Rattle.store.specs.Answers.{DONE, PLAN, bare}
@@ -47,11 +44,6 @@ module _ (plan : ℕ) where
   pub plan-number-1 : 1 ≤ plan → leb plan plans ≡ planNumberTest plan
   unfolding planNumberTest
   plan-number-1 h = rw (le-leb 1 plan h)
-
--- A plan by its number meets the plan rules.
-pub number-rules : (plan : ℕ) → planNumberTest plan ≡ true → PlanRules (planNumbered plan)
-unfolding planNumberTest
-number-rules plan t = let w = both-le 1 plan plan plans t in table-rules plan (w .0) (w .1)
 
 -- The two ways out of its making.
 module _ (plan : ℕ) (a : Answer) (z : Store) where

@@ -1,19 +1,21 @@
 -- The nodes of a good store as the workers on its columns take them: by places, with rising keys. Assumes nothing.
 use mathlib.Core.Path.{_≡_, sym, ap}
 use mathlib.Core.Bool.{true}
+use mathlib.Core.List.{List}
 use Prim.Native.Nat.{ℕ, _+_, _-_, _*_, _<_, _≤_}
 use native.Mathlib.Omega.{arith}
 use lib.ListN.{length}
 use Rattle.lists.specs.Runs.{run}
 use Rattle.plan.specs.Sizes.{mostNodes}
 use Rattle.plan.specs.Plan.{size}
+use Rattle.plan.specs.PlanArrays.{Grid, RowsOf}
 use Rattle.store.specs.declared.Copy.{Copy}
 use Rattle.store.specs.declared.Store.{Store}
 use Rattle.store.specs.Copies.{keyOf}
 use Rattle.store.specs.State.{nodeAt}
 use Rattle.store.specs.Layout.{planOf, width, nodeIn, nodeOf, countOf, stateOf, column, storeOf}
 use Rattle.store.specs.StoreRules.{goodStore}
-use Rattle.store.specs.Workers.{below, placeIn, RisesIn}
+use Rattle.store.specs.Workers.{below, placeIn, RisesIn, Lookable}
 use Rattle.store.proofs.Lifting.{plan-good, good-ordered, good-back}
 use Rattle.store.proofs.Halving.{place-of-copy}
 
@@ -24,6 +26,11 @@ unfolding nodeIn
 node-place z n from end k f e =
     let c : end - from ≡ countOf z n = omega arith in
     rw (c, f) (ap (λ (b : ℕ). width * n + b) (place-of-copy (z .keys) (z .kinds) (z .values) (z .stamps) (width * n) (countOf z n) k))
+
+-- A good store and the rows of its plan are what a look down a path asks for.
+pub good-lookable : (z : Store) → goodStore z ≡ true → {nodes : ℕ} {edges : List ℕ} {lows highs targets : Grid}
+    → RowsOf (planOf z) nodes edges lows highs targets → Lookable nodes edges lows highs targets (z .counts) (z .keys)
+good-lookable z good rows = record { plan = planOf z; rows = rows; ordered = good-ordered z good }
 
 module _ (z : Store) (good : goodStore z ≡ true) where
   -- The root is a node of its plan.

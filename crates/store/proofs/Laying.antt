@@ -8,20 +8,22 @@ use native.Mathlib.Decide.{decLt, ℕ-discrete}
 use lib.ListN.{length, getD, set, replicate, length-set, length-map, length-append, length-replicate, getD-replicate, List·getD-append, List·getD-eq-default}
 use lib.Seq.{ext-getD, sets, length-sets, getD-append-seam, getD-append-add, getD-set-same, getD-set-other}
 use Rattle.lists.specs.Runs.{run}
-use Rattle.lists.proofs.Running.{length-run, getD-run, getD-run-0, as-run}
+use Rattle.lists.proofs.Running.{length-run, getD-run, getD-run-0, getD-run-past, as-run}
 use Rattle.lists.proofs.Storing.{sets-below, sets-past, sets-inside, set-run, getD-same, getD-map}
 use Rattle.plan.specs.Sizes.{mostNodes}
 use Rattle.plan.specs.Plan.{Plan, size}
 use Rattle.plan.specs.PlanRules.{PlanRules}
-use Rattle.plan.specs.PlanTable.{planNumbered, plans}
-use Rattle.plan.proofs.TableLaws.{table-rules}
+use Rattle.plan_table.specs.PlanTable.{planNumbered, plans}
+use Rattle.plan_table.proofs.TableLaws.{table-rules}
 use Rattle.store.specs.declared.Copy.{Copy}
+use Rattle.store.specs.declared.Slot.{Slot}
 use Rattle.store.specs.declared.Store.{Store}
 use Rattle.store.specs.Copies.{noCopy, keyOf, find, foundOf}
 use Rattle.store.specs.State.{State, nodeAt, copyAt, slotCount}
-use Rattle.store.specs.Layout.{planOf, width, places, copyIn, nodeIn, copyOf, countOf, nodeOf, stateOf, placeOf, column, storeOf, Shape}
+use Rattle.store.specs.Layout.{planOf, width, places, copyIn, nodeIn, copyOf, countOf, nodeOf, stateIn, stateOf, placeOf, column, storeOf, Shape}
 use Rattle.store.specs.StateRules.{StateRules}
 use Rattle.store.specs.StoreRules.{StoreRules}
+use Rattle.store.proofs.WhichPlan.{plan-back}
 
 -- A node of bare columns: as long as its count, and the copies of its places.
 module _ (counts keys kinds values stamps : List ℕ) (n : ℕ) where
@@ -43,6 +45,14 @@ module _ (counts keys kinds values stamps : List ℕ) (n : ℕ) where
       let e : width * n + getD counts n 0 - width * n ≡ getD counts n 0 = omega arith in
       rw e
 
+-- The nodes of a state that parts hold: those of its columns, and nothing past them.
+module _ (nodes clock : ℕ) (counts keys kinds values stamps : List ℕ) (slots : List Slot) (n : ℕ) where
+  pub parts-node : n < nodes → nodeAt (stateIn nodes clock counts keys kinds values stamps slots) n ≡ nodeIn counts keys kinds values stamps n
+  parts-node h = getD-run-0 (nodeIn counts keys kinds values stamps) nodes n [] h
+
+  pub parts-past : nodes ≤ n → nodeAt (stateIn nodes clock counts keys kinds values stamps slots) n ≡ []
+  parts-past h = getD-run-past (nodeIn counts keys kinds values stamps) 0 nodes n [] h
+
 -- The nodes of a store, and of its state.
 module _ (z : Store) where
   pub length-node : (n : ℕ) → length (nodeOf z n) ≡ countOf z n
@@ -57,10 +67,11 @@ module _ (z : Store) where
 
   pub state-node : (n : ℕ) → n < size (planOf z) → nodeAt (stateOf z) n ≡ nodeOf z n
   unfolding stateOf
-  state-node n h = getD-run-0 (nodeOf z) (size (planOf z)) n [] h
+  state-node n = parts-node (size (planOf z)) (z .clock) (z .counts) (z .keys) (z .kinds) (z .values) (z .stamps) (z .slots) n
 
   pub state-past : (n : ℕ) → size (planOf z) ≤ n → nodeAt (stateOf z) n ≡ []
-  state-past n h = List·getD-eq-default (stateOf z .nodes) [] (omega (arith, length-nodes))
+  unfolding stateOf
+  state-past n = parts-past (size (planOf z)) (z .clock) (z .counts) (z .keys) (z .kinds) (z .values) (z .stamps) (z .slots) n
 
   pub state-clock : stateOf z .clock ≡ z .clock
   unfolding stateOf
@@ -288,11 +299,14 @@ module _ (plan : ℕ) (s : State) where
   unfolding stateOf storeOf
   state-back long few fits = λ t. record { clock = s .clock; nodes = nodes t; slots = s .slots }
     where
-      nodes : run 0 (size (planNumbered plan)) (nodeOf (storeOf plan s)) ≡ s .nodes
+      many : size (planOf (storeOf plan s)) ≡ size (planNumbered plan)
+      many = ap size (plan-back plan s)
+
+      nodes : run 0 (size (planOf (storeOf plan s))) (nodeOf (storeOf plan s)) ≡ s .nodes
       nodes =
           sym
-          (as-run (nodeOf (storeOf plan s)) (s .nodes) 0 (size (planNumbered plan)) [] long
-          (λ n h. rw zero-add (sym (stored-node n (omega arith) (fits n)))))
+          (as-run (nodeOf (storeOf plan s)) (s .nodes) 0 (size (planOf (storeOf plan s))) [] (long ∙ sym many)
+          (λ n h. rw zero-add (sym (stored-node n (omega (arith, many)) (fits n)))))
 
 -- A store that keeps the rules is the store of its state.
 module _ (z : Store) (rules : StoreRules z) where
@@ -351,6 +365,9 @@ module _ (plan : ℕ) (low : 1 ≤ plan) (high : plan ≤ plans) {s : State} (ru
       let p = table-rules plan low high in
       state-back plan s (rules .a-list-for-each-node) (p .nodes-within .1) (node-fits p rules)
 
+  kept : StateRules (planOf (storeOf plan s)) s
+  kept = subst (λ (p : Plan). StateRules p s) (sym (plan-back plan s)) rules
+
   pub rules-store : StoreRules (storeOf plan s)
   unfolding storeOf
   rules-store =
@@ -360,6 +377,6 @@ module _ (plan : ℕ) (low : 1 ≤ plan) (high : plan ≤ plans) {s : State} (ru
         unused-places-all-zero =
             λ n i h u g. stored-copy plan s n i h g ∙ List·getD-eq-default (nodeAt s n) noCopy (omega (arith, stored-count plan s n h));
         unused-counts-zero =
-            λ n past h. stored-count plan s n h ∙ ap length (nothing-past rules n past);
-        state-rules = subst (λ (t : State). StateRules (planNumbered plan) t) (sym rules-back) rules;
+            λ n past h. stored-count plan s n h ∙ ap length (nothing-past kept n past);
+        state-rules = subst (λ (t : State). StateRules (planOf (storeOf plan s)) t) (sym rules-back) kept;
       }

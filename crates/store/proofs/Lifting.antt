@@ -1,5 +1,5 @@
 -- Calls on stores: what a step on states shows of its call, the store rules kept by it, and the fresh store. Assumes nothing.
-use mathlib.Core.Path.{_≡_, sym, ap, _∙_}
+use mathlib.Core.Path.{_≡_, sym, ap, _∙_, subst}
 use mathlib.Core.Bool.{true, false, cond}
 use mathlib.Core.Logic.{_⊎_, inl, inr}
 use mathlib.Core.List.{[]}
@@ -11,8 +11,7 @@ use Rattle.lists.proofs.Storing.{getD-same}
 use Rattle.plan.specs.Sizes.{mostNodes}
 use Rattle.plan.specs.Plan.{Plan, size}
 use Rattle.plan.specs.PlanRules.{PlanRules}
-use Rattle.plan.specs.PlanTable.{planNumbered, plans}
-use Rattle.plan.proofs.TableLaws.{table-rules}
+use Rattle.plan_table.specs.PlanTable.{planNumbered, plans}
 use Rattle.store.specs.declared.Answer.{Answer}
 use Rattle.store.specs.declared.Outcome.{Outcome}
 use Rattle.store.specs.declared.Slot.{Slot}
@@ -24,6 +23,7 @@ use Rattle.store.specs.Layout.{planOf, width, countOf, stateOf, storeOf,
 use Rattle.store.specs.StoreRules.{StoreRules, goodStore}
 use Rattle.store.specs.Workers.{RisesIn, Ordered}
 use Rattle.store.specs.Calls.{Effect, onStore, ofStore}
+use Rattle.store.proofs.WhichPlan.{plan-numbered, plan-back, known-rules}
 use Rattle.store.proofs.Laying.{every-count, every-copy, store-back, node-fits, rules-back, rules-store}
 use Rattle.store.proofs.Ruling.{good-rules, rules-good}
 
@@ -51,14 +51,22 @@ module _ (f : Plan → State → Effect) (z : Store) where
   unfolding onStore
   on-good good = rw good
 
-  -- The store's plan stays as it is.
-  pub plan-stays : onStore f z .store .plan ≡ z .plan
+  -- The store's plan stays as it is, and so does its number.
+  pub number-stays : onStore f z .store .plan ≡ z .plan
   unfolding storeOf
-  plan-stays = go (bool? (goodStore z))
+  number-stays = go (bool? (goodStore z))
     where
       go : (goodStore z ≡ true) ⊎ (goodStore z ≡ false) → onStore f z .store .plan ≡ z .plan
       go (inl good) = ap (λ (o : Outcome). o .store .plan) (on-good good)
       go (inr bad) = ap (λ (o : Outcome). o .store .plan) (on-bad bad)
+
+  pub plan-stays : planOf (onStore f z .store) ≡ planOf z
+  plan-stays = go (bool? (goodStore z))
+    where
+      go : (goodStore z ≡ true) ⊎ (goodStore z ≡ false) → planOf (onStore f z .store) ≡ planOf z
+      go (inl good) =
+          ap (λ (o : Outcome). planOf (o .store)) (on-good good) ∙ plan-back (z .plan) (f (planOf z) (stateOf z) .after) ∙ sym (plan-numbered z)
+      go (inr bad) = ap (λ (o : Outcome). planOf (o .store)) (on-bad bad)
 
 module _ (f : Plan → State → Answer) (z : Store) where
   pub of-bad : goodStore z ≡ false → ofStore f z ≡ bare BADSTORE
@@ -114,7 +122,7 @@ fresh-good plan low high = rules-good (storeOf plan (fresh (planNumbered plan)))
 
 -- A good store's plan and state keep the rules, and so does what a step that keeps them leaves.
 pub plan-good : (z : Store) → goodStore z ≡ true → PlanRules (planOf z)
-plan-good z good = let r = good-rules z good in table-rules (z .plan) (r .plan-known .0) (r .plan-known .1)
+plan-good z good = known-rules z (good-rules z good .plan-known)
 
 pub state-good : (z : Store) → goodStore z ≡ true → StateRules (planOf z) (stateOf z)
 state-good z good = good-rules z good .state-rules
@@ -152,8 +160,10 @@ module _ (f : Plan → State → Effect) (z : Store) where
       go (inr bad) = ap (λ (o : Outcome). o .store) (on-bad f z bad)
 
   module _ (keeps : Keeps f) (good : goodStore z ≡ true) where
-    after-good : StateRules (planOf z) (f (planOf z) (stateOf z) .after)
-    after-good = keeps (planOf z) (plan-good z good) (stateOf z) (state-good z good)
+    after-good : StateRules (planNumbered (z .plan)) (f (planOf z) (stateOf z) .after)
+    after-good =
+        subst (λ (p : Plan). StateRules p (f (planOf z) (stateOf z) .after)) (plan-numbered z)
+        (keeps (planOf z) (plan-good z good) (stateOf z) (state-good z good))
 
     pub on-keeps : goodStore (onStore f z .store) ≡ true
     on-keeps =

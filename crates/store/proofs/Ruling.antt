@@ -11,14 +11,14 @@ use Rattle.lists.proofs.Running.{all-at, at-all, all-below, below-all}
 use Rattle.plan.specs.Sizes.{mostNodes}
 use Rattle.plan.specs.Plan.{Node, Plan, noNode, size, capacityOf}
 use Rattle.plan.specs.PlanRules.{PlanRules}
-use Rattle.plan.specs.PlanTable.{plans}
-use Rattle.plan.proofs.TableLaws.{table-rules}
+use Rattle.plan_table.specs.PlanTable.{plans}
 use Rattle.store.specs.declared.Store.{Store}
 use Rattle.store.specs.Copies.{noCopy, different}
 use Rattle.store.specs.State.{State, copyAt, slotAt, idle, lastClock, slotCount}
 use Rattle.store.specs.StateRules.{HeldAt, StateRules}
 use Rattle.store.specs.Layout.{planOf, width, places, copyOf, countOf, stateOf, Shape}
 use Rattle.store.specs.StoreRules.{StoreRules, shapeTest, planNumberTest, clockTest, placeTest, nodeTest, stampsFrom, slotTest, goodStore}
+use Rattle.store.proofs.WhichPlan.{known-rules}
 use Rattle.store.proofs.Laying.{length-nodes, state-clock, state-slots, state-count, state-copy}
 use Rattle.store.proofs.RulingParts.{held-placed, placed-held, CopyRules, copy-rules, rules-copy, order-rule, rule-order, slot-idle, slot-runs, rules-slot, unused-rule, rule-unused}
 use Rattle.store.proofs.RulingLines.{falls-by-reach, reach-by-falls}
@@ -79,11 +79,11 @@ module _ (z : Store) where
     unfolding nodeTest
     test-unused n i h l g =
         let w = test-node n h in
-        unused-rule z (width * n + countOf z n) (width * n + width) (search (and-left, and-right) depth 8) (width * n + i) (omega arith) (omega arith)
+        unused-rule (z .keys) (z .kinds) (z .values) (z .stamps) (width * n + countOf z n) (width * n + width) (search (and-left, and-right) depth 8) (width * n + i) (omega arith) (omega arith)
 
-    -- The plan has no more than 8 nodes, and no room past them.
+    -- The plan has no more than the most nodes, and no room past them.
     plan-rules : PlanRules p
-    plan-rules = table-rules (z .plan) (test-plan .0) (test-plan .1)
+    plan-rules = known-rules z test-plan
 
     test-past : (n : ℕ) → size p ≤ n → n < mostNodes → countOf z n ≡ 0
     test-past n h g =
@@ -182,7 +182,7 @@ module _ (z : Store) where
         le-both 1 (z .clock) (z .clock) lastClock (c .0) (c .1)
 
     plan-meets : PlanRules p
-    plan-meets = table-rules (z .plan) (r .plan-known .0) (r .plan-known .1)
+    plan-meets = known-rules z (r .plan-known)
 
     held-rules : (n i : ℕ) → HeldAt s n i → CopyRules p s n (copyAt s n i)
     held-rules n i h =
@@ -221,7 +221,7 @@ module _ (z : Store) where
           le-leb (countOf z n) (capacityOf p n) (fits (decLt n (size p))),
           at-all (placeTest p s z n) (width * n) (countOf z n) used,
         )
-        (rule-unused z (width * n + countOf z n) (width * n + width) unused)
+        (rule-unused (z .keys) (z .kinds) (z .values) (z .stamps) (width * n + countOf z n) (width * n + width) unused)
       where
         fits : Dec (n < size p) → countOf z n ≤ capacityOf p n
         fits (yes l) = omega (arith, state-count z n l, rules .counts-within-capacity n l)

@@ -1,7 +1,8 @@
 -- The store rules and their tests part by part: a place held, a copy, a search slot and unused places. Assumes nothing.
 use mathlib.Core.Path.{_≡_, refl, ap}
-use mathlib.Core.Bool.{Bool, true, false, _&&_, _||_}
+use mathlib.Core.Bool.{Bool, true, false, _||_}
 use mathlib.Core.Logic.{_⊎_, ⊎-elim, inl, inr}
+use mathlib.Core.List.{List}
 use Prim.Native.Nat.{ℕ, _+_, _*_, _<_, _≤_}
 use native.Mathlib.Omega.{arith}
 use native.Mathlib.Decide.{decLt, ℕ-discrete}
@@ -16,7 +17,7 @@ use Rattle.store.specs.declared.Store.{Store}
 use Rattle.store.specs.Copies.{lastKind, hasValue, noCopy, stampOf, member}
 use Rattle.store.specs.State.{State, copyAt, idle, inReach}
 use Rattle.store.specs.StateRules.{HeldAt, KindAndValue, OnPath}
-use Rattle.store.specs.Layout.{planOf, width, copyOf, countOf, stateOf}
+use Rattle.store.specs.Layout.{planOf, width, copyIn, copyOf, countOf, stateOf}
 use Rattle.store.specs.StoreRules.{kindTest, copyTest, unusedTest, slotTest}
 use Rattle.store.proofs.Laying.{state-past, state-count, state-copy}
 use Rattle.store.proofs.RulingLists.{member-at, at-member, stands-at, at-stands, zeros-between, between-zeros}
@@ -128,21 +129,22 @@ rules-slot p q rests runs = go (ℕ-discrete (q .running) 0)
         (at-stands (q .node) (path p (q .key)) (q .visits) (w .1 .inside) (w .1 .here))
 
 -- Unused places.
-pub unused-rule : (z : Store) (from to : ℕ) → unusedTest z from to ≡ true → (i : ℕ) → from ≤ i → i < to → copyOf z i ≡ noCopy
-unfolding unusedTest
-unused-rule z from to t i h g =
-    let key = zeros-between from to (z .keys) (search (and-left, and-right) depth 8) i h g in
-    let kind = zeros-between from to (z .kinds) (search (and-left, and-right) depth 8) i h g in
-    let value = zeros-between from to (z .values) (search (and-left, and-right) depth 8) i h g in
-    let stamp = zeros-between from to (z .stamps) (search (and-left, and-right) depth 8) i h g in
-    λ j. record { key = key j; kind = kind j; value = value j; stamp = stamp j }
+module _ (keys kinds values stamps : List ℕ) (from to : ℕ) where
+  pub unused-rule : unusedTest keys kinds values stamps from to ≡ true → (i : ℕ) → from ≤ i → i < to → copyIn keys kinds values stamps i ≡ noCopy
+  unfolding unusedTest
+  unused-rule t i h g =
+      let key = zeros-between from to keys (search (and-left, and-right) depth 8) i h g in
+      let kind = zeros-between from to kinds (search (and-left, and-right) depth 8) i h g in
+      let value = zeros-between from to values (search (and-left, and-right) depth 8) i h g in
+      let stamp = zeros-between from to stamps (search (and-left, and-right) depth 8) i h g in
+      λ j. record { key = key j; kind = kind j; value = value j; stamp = stamp j }
 
-pub rule-unused : (z : Store) (from to : ℕ) → ((i : ℕ) → from ≤ i → i < to → copyOf z i ≡ noCopy) → unusedTest z from to ≡ true
-unfolding unusedTest
-rule-unused z from to e =
-    rw (
-      between-zeros from to (z .keys) (λ i h g. ap (λ (x : Copy). x .key) (e i h g)),
-      between-zeros from to (z .kinds) (λ i h g. ap (λ (x : Copy). x .kind) (e i h g)),
-      between-zeros from to (z .values) (λ i h g. ap (λ (x : Copy). x .value) (e i h g)),
-    )
-    (between-zeros from to (z .stamps) (λ i h g. ap (λ (x : Copy). x .stamp) (e i h g)))
+  pub rule-unused : ((i : ℕ) → from ≤ i → i < to → copyIn keys kinds values stamps i ≡ noCopy) → unusedTest keys kinds values stamps from to ≡ true
+  unfolding unusedTest
+  rule-unused e =
+      rw (
+        between-zeros from to keys (λ i h g. ap (λ (x : Copy). x .key) (e i h g)),
+        between-zeros from to kinds (λ i h g. ap (λ (x : Copy). x .kind) (e i h g)),
+        between-zeros from to values (λ i h g. ap (λ (x : Copy). x .value) (e i h g)),
+      )
+      (between-zeros from to stamps (λ i h g. ap (λ (x : Copy). x .stamp) (e i h g)))

@@ -7,7 +7,7 @@ use lib.ListN.{length, getD}
 use Rattle.lists.specs.Runs.{run}
 use Rattle.plan.specs.Sizes.{mostNodes, mostCapacity}
 use Rattle.plan.specs.Plan.{Plan, size}
-use Rattle.plan.specs.PlanTable.{planNumbered}
+use Rattle.plan_table.specs.PlanTable.{planNumbered}
 use Rattle.store.specs.declared.Copy.{Copy}
 use Rattle.store.specs.declared.Slot.{Slot}
 use Rattle.store.specs.declared.Store.{Store}
@@ -43,7 +43,7 @@ abbrev pub nodeOf : Store → ℕ → List Copy
 nodeOf z n = nodeIn (z .counts) (z .keys) (z .kinds) (z .values) (z .stamps) n
 
 -- Which plan a store has: that of its number.
-abbrev pub planOf : Store → Plan
+unfoldable pub planOf : Store → Plan
 planOf z = planNumbered (z .plan)
 
 -- The state that these parts hold, of so many nodes.

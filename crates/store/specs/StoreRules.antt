@@ -9,7 +9,7 @@ use lib.Seq.{slice}
 use Rattle.lists.specs.Runs.{run, allFrom, allBelow}
 use Rattle.plan.specs.Sizes.{mostNodes}
 use Rattle.plan.specs.Plan.{Plan, size, capacityOf, next, path}
-use Rattle.plan.specs.PlanTable.{plans}
+use Rattle.plan_table.specs.PlanTable.{plans}
 use Rattle.store.specs.declared.Copy.{Copy}
 use Rattle.store.specs.declared.Slot.{Slot}
 use Rattle.store.specs.declared.Store.{Store}
@@ -65,17 +65,16 @@ unfoldable pub allZero : List ℕ → Bool
 allZero [] = true
 allZero (x ∷ xs) = eqb x 0 && allZero xs
 
--- The places from one up to another are unused.
-unfoldable pub unusedTest : Store → ℕ → ℕ → Bool
-unusedTest z from to =
-    allZero (slice from to (z .keys)) && allZero (slice from to (z .kinds)) && allZero (slice from to (z .values))
-    && allZero (slice from to (z .stamps))
+-- The places from one up to another of four columns are unused.
+unfoldable pub unusedTest : List ℕ → List ℕ → List ℕ → List ℕ → ℕ → ℕ → Bool
+unusedTest keys kinds values stamps from to =
+    allZero (slice from to keys) && allZero (slice from to kinds) && allZero (slice from to values) && allZero (slice from to stamps)
 
 -- A node: its count within capacity, its used places, and the others.
 unfoldable pub nodeTest : Plan → State → Store → ℕ → Bool
 nodeTest p s z n =
     leb (countOf z n) (capacityOf p n) && allFrom (width * n) (countOf z n) (placeTest p s z n)
-    && unusedTest z (width * n + countOf z n) (width * n + width)
+    && unusedTest (z .keys) (z .kinds) (z .values) (z .stamps) (width * n + countOf z n) (width * n + width)
 
 -- The stamps of all copies held, from a node on.
 unfoldable pub stampsFrom : List ℕ → List ℕ → ℕ → ℕ → List ℕ

@@ -167,7 +167,7 @@ impl Store {
 
     pub const NODES: usize = plan::MOST_NODES;
 
-    pub const WIDTH: usize = 64;
+    pub const WIDTH: usize = plan::MOST_CAPACITY;
 
     pub const PLACES: usize = Store::NODES * Store::WIDTH;
 
@@ -206,7 +206,7 @@ impl Store {
         if plan < 1 {
             return false;
         }
-        plan as usize <= plan::PLANS
+        plan as usize <= plan_table::PLANS
     }
 
     // A fresh store of the plan; "plan not 1 to 3": PLAN, and a fresh store of plan 1.

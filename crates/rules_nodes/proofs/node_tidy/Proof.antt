@@ -4,20 +4,11 @@ use Prim.Native.Nat.{_+_, _*_}
 use native.Mathlib.Omega.{arith}
 use lib.ListN.{getD}
 use borrow.Author.Tests.{not-true, not-false}
-use Rattle.plan.proofs.RowLaws.{capacity-of}
-use Rattle.plan.specs.PlanTable.{planNumbered}
-use Rattle.store.specs.declared.Store.{Store}
 use Rattle.store.specs.Layout.{width}
-use Rattle.store.specs.Workers.{holding}
-use Rattle.store.proofs.Freshening.{number-rules}
-use Rattle.rules_nodes.proofs.Tidying.{capacity-fits, node-over, node-used, node-unused}
+use Rattle.rules_nodes.proofs.Tidying.{node-over, node-used, node-unused}
 use borrow.Author.Needs.{needs}
 use Rattle.rules_nodes.proofs.node_tidy.Statement.{statement}
 use Rattle.rules_nodes.proofs.node_tidy.Tie as tie
-
--- The store of the columns lent.
-abbrev lent : tie.Start → Store
-lent s = let a = s .args in holding (a .plan) (a .clock) (a .counts .now) (a .keys .now) (a .kinds .now) (a .values .now) (a .stamps .now)
 
 mul-count : tie.Need-mul-count
 mul-count c = search needs
@@ -33,9 +24,9 @@ returns c =
     let s = c .before .before .before in
     let a = s .args in
     let n = a .node in
-    let cap = c .before .capacity-in .ensures ∙ capacity-of (a .plan) (a .capacities .now) (s .pre .3) n in
-    let fits = capacity-fits (planNumbered (a .plan)) (number-rules (a .plan) (s .pre .1)) n in
-    sym (node-over (lent s) n (omega arith))
+    let cap = c .before .capacity-in .ensures in
+    let fits = s .pre .1 n in
+    sym (node-over (a .capacities .now) (a .clock) (a .counts .now) (a .keys .now) (a .kinds .now) (a .values .now) (a .stamps .now) n (omega arith))
 
 mul-from : tie.Need-mul-from
 mul-from c = search needs
@@ -51,8 +42,8 @@ used-good-requires c κs =
     let s = c .before .before .before in
     let a = s .args in
     let n = a .node in
-    let cap = c .before .capacity-in .ensures ∙ capacity-of (a .plan) (a .capacities .now) (s .pre .3) n in
-    let fits = capacity-fits (planNumbered (a .plan)) (number-rules (a .plan) (s .pre .1)) n in
+    let cap = c .before .capacity-in .ensures in
+    let fits = s .pre .1 n in
     omega arith
 
 returns-2 : tie.Need-returns-2
@@ -60,9 +51,9 @@ returns-2 c =
     let s = c .before .before .before .before .before in
     let a = s .args in
     let n = a .node in
-    let cap = c .before .before .before .capacity-in .ensures ∙ capacity-of (a .plan) (a .capacities .now) (s .pre .3) n in
-    let fits = capacity-fits (planNumbered (a .plan)) (number-rules (a .plan) (s .pre .1)) n in
-    sym (node-used (lent s) n (width * n) (width * n + getD (a .counts .now) n 0) refl refl (sym (c .before .used-good .ensures) ∙ not-true (c .before .used-good .result) (c .if2 .taken)))
+    let cap = c .before .before .before .capacity-in .ensures in
+    let fits = s .pre .1 n in
+    sym (node-used (a .capacities .now) (a .clock) (a .counts .now) (a .keys .now) (a .kinds .now) (a .values .now) (a .stamps .now) n (width * n) (width * n + getD (a .counts .now) n 0) refl refl (sym (c .before .used-good .ensures) ∙ not-true (c .before .used-good .result) (c .if2 .taken)))
 
 add-unused-good : tie.Need-add-unused-good
 add-unused-good c = search needs
@@ -72,21 +63,21 @@ unused-good-requires c κs =
     let s = c .before .before .before .before .before in
     let a = s .args in
     let n = a .node in
-    let cap = c .before .before .before .capacity-in .ensures ∙ capacity-of (a .plan) (a .capacities .now) (s .pre .3) n in
-    let fits = capacity-fits (planNumbered (a .plan)) (number-rules (a .plan) (s .pre .1)) n in
+    let cap = c .before .before .before .capacity-in .ensures in
+    let fits = s .pre .1 n in
     let size = s .pre .2 in
-    (omega arith, omega arith, size .keys-long, size .kinds-long, size .values-long, size .stamps-long)
+    (omega arith, omega arith, (size .keys-long, size .kinds-long, size .values-long, size .stamps-long))
 
 returns-3 : tie.Need-returns-3
 returns-3 c =
     let s = c .before .before .before .before .before .before in
     let a = s .args in
     let n = a .node in
-    let cap = c .before .before .before .before .capacity-in .ensures ∙ capacity-of (a .plan) (a .capacities .now) (s .pre .3) n in
-    let fits = capacity-fits (planNumbered (a .plan)) (number-rules (a .plan) (s .pre .1)) n in
+    let cap = c .before .before .before .before .capacity-in .ensures in
+    let fits = s .pre .1 n in
     let used = c .before .before .used-good in
     c .unused-good .ensures
-    ∙ sym (node-unused (lent s) n (width * n) (width * n + getD (a .counts .now) n 0) refl refl (omega arith) (sym (used .ensures) ∙ not-false (used .result) (c .before .if2 .left)))
+    ∙ sym (node-unused (a .capacities .now) (a .clock) (a .counts .now) (a .keys .now) (a .kinds .now) (a .values .now) (a .stamps .now) n (width * n) (width * n + getD (a .counts .now) n 0) refl refl (omega arith) (sym (used .ensures) ∙ not-false (used .result) (c .before .if2 .left)))
 
 pub node-tidy-spec : {M : Type 1} → statement M
 node-tidy-spec =

@@ -1,15 +1,13 @@
 -- `rules_nodes::used_good` meets its contract. The loop's invariant: all places pass if those from i on do. The measure is their number.
 -- Assumes nothing.
 use mathlib.Core.Path.{_≡_, refl, sym, _∙_}
-use mathlib.Core.List.{[]}
-use Prim.Native.Nat.{_-_, _≤_}
+use mathlib.Core.Bool.{Bool}
+use Prim.Native.Nat.{ℕ, _-_, _≤_}
 use native.Mathlib.Omega.{arith}
 use borrow.Author.Needs.{needs}
 use borrow.Author.Tests.{not-true, not-false}
 use Rattle.lists.specs.Runs.{allFrom}
 use Rattle.lists.proofs.Running.{all-stop, all-turn, all-end}
-use Rattle.store.specs.declared.Store.{Store}
-use Rattle.store.specs.Workers.{holding}
 use Rattle.rules_nodes.specs.Workers.{usedTest}
 use Rattle.rules_nodes.proofs.Marking.{used-order, used-mark}
 use Rattle.rules_nodes.proofs.used_good.Statement.{statement}
@@ -17,15 +15,15 @@ use Rattle.rules_nodes.proofs.used_good.Tie as tie
 
 abbrev Inv-loop : tie.InvT-loop
 Inv-loop clock keys kinds values stamps from end i₀ i =
-    let z = holding 0 clock [] keys kinds values stamps in
-    (from ≤ i) × (allFrom from (end - from) (usedTest z end) ≡ allFrom i (end - i) (usedTest z end))
+    let used = usedTest clock keys kinds values stamps end in
+    (from ≤ i) × (allFrom from (end - from) used ≡ allFrom i (end - i) used)
 
 abbrev μ-loop : tie.MeasureT-loop
 μ-loop clock keys kinds values stamps from end i₀ i = end - i
 
--- The test of the places, of the store of the columns lent.
-abbrev lent : tie.Start Inv-loop μ-loop → Store
-lent s = let a = s .args in holding 0 (a .clock) [] (a .keys .now) (a .kinds .now) (a .values .now) (a .stamps .now)
+-- The test of the places lent.
+abbrev used : tie.Start Inv-loop μ-loop → ℕ → Bool
+used s = let a = s .args in usedTest (a .clock) (a .keys .now) (a .kinds .now) (a .values .now) (a .stamps .now) (a .end)
 
 loop-holds : tie.Need-loop-holds Inv-loop μ-loop
 loop-holds c = (search needs, refl)
@@ -40,8 +38,8 @@ returns c =
     let rises = c .before .key-rises in
     sym
     (l .loop .inv .1
-    ∙ all-stop (usedTest (lent s) (s .args .end)) (l .loop .i) (s .args .end) (omega arith)
-    (used-order (lent s) (s .args .end) (l .loop .i) (sym (rises .ensures) ∙ not-true (rises .result) (c .if1 .taken))))
+    ∙ all-stop (used s) (l .loop .i) (s .args .end) (omega arith)
+    (used-order (s .args .clock) (s .args .keys .now) (s .args .kinds .now) (s .args .values .now) (s .args .stamps .now) (s .args .end) (l .loop .i) (sym (rises .ensures) ∙ not-true (rises .result) (c .if1 .taken))))
 
 mul-key : tie.Need-mul-key Inv-loop μ-loop
 mul-key c = search needs
@@ -77,8 +75,8 @@ returns-2 c =
     let mark = c .before .mark-good in
     sym
     (l .loop .inv .1
-    ∙ all-stop (usedTest (lent s) (s .args .end)) (l .loop .i) (s .args .end) (omega (arith, c .before .before .before .before .before .before .before .before .loop-test))
-    (used-mark (lent s) (s .args .end) (l .loop .i) (sym (c .before .before .before .before .before .before .before .key-rises .ensures) ∙ not-false (c .before .before .before .before .before .before .before .key-rises .result) (c .before .before .before .before .before .before .if1 .left)) ∙ sym (mark .ensures) ∙ not-true (mark .result) (c .if2 .taken)))
+    ∙ all-stop (used s) (l .loop .i) (s .args .end) (omega (arith, c .before .before .before .before .before .before .before .before .loop-test))
+    (used-mark (s .args .clock) (s .args .keys .now) (s .args .kinds .now) (s .args .values .now) (s .args .stamps .now) (s .args .end) (l .loop .i) (sym (c .before .before .before .before .before .before .before .key-rises .ensures) ∙ not-false (c .before .before .before .before .before .before .before .key-rises .result) (c .before .before .before .before .before .before .if1 .left)) ∙ sym (mark .ensures) ∙ not-true (mark .result) (c .if2 .taken)))
 
 add-i : tie.Need-add-i Inv-loop μ-loop
 add-i c = search needs
@@ -93,15 +91,15 @@ loop-again c =
     let mark = c .before .mark-good in (
       omega arith,
       l .loop .inv .1
-          ∙ all-turn (usedTest (lent s) (s .args .end)) (l .loop .i) (s .args .end) (omega (arith, c .before .before .before .before .before .before .before .before .loop-test))
-          (used-mark (lent s) (s .args .end) (l .loop .i) (sym (c .before .before .before .before .before .before .before .key-rises .ensures) ∙ not-false (c .before .before .before .before .before .before .before .key-rises .result) (c .before .before .before .before .before .before .if1 .left)) ∙ sym (mark .ensures) ∙ not-false (mark .result) (c .if2 .left)),
+          ∙ all-turn (used s) (l .loop .i) (s .args .end) (omega (arith, c .before .before .before .before .before .before .before .before .loop-test))
+          (used-mark (s .args .clock) (s .args .keys .now) (s .args .kinds .now) (s .args .values .now) (s .args .stamps .now) (s .args .end) (l .loop .i) (sym (c .before .before .before .before .before .before .before .key-rises .ensures) ∙ not-false (c .before .before .before .before .before .before .before .key-rises .result) (c .before .before .before .before .before .before .if1 .left)) ∙ sym (mark .ensures) ∙ not-false (mark .result) (c .if2 .left)),
     )
 
 returns-3 : tie.Need-returns-3 Inv-loop μ-loop
 returns-3 c =
     let l = c .before in
     let s = l .before in
-    sym (l .loop .inv .1 ∙ all-end (usedTest (lent s) (s .args .end)) (l .loop .i) (s .args .end) (omega arith))
+    sym (l .loop .inv .1 ∙ all-end (used s) (l .loop .i) (s .args .end) (omega arith))
 
 pub used-good-spec : {M : Type 1} → statement M
 used-good-spec =

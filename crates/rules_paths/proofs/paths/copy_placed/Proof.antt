@@ -1,16 +1,16 @@
 -- `rules_paths::paths::copy_placed` meets its contract. Assumes nothing.
 use mathlib.Core.Path.{sym, _∙_}
 use borrow.Author.Tests.{not-true, not-false}
-use Rattle.store.specs.declared.Store.{Store}
+use Rattle.store.specs.State.{State}
 use Rattle.rules_paths.specs.Workers.{keyed}
 use Rattle.rules_paths.proofs.Placing.{placed-off, placed-falls}
 use borrow.Author.Needs.{needs}
 use Rattle.rules_paths.proofs.paths.copy_placed.Statement.{statement}
 use Rattle.rules_paths.proofs.paths.copy_placed.Tie as tie
 
--- The store of the columns lent.
-abbrev lent : tie.Start → Store
-lent s = let a = s .args in keyed (a .plan) (a .counts .now) (a .keys .now) (a .stamps .now)
+-- The state of the columns lent.
+abbrev lent : tie.Start → State
+lent s = let a = s .args in keyed (a .nodes) (a .counts .now) (a .keys .now) (a .stamps .now)
 
 mul-key : tie.Need-mul-key
 mul-key c = search needs
@@ -25,7 +25,7 @@ returns : tie.Need-returns
 returns c =
     let s = c .before .before .before in
     let path = c .before .on-path in
-    sym (placed-off (lent s) (s .args .node) (s .args .i) (sym (path .ensures) ∙ not-true (path .result) (c .if1 .taken)))
+    λ p rows. sym (placed-off p (lent s) (s .args .keys .now) (s .args .stamps .now) (s .args .node) (s .args .i) (sym (path .ensures p rows) ∙ not-true (path .result) (c .if1 .taken)))
 
 stamp-below-requires : tie.Need-stamp-below-requires
 stamp-below-requires c κs = search needs
@@ -41,7 +41,8 @@ returns-2 c =
     let s = c .before .before .before .before .before in
     let path = c .before .before .before .on-path in
     let below = c .before .stamp-below in
-    sym (placed-falls (lent s) (s .args .node) (s .args .i) (sym (path .ensures) ∙ not-false (path .result) (c .before .before .if1 .left)) (below .result) (below .ensures))
+    λ p rows.
+    sym (placed-falls p (lent s) (s .args .keys .now) (s .args .stamps .now) (s .args .node) (s .args .i) (sym (path .ensures p rows) ∙ not-false (path .result) (c .before .before .if1 .left)) (below .result) (below .ensures p rows))
 
 pub copy-placed-spec : {M : Type 1} → statement M
 copy-placed-spec =

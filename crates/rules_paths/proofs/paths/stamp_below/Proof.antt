@@ -4,48 +4,45 @@ use mathlib.Core.Path.{_≡_, sym, ap, _∙_}
 use mathlib.Core.Logic.{⊎-elim}
 use Prim.Native.Nat.{_+_, _-_, _*_, _<_}
 use native.Mathlib.Omega.{arith}
-use lib.ListN.{getD}
 use borrow.Author.Needs.{needs}
 use borrow.Author.Tests.{eqb-true, eqb-false}
 use Rattle.plan.specs.declared.Hop.{Hop}
 use Rattle.plan.specs.Sizes.{mostNodes}
-use Rattle.plan.specs.Plan.{size, next}
-use Rattle.plan.specs.PlanTable.{planNumbered}
+use Rattle.plan.specs.Plan.{Plan, next}
+use Rattle.plan.specs.PlanArrays.{RowsOf}
 use Rattle.store.specs.Copies.{stampOf}
 use Rattle.store.specs.State.{inReach}
-use Rattle.store.specs.Layout.{width, stateOf}
+use Rattle.store.specs.Layout.{width}
 use Rattle.store.specs.Workers.{numberIn, Ordered}
 use Rattle.store.proofs.Halving.{place-bounds}
 use Rattle.rules_paths.specs.Workers.{keyed}
-use Rattle.plan.proofs.RowLaws.{next-here}
-use Rattle.store.proofs.Freshening.{number-rules}
+use Rattle.plan.proofs.RowsLent.{next-here}
 use Rattle.rules_paths.proofs.Reaching.{LeadsOn, leads-on, stampOn, reach-starts, reach-out, reach-ends, reach-held, reach-on}
 use Rattle.rules_paths.proofs.paths.stamp_below.Statement.{statement}
 use Rattle.rules_paths.proofs.paths.stamp_below.Tie as tie
 
 abbrev Inv-loop : tie.InvT-loop
-Inv-loop plan edges lows highs targets counts keys stamps node key left₀ hop₀ left hop =
-    LeadsOn (planNumbered plan) hop
-    × (stampOf (inReach (planNumbered plan) (stateOf (keyed plan counts keys stamps)) key (next (planNumbered plan) node key)) ≡ stampOn plan counts keys stamps key left hop)
+Inv-loop nodes edges lows highs targets counts keys stamps node key left₀ hop₀ left hop =
+    LeadsOn nodes hop
+    × ((p : Plan) → RowsOf p nodes edges lows highs targets
+    → stampOf (inReach p (keyed nodes counts keys stamps) key (next p node key)) ≡ stampOn p nodes counts keys stamps key left hop)
 
 abbrev μ-loop : tie.MeasureT-loop
-μ-loop plan edges lows highs targets counts keys stamps node key left₀ hop₀ left hop = left
-
-nodes-requires : tie.Need-nodes-requires Inv-loop μ-loop
-nodes-requires c κs = search needs
+μ-loop nodes edges lows highs targets counts keys stamps node key left₀ hop₀ left hop = left
 
 next-in-requires : tie.Need-next-in-requires Inv-loop μ-loop
 next-in-requires c κs = search needs
 
 loop-holds : tie.Need-loop-holds Inv-loop μ-loop
 loop-holds c =
-    let s = c .before .before in
+    let s = c .before in
     let a = s .args in
-    let rules = number-rules (a .plan) (s .pre .0) in
-    let e = next-here (s .pre .1) (a .node) (a .key) (c .next-in .result) (c .next-in .ensures) in (
-      leads-on (planNumbered (a .plan)) rules (a .node) (a .key) (c .next-in .result) e,
-      ap (λ (h : Hop). stampOf (inReach (planNumbered (a .plan)) (stateOf (keyed (a .plan) (a .counts .now) (a .keys .now) (a .stamps .now))) (a .key) h)) (sym e)
-          ∙ reach-starts (a .plan) (a .counts .now) (a .keys .now) (a .stamps .now) (a .key) (c .before .nodes .result) (c .next-in .result) (c .before .nodes .ensures),
+    let next = c .next-in in (
+      leads-on (s .pre .rows) (a .node) (a .key) (next .result) (next .ensures),
+      λ p rows.
+          ap (λ (h : Hop). stampOf (inReach p (keyed (a .nodes) (a .counts .now) (a .keys .now) (a .stamps .now)) (a .key) h))
+          (sym (next-here rows (a .node) (a .key) (next .result) (next .ensures)))
+          ∙ reach-starts p (a .nodes) (a .counts .now) (a .keys .now) (a .stamps .now) (a .key) (a .nodes) (next .result) (rows .nodes-are),
     )
 
 enum-known-hop : tie.Need-enum-known-hop Inv-loop μ-loop
@@ -57,20 +54,22 @@ enum-told c = search needs
 returns : tie.Need-returns Inv-loop μ-loop
 returns c =
     let l = c .before .before .before in
-    let a = l .before .before .before .args in
-    sym (l .loop .inv .1 ∙ reach-ends (a .plan) (a .counts .now) (a .keys .now) (a .stamps .now) (a .key) (l .loop .left) (l .loop .hop) (c .enum-told .given .1))
+    let a = l .before .before .args in
+    λ p rows. sym (l .loop .inv .1 p rows ∙ reach-ends p (a .nodes) (a .counts .now) (a .keys .now) (a .stamps .now) (a .key) (l .loop .left) (l .loop .hop) (c .enum-told .given .1))
 
 -- The node at hand: one of the plan's, and so of the store's, in which a look can go by halves.
-here : (c : tie.After-known-told Inv-loop μ-loop) → let s = c .before .before .before .before .before .before .before in let n = c .before .hop .given .0 .0 in
-    (n < size (planNumbered (s .args .plan))) × (n < mostNodes) × Ordered (s .args .counts .now) (s .args .keys .now) n
+here : (c : tie.After-known-told Inv-loop μ-loop) → let s = c .before .before .before .before .before .before in let n = c .before .hop .given .0 .0 in
+    (n < s .args .nodes) × (n < mostNodes) × Ordered (s .args .counts .now) (s .args .keys .now) n
 here c =
     let l = c .before .before .before .before in
-    let s = l .before .before .before in
+    let s = l .before .before in
     let at = c .before .hop .given in
     let h = l .loop .inv .0 (at .0 .0) (at .1) in
-    let most = number-rules (s .args .plan) (s .pre .0) .nodes-within in
+    let rows = s .pre .rows in
+    let most = rows .rules .nodes-within in
+    let all = rows .nodes-are in
     let m : at .0 .0 < mostNodes = omega arith in
-    (h, m, s .pre .2 (at .0 .0) m)
+    (h, m, s .pre .ordered (at .0 .0) m)
 
 cast-n : tie.Need-cast-n Inv-loop μ-loop
 cast-n c = search needs
@@ -146,14 +145,15 @@ returns-2 c =
     let k = c .before .before .before .before .before .before in
     let h = here k in
     let l = k .before .before .before .before in
-    let a = l .before .before .before .args in
+    let a = l .before .before .args in
     let at = k .before .hop .given in
     let seek = c .before .before .before .before .seek in
-    let w = place-bounds (a .keys .now) (width * at .0 .0) (width * at .0 .0 + getD (a .counts .now) (at .0 .0) 0) (omega arith) (a .key) in
+    let w = place-bounds (a .keys .now) (width * at .0 .0) (width * at .0 .0 + numberIn (a .counts .now) (at .0 .0)) (omega arith) (a .key) in
     let e = seek .ensures in
+    λ p rows.
     sym
-    (l .loop .inv .1
-    ∙ reach-held (a .plan) (a .counts .now) (a .keys .now) (a .stamps .now) (a .key) (l .loop .left) (l .loop .hop) (at .0 .0) (omega (arith, k .before .before .before .loop-test)) (at .1) (h .0) (h .2) (seek .result) e
+    (l .loop .inv .1 p rows
+    ∙ reach-held p (a .nodes) (a .counts .now) (a .keys .now) (a .stamps .now) (a .key) (l .loop .left) (l .loop .hop) (at .0 .0) (omega (arith, k .before .before .before .loop-test)) (at .1) (h .0) (h .2) (seek .result) e
     (omega arith) (c .before .before .before .if1 .taken) (eqb-true (numberIn (a .keys .now) (seek .result)) (a .key) (c .before .if2 .taken)))
 
 next-in-requires-2 : tie.Need-next-in-requires-2 Inv-loop μ-loop
@@ -166,10 +166,10 @@ loop-less : tie.Need-loop-less Inv-loop μ-loop
 loop-less c = search needs
 
 -- The key does not stand at its place.
-apart : (c : tie.Joined1 Inv-loop μ-loop) → let a = c .before .before .before .before .before .before .before .before .before .before .args in let n = c .before .before .before .before .hop .given .0 .0 in let at = c .before .seek .result in
-    at < width * n + getD (a .counts .now) n 0 → numberIn (a .keys .now) at ≡ a .key → ⊥
+apart : (c : tie.Joined1 Inv-loop μ-loop) → let a = c .before .before .before .before .before .before .before .before .before .args in let n = c .before .before .before .before .hop .given .0 .0 in let at = c .before .seek .result in
+    at < width * n + numberIn (a .counts .now) n → numberIn (a .keys .now) at ≡ a .key → ⊥
 apart c =
-    let a = c .before .before .before .before .before .before .before .before .before .before .args in
+    let a = c .before .before .before .before .before .before .before .before .before .args in
     ⊎-elim (λ w g q. eqb-false (numberIn (a .keys .now) (c .before .seek .result)) (a .key) (w .2 .left) q)
     (λ w g q. absurd (omega (arith, w .left, g))) (c .if1 .came)
 
@@ -178,23 +178,24 @@ loop-again c =
     let k = c .before .before .before .before in
     let h = here k in
     let l = k .before .before .before .before in
-    let s = l .before .before .before in
+    let s = l .before .before in
     let a = s .args in
     let at = k .before .hop .given in
     let seek = c .before .before .seek in
-    let rules = number-rules (a .plan) (s .pre .0) in
-    let e = next-here (s .pre .1) (at .0 .0) (a .key) (c .next-in2 .result) (c .next-in2 .ensures) in (
-      leads-on (planNumbered (a .plan)) rules (at .0 .0) (a .key) (c .next-in2 .result) e,
-      l .loop .inv .1
-          ∙ reach-on (a .plan) (a .counts .now) (a .keys .now) (a .stamps .now) (a .key) (l .loop .left) (l .loop .hop) (at .0 .0) (omega (arith, k .before .before .before .loop-test)) (at .1) (h .0) (h .2) (seek .result) (seek .ensures) (apart (c .before))
-          ∙ ap (stampOn (a .plan) (a .counts .now) (a .keys .now) (a .stamps .now) (a .key) (l .loop .left - 1)) (sym e),
+    let next = c .next-in2 in (
+      leads-on (s .pre .rows) (at .0 .0) (a .key) (next .result) (next .ensures),
+      λ p rows.
+          l .loop .inv .1 p rows
+          ∙ reach-on p (a .nodes) (a .counts .now) (a .keys .now) (a .stamps .now) (a .key) (l .loop .left) (l .loop .hop) (at .0 .0) (omega (arith, k .before .before .before .loop-test)) (at .1) (h .0) (h .2) (seek .result) (seek .ensures) (apart (c .before))
+          ∙ ap (stampOn p (a .nodes) (a .counts .now) (a .keys .now) (a .stamps .now) (a .key) (l .loop .left - 1))
+          (sym (next-here rows (at .0 .0) (a .key) (next .result) (next .ensures))),
     )
 
 returns-3 : tie.Need-returns-3 Inv-loop μ-loop
 returns-3 c =
     let l = c .before in
-    let a = l .before .before .before .args in
-    sym (l .loop .inv .1 ∙ reach-out (a .plan) (a .counts .now) (a .keys .now) (a .stamps .now) (a .key) (l .loop .left) (l .loop .hop) (omega arith))
+    let a = l .before .before .args in
+    λ p rows. sym (l .loop .inv .1 p rows ∙ reach-out p (a .nodes) (a .counts .now) (a .keys .now) (a .stamps .now) (a .key) (l .loop .left) (l .loop .hop) (omega arith))
 
 pub stamp-below-spec : {M : Type 1} → statement M
 stamp-below-spec =
@@ -202,7 +203,6 @@ stamp-below-spec =
     (tie.spec
     Inv-loop
     μ-loop
-    nodes-requires
     next-in-requires
     loop-holds
     enum-known-hop

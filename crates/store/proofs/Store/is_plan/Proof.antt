@@ -1,5 +1,5 @@
 -- `store::Store::is_plan` meets its contract. Assumes nothing.
-use Rattle.plan.specs.PlanTable.{plans, planTable}
+use Rattle.plan_table.specs.PlanTable.{plans, planTable}
 use Rattle.store.proofs.Freshening.{plan-number-0, plan-number-1}
 use Rattle.store.proofs.Store.is_plan.Statement.{statement}
 use Rattle.store.proofs.Store.is_plan.Tie as tie
