@@ -11,8 +11,11 @@ use Rattle.lists.specs.Runs.{run}
 use Rattle.lists.proofs.Running.{map-run}
 use Rattle.plan.specs.declared.Edge.{Edge}
 use Rattle.plan.specs.Sizes.{mostNodes}
-use Rattle.plan.specs.Plan.{Plan, size, capacityOf, edgesOf, edgeOf}
+use Rattle.plan.specs.Plan.{Plan, noEdge, size, capacityOf, edgesOf, edgeOf}
 use Rattle.plan.specs.PlanRules.{IsEdge}
+use Rattle.plan.specs.PlanArrays.{Grid, atNode, edgeCountIn, edgesIn, capacitiesRow, countsRow, gridOf}
+use Rattle.plan.proofs.RowsLent.{capacity-of, count-of, edge-here}
+use Rattle.plan_table.specs.PlanTable.{planNumbered}
 use Rattle.store.specs.declared.Answer.{Answer}
 use Rattle.store.specs.declared.Copy.{Copy}
 use Rattle.store.specs.declared.Store.{Store}
@@ -24,6 +27,7 @@ use Rattle.store.specs.StoreRules.{goodStore}
 use Rattle.store.specs.Calls.{onStore}
 use Rattle.store.specs.Workers.{Within, numberIn, itself}
 use Rattle.store.proofs.Laying.{OneNode, set-one, node-laid, node-grown, counts-written, store-is, state-node, state-count, length-nodes, state-clock, state-slots}
+use Rattle.store.proofs.WhichPlan.{plan-numbered, capacities-known, rows-known}
 use Rattle.store.proofs.Lifting.{plan-good, state-good, on-way, on-refusal}
 use Rattle.store.proofs.GoodNodes.{count-fits, node-rises, counts-are, keys-are, kinds-are, values-are, stamps-are}
 use Rattle.steps.specs.Carries.{Merged, countHeld, mergeAlong, carriedTo, carriedOut, carryStep}
@@ -350,21 +354,47 @@ module _ {counts keys : List ℕ} {n i : ℕ} {e : Edge} {capacity : ℕ} {z : S
         (store-settled z (w .good) n i (w .is-edge) e (w .edge-is) capacity (w .capacity-is) its-decided a left (rw (w .counts-are) a-is)
         (rw (w .keys-are) left-is))
 
--- The refusals of a carry on a good store.
-module _ (z : Store) (good : goodStore z ≡ true) (n i : ℕ) where
-  -- NODE: "plan has no such node"
-  pub no-node : size (planOf z) ≤ n → (a : Answer) → a ≡ bare NODE → record { answer = a; store = z } ≡ onStore (carryStep n i) z
-  unfolding carryStep
-  no-node h a e = rw e (on-refusal (carryStep n i) z good NODE (rw (le-ltb n (size (planOf z)) h)))
+-- A carry by the rows of a good store's plan, taken by its number. The refusals:
+module _ (z : Store) (good : goodStore z ≡ true) (n i : ℕ) {nodes : ℕ} (nodes-are : nodes ≡ size (planNumbered (z .plan))) where
+  its-nodes : nodes ≡ size (planOf z)
+  its-nodes = nodes-are ∙ ap (λ (p : Plan). size p) (sym (plan-numbered z))
 
-  -- EDGE: "node has no such edge"
-  pub no-edge : n < size (planOf z) → length (edgesOf (planOf z) n) ≤ i → (a : Answer) → a ≡ bare EDGE
-      → record { answer = a; store = z } ≡ onStore (carryStep n i) z
+  -- NODE: "plan has no such node"
+  pub no-node : nodes ≤ n → record { answer = bare NODE; store = z } ≡ onStore (carryStep n i) z
   unfolding carryStep
-  no-edge h g a e =
-      rw e
-      (on-refusal (carryStep n i) z good EDGE
-      (rw (lt-ltb n (size (planOf z)) h, le-ltb i (length (edgesOf (planOf z) n)) g)))
+  no-node h = on-refusal (carryStep n i) z good NODE (rw (le-ltb n (size (planOf z)) (omega (arith, its-nodes))))
+
+  module _ (there : n < nodes) {edges : List ℕ} (edges-are : edges ≡ countsRow (planNumbered (z .plan))) {count : ℕ}
+      (count-is : count ≡ edgeCountIn edges n) where
+    its-edges : count ≡ length (edgesOf (planOf z) n)
+    its-edges = count-is ∙ count-of (planOf z) (plan-good z good) edges (edges-are ∙ ap countsRow (sym (plan-numbered z))) n
+
+    -- EDGE: "node has no such edge"
+    pub no-edge : count ≤ i → record { answer = bare EDGE; store = z } ≡ onStore (carryStep n i) z
+    unfolding carryStep
+    no-edge h =
+        on-refusal (carryStep n i) z good EDGE
+        (rw (
+          lt-ltb n (size (planOf z)) (omega (arith, its-nodes)),
+          le-ltb i (length (edgesOf (planOf z) n)) (omega (arith, its-edges)),
+        ))
+
+    -- and the edge and its target's capacity, as the rows have them.
+    pub carriable : i < count → (lows highs targets : Grid) → lows ≡ gridOf (λ (e : Edge). e .lowest) (planNumbered (z .plan))
+        → highs ≡ gridOf (λ (e : Edge). e .highest) (planNumbered (z .plan)) → targets ≡ gridOf (λ (e : Edge). e .target) (planNumbered (z .plan))
+        → (e : Edge) → e ≡ getD (edgesIn edges lows highs targets n) i noEdge
+        → (capacities : List ℕ) → capacities ≡ capacitiesRow (planNumbered (z .plan)) → (capacity : ℕ) → capacity ≡ atNode capacities (e .target)
+        → Carriable (z .counts) (z .keys) n i e capacity z
+    carriable h lows highs targets lows-are highs-are targets-are e e-is capacities capacities-are capacity capacity-is =
+        record {
+          good = good;
+          counts-are = refl;
+          keys-are = refl;
+          is-edge = record { node = omega (arith, its-nodes); edge = omega (arith, its-edges) };
+          edge-is =
+              edge-here (rows-known z (plan-good z good) nodes edges lows highs targets nodes-are edges-are lows-are highs-are targets-are) n i e e-is;
+          capacity-is = capacity-is ∙ capacity-of (planOf z) (plan-good z good) capacities (capacities-known z capacities capacities-are) (e .target);
+        }
 
 -- A refusal: no place is written, and a count that is there already, so the store stays as it is.
 both-stay : (counts : List ℕ) → set (set counts 0 (getD counts 0 0)) 0 (getD counts 0 0) ≡ counts

@@ -120,17 +120,17 @@ pub fn settle_lent<'a>(
     if !rules::good(plan, clock, counts, keys, kinds, values, stamps, slots) {
         return refused(Answer::BADSTORE, first);
     }
-    if plan::nodes(plan) <= node {
+    if plan_table::nodes(plan) <= node {
         return refused(Answer::NODE, first);
     }
-    let edges = plan::edge_counts_of(plan);
+    let edges = plan_table::edge_counts_of(plan);
     if arrays::edge_count_in(&edges, node) <= edge {
         return refused(Answer::EDGE, first);
     }
-    let capacities = plan::capacities_of(plan);
-    let lows = plan::lowest_of(plan);
-    let highs = plan::highest_of(plan);
-    let targets = plan::targets_of(plan);
+    let capacities = plan_table::capacities_of(plan);
+    let lows = plan_table::lowest_of(plan);
+    let highs = plan_table::highest_of(plan);
+    let targets = plan_table::targets_of(plan);
     let e = arrays::edge_in(&edges, &lows, &highs, &targets, node, edge);
     let capacity = arrays::capacity_in(&capacities, e.target);
     along(counts, keys, stay, target, node, e, capacity)

@@ -57,7 +57,7 @@ fn entry_lent<'a>(
     if Store::LAST_CLOCK <= clock {
         return refused(Answer::CLOCK, clock);
     }
-    let capacities = plan::capacities_of(plan);
+    let capacities = plan_table::capacities_of(plan);
     let decision = decide(counts, keys, arrays::capacity_in(&capacities, 0), key);
     if !decision.accepted {
         return refused(Answer::FULL, clock);
