@@ -11,30 +11,34 @@ use Rattle.lists.specs.Runs.{run}
 use Rattle.lists.proofs.Running.{map-run}
 use Rattle.plan.specs.declared.Edge.{Edge}
 use Rattle.plan.specs.Sizes.{mostNodes}
-use Rattle.plan.specs.Plan.{Plan, size, capacityOf, edgesOf, edgeOf}
+use Rattle.plan.specs.Plan.{Plan, noEdge, size, capacityOf, edgesOf, edgeOf}
 use Rattle.plan.specs.PlanRules.{IsEdge}
+use Rattle.plan.specs.PlanArrays.{Grid, atNode, edgeCountIn, edgesIn, capacitiesRow, countsRow, gridOf}
+use Rattle.plan.proofs.RowsLent.{capacity-of, count-of, edge-here}
+use Rattle.plan_table.specs.PlanTable.{planNumbered}
 use Rattle.store.specs.declared.Answer.{Answer}
 use Rattle.store.specs.declared.Copy.{Copy}
 use Rattle.store.specs.declared.Store.{Store}
 use Rattle.store.specs.Answers.{DONE, NODE, EDGE, answer, bare}
 use Rattle.store.specs.Copies.{noCopy, keyOf}
 use Rattle.store.specs.State.{State, nodeAt}
-use Rattle.store.specs.Layout.{planOf, planOf, width, places, nodeIn, copyOf, countOf, nodeOf, stateOf, column}
+use Rattle.store.specs.Layout.{planOf, width, places, nodeIn, copyOf, countOf, nodeOf, stateOf, column}
 use Rattle.store.specs.StoreRules.{goodStore}
 use Rattle.store.specs.Calls.{onStore}
-use Rattle.store.specs.Workers.{numberIn, itself}
+use Rattle.store.specs.Workers.{Within, numberIn, itself}
 use Rattle.store.proofs.Laying.{OneNode, set-one, node-laid, node-grown, counts-written, store-is, state-node, state-count, length-nodes, state-clock, state-slots}
+use Rattle.store.proofs.WhichPlan.{plan-numbered, capacities-known, rows-known}
 use Rattle.store.proofs.Lifting.{plan-good, state-good, on-way, on-refusal}
 use Rattle.store.proofs.GoodNodes.{count-fits, node-rises, counts-are, keys-are, kinds-are, values-are, stamps-are}
-use Rattle.steps.specs.Carries.{Merged, merge, countHeld, mergeAlong, carriedTo, carriedOut, carryStep}
+use Rattle.steps.specs.Carries.{Merged, countHeld, mergeAlong, carriedTo, carriedOut, carryStep}
 use Rattle.steps.proofs.Merges.{merging, stay-short, target-long}
 use Rattle.steps.proofs.CarryLaws.{carry-done}
-use Rattle.carries.specs.declared.decision.Merge.{Merge}
-use Rattle.carries.specs.Decisions.{span, Within, Ready, Decided}
+use Rattle.merges.specs.declared.Merge.{Merge}
+use Rattle.merges.specs.Decisions.{span, placesMerged, Ready, Decided}
+use Rattle.merges.proofs.Passing.{span-length}
 use Rattle.carries.specs.declared.settling.Settled.{Settled}
-use Rattle.carries.specs.Writings.{gather, Movable, carriedColumn}
-use Rattle.carries.specs.Settlings.{nothing, settledColumn, settledStore, Settles}
-use Rattle.carries.proofs.Passing.{span-length}
+use Rattle.moves.specs.Writings.{gather, Movable, carriedColumn}
+use Rattle.carries.specs.Settlings.{nothing, settledColumn, settledStore, Settles, Carriable}
 use Rattle.carries.proofs.Mapping.{mapped, merge-map, count-map}
 use Rattle.carries.proofs.InPlace.{together, movable}
 
@@ -97,10 +101,10 @@ module _ (z : Store) (good : goodStore z ≡ true) (n i : ℕ) (d : IsEdge (plan
   target-there : t < size p
   target-there = rw e-is (plan-good z good .target-greater-and-exists n i d .1)
 
-  pub target-few : t < mostNodes
+  target-few : t < mostNodes
   target-few = omega (arith, target-there, plan-good z good .nodes-within)
 
-  pub node-few : n < mostNodes
+  node-few : n < mostNodes
   node-few = omega (arith, target-below, target-few)
 
   node-there : n < size p
@@ -114,16 +118,16 @@ module _ (z : Store) (good : goodStore z ≡ true) (n i : ℕ) (d : IsEdge (plan
     held-within = omega (arith, capacity-is, state-good z good .counts-within-capacity t target-there, state-count z t target-there)
 
     -- Its two nodes can be merged.
-    pub ready : Ready (z .keys) capacity (width * n) (width * n + countOf z n) (width * t) (width * t + countOf z t)
-    ready =
+    store-ready : Ready (z .keys) capacity (width * n) (countOf z n) (width * t) (countOf z t)
+    store-ready =
         let few = node-few in
         let fewer = target-few in
         let a = count-fits z good n few in
         let b = held-within in
         let c = capacity-few in
         record {
-          node-within = (omega arith, omega arith, omega arith);
-          target-within = (omega arith, omega arith, omega arith);
+          node-within = (omega arith, a);
+          target-within = (omega arith, b);
           few = c;
           node-rises = node-rises z good n (width * n) (width * n + countOf z n) few refl refl;
           target-rises = node-rises z good t (width * t) (width * t + countOf z t) fewer refl refl;
@@ -131,7 +135,7 @@ module _ (z : Store) (good : goodStore z ≡ true) (n i : ℕ) (d : IsEdge (plan
 
     -- The merge of their places, and of their copies.
     abbrev places-merged : Merged ℕ
-    places-merged = merge (numberIn (z .keys)) capacity e (span (width * n) (width * n + countOf z n)) (span (width * t) (width * t + countOf z t))
+    places-merged = placesMerged (z .keys) capacity e (width * n) (countOf z n) (width * t) (countOf z t)
 
     abbrev copies-merged : Merged Copy
     copies-merged = mapped (copyOf z) places-merged
@@ -155,7 +159,7 @@ module _ (z : Store) (good : goodStore z ≡ true) (n i : ℕ) (d : IsEdge (plan
       kept-listed = kept-is ∙ ap length (sym (decided .stays .listed))
 
       -- The node's count falls, the target's rises, by no more.
-      pub counts-go : (m .kept ≤ countOf z n) × (countOf z t ≤ m .got) × (m .got - countOf z t ≤ countOf z n - m .kept)
+      counts-go : (m .kept ≤ countOf z n) × (countOf z t ≤ m .got) × (m .got - countOf z t ≤ countOf z n - m .kept)
       counts-go =
           let xs = span (width * n) (width * n + countOf z n) in
           let ys = span (width * t) (width * t + countOf z t) in
@@ -170,13 +174,13 @@ module _ (z : Store) (good : goodStore z ≡ true) (n i : ℕ) (d : IsEdge (plan
           (omega arith, omega arith, omega arith)
 
       -- The columns can be written in place.
-      pub column-movable : Movable (take (m .kept) stay) (take (m .got) target) (width * n) (countOf z n) (width * t)
+      column-movable : Movable (take (m .kept) stay) (take (m .got) target) (width * n) (countOf z n) (width * t)
       column-movable =
           rw (decided .stays .listed, decided .gets .listed)
           (movable (numberIn (z .keys)) capacity e (width * n) (countOf z n) (width * t) (countOf z t)
           (omega (arith, target-below, count-fits z good n node-few)) (omega (arith, got-is, decided .gets .counted, target-few)))
 
-      pub stays-within : Within (take (m .kept) stay) places
+      stays-within : Within (take (m .kept) stay) places
       stays-within j h = omega (arith, column-movable .low j h, target-few)
 
       -- The copies that then stay, and those that the target has.
@@ -221,7 +225,7 @@ module _ (z : Store) (good : goodStore z ≡ true) (n i : ℕ) (d : IsEdge (plan
           (omega (arith, decided .gets .counted)))
 
       -- The store after the carry, and its answer.
-      pub carry-is : (a : Answer) (left : ℕ) (keys kinds values stamps : List ℕ)
+      carry-is : (a : Answer) (left : ℕ) (keys kinds values stamps : List ℕ)
           → a ≡ answer DONE (countOf z n - m .kept) (countOf z n - m .kept - (m .got - countOf z t)) left 0
           → left ≡ countHeld (numberIn (z .keys)) e (take (m .kept) stay)
           → keys ≡ carriedColumn (z .keys) (take (m .kept) stay) (take (m .got) target) (width * n) (countOf z n) (width * t)
@@ -270,7 +274,7 @@ module _ (z : Store) (good : goodStore z ≡ true) (n i : ℕ) (d : IsEdge (plan
               ∙ sym (both-counts (s .nodes) n t xs ys (omega arith) (omega arith) node-apart)
 
       -- What is settled along the edge.
-      pub settled-along : (a : Answer) (left : ℕ)
+      store-settled : (a : Answer) (left : ℕ)
           → a ≡ answer DONE (countOf z n - m .kept) (countOf z n - m .kept - (m .got - countOf z t)) left 0
           → left ≡ countHeld (numberIn (z .keys)) e (take (m .kept) stay)
           → Settles z n i stay target (record {
@@ -285,7 +289,7 @@ module _ (z : Store) (good : goodStore z ≡ true) (n i : ℕ) (d : IsEdge (plan
             got = m .got;
             holds = m .got;
           })
-      settled-along a left a-is left-is =
+      store-settled a left a-is left-is =
           record {
             nodes = (node-few, target-few);
             stays = (decided .stays .long, decided .stays .counted);
@@ -294,21 +298,103 @@ module _ (z : Store) (good : goodStore z ≡ true) (n i : ℕ) (d : IsEdge (plan
             outcome = carry-is a left _ _ _ _ a-is left-is refl refl refl refl;
           }
 
--- The refusals of a carry on a good store.
-module _ (z : Store) (good : goodStore z ≡ true) (n i : ℕ) where
-  -- NODE: "plan has no such node"
-  pub no-node : size (planOf z) ≤ n → (a : Answer) → a ≡ bare NODE → record { answer = a; store = z } ≡ onStore (carryStep n i) z
-  unfolding carryStep
-  no-node h a e = rw e (on-refusal (carryStep n i) z good NODE (rw (le-ltb n (size (planOf z)) h)))
+-- The same by the counts and the keys of a store, and an edge of its plan.
+module _ {counts keys : List ℕ} {n i : ℕ} {e : Edge} {capacity : ℕ} {z : Store} (w : Carriable counts keys n i e capacity z) where
+  abbrev had : ℕ
+  had = getD counts n 0
 
-  -- EDGE: "node has no such edge"
-  pub no-edge : n < size (planOf z) → length (edgesOf (planOf z) n) ≤ i → (a : Answer) → a ≡ bare EDGE
-      → record { answer = a; store = z } ≡ onStore (carryStep n i) z
+  abbrev held : ℕ
+  held = getD counts (e .target) 0
+
+  -- The node and the target are nodes of a store,
+  pub source-few : n < mostNodes
+  source-few = node-few z (w .good) n i (w .is-edge) e (w .edge-is)
+
+  pub goal-few : e .target < mostNodes
+  goal-few = target-few z (w .good) n i (w .is-edge) e (w .edge-is)
+
+  -- hold no more copies than a node has places,
+  pub fits : (m : ℕ) → m < mostNodes → getD counts m 0 ≤ width
+  fits m h = rw (← (w .counts-are)) (count-fits z (w .good) m h)
+
+  -- and can be merged.
+  pub ready : Ready keys capacity (width * n) had (width * (e .target)) held
+  ready = rw (← (w .counts-are), ← (w .keys-are)) (store-ready z (w .good) n i (w .is-edge) e (w .edge-is) capacity (w .capacity-is))
+
+  module _ {stay target : List ℕ} {m : Merge}
+      (decided : Decided (placesMerged keys capacity e (width * n) had (width * (e .target)) held) stay target m) where
+    its-decided : Decided (placesMerged (z .keys) capacity e (width * n) (countOf z n) (width * (e .target)) (countOf z (e .target))) stay target m
+    its-decided = rw (w .counts-are, w .keys-are) decided
+
+    -- The node's count falls, the target's rises, by no more.
+    pub counts-move : (m .kept ≤ had) × (held ≤ m .got) × (m .got - held ≤ had - m .kept)
+    counts-move = rw (← (w .counts-are)) (counts-go z (w .good) n i (w .is-edge) e (w .edge-is) capacity (w .capacity-is) its-decided)
+
+    -- What stays is in the column.
+    pub stay-there : Within (take (m .kept) stay) places
+    stay-there = stays-within z (w .good) n i (w .is-edge) e (w .edge-is) capacity (w .capacity-is) its-decided
+
+    -- What is settled along the edge.
+    pub settled-along : (a : Answer) (left : ℕ) → a ≡ answer DONE (had - m .kept) (had - m .kept - (m .got - held)) left 0
+        → left ≡ countHeld (numberIn keys) e (take (m .kept) stay)
+        → Settles z n i stay target (record {
+          answer = a;
+          node = n;
+          from = width * n;
+          had = had;
+          kept = m .kept;
+          remains = m .kept;
+          target = e .target;
+          start = width * (e .target);
+          got = m .got;
+          holds = m .got;
+        })
+    settled-along a left a-is left-is =
+        rw (← (w .counts-are))
+        (store-settled z (w .good) n i (w .is-edge) e (w .edge-is) capacity (w .capacity-is) its-decided a left (rw (w .counts-are) a-is)
+        (rw (w .keys-are) left-is))
+
+-- A carry by the rows of a good store's plan, taken by its number. The refusals:
+module _ (z : Store) (good : goodStore z ≡ true) (n i : ℕ) {nodes : ℕ} (nodes-are : nodes ≡ size (planNumbered (z .plan))) where
+  its-nodes : nodes ≡ size (planOf z)
+  its-nodes = nodes-are ∙ ap (λ (p : Plan). size p) (sym (plan-numbered z))
+
+  -- NODE: "plan has no such node"
+  pub no-node : nodes ≤ n → record { answer = bare NODE; store = z } ≡ onStore (carryStep n i) z
   unfolding carryStep
-  no-edge h g a e =
-      rw e
-      (on-refusal (carryStep n i) z good EDGE
-      (rw (lt-ltb n (size (planOf z)) h, le-ltb i (length (edgesOf (planOf z) n)) g)))
+  no-node h = on-refusal (carryStep n i) z good NODE (rw (le-ltb n (size (planOf z)) (omega (arith, its-nodes))))
+
+  module _ (there : n < nodes) {edges : List ℕ} (edges-are : edges ≡ countsRow (planNumbered (z .plan))) {count : ℕ}
+      (count-is : count ≡ edgeCountIn edges n) where
+    its-edges : count ≡ length (edgesOf (planOf z) n)
+    its-edges = count-is ∙ count-of (planOf z) (plan-good z good) edges (edges-are ∙ ap countsRow (sym (plan-numbered z))) n
+
+    -- EDGE: "node has no such edge"
+    pub no-edge : count ≤ i → record { answer = bare EDGE; store = z } ≡ onStore (carryStep n i) z
+    unfolding carryStep
+    no-edge h =
+        on-refusal (carryStep n i) z good EDGE
+        (rw (
+          lt-ltb n (size (planOf z)) (omega (arith, its-nodes)),
+          le-ltb i (length (edgesOf (planOf z) n)) (omega (arith, its-edges)),
+        ))
+
+    -- and the edge and its target's capacity, as the rows have them.
+    pub carriable : i < count → (lows highs targets : Grid) → lows ≡ gridOf (λ (e : Edge). e .lowest) (planNumbered (z .plan))
+        → highs ≡ gridOf (λ (e : Edge). e .highest) (planNumbered (z .plan)) → targets ≡ gridOf (λ (e : Edge). e .target) (planNumbered (z .plan))
+        → (e : Edge) → e ≡ getD (edgesIn edges lows highs targets n) i noEdge
+        → (capacities : List ℕ) → capacities ≡ capacitiesRow (planNumbered (z .plan)) → (capacity : ℕ) → capacity ≡ atNode capacities (e .target)
+        → Carriable (z .counts) (z .keys) n i e capacity z
+    carriable h lows highs targets lows-are highs-are targets-are e e-is capacities capacities-are capacity capacity-is =
+        record {
+          good = good;
+          counts-are = refl;
+          keys-are = refl;
+          is-edge = record { node = omega (arith, its-nodes); edge = omega (arith, its-edges) };
+          edge-is =
+              edge-here (rows-known z (plan-good z good) nodes edges lows highs targets nodes-are edges-are lows-are highs-are targets-are) n i e e-is;
+          capacity-is = capacity-is ∙ capacity-of (planOf z) (plan-good z good) capacities (capacities-known z capacities capacities-are) (e .target);
+        }
 
 -- A refusal: no place is written, and a count that is there already, so the store stays as it is.
 both-stay : (counts : List ℕ) → set (set counts 0 (getD counts 0 0)) 0 (getD counts 0 0) ≡ counts

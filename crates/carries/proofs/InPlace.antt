@@ -12,15 +12,15 @@ use Rattle.lists.proofs.RisingKeys.{Rising, rising-from}
 use Rattle.lists.proofs.RisingKeys.Rising.{end, above}
 use Rattle.plan.specs.declared.Edge.{Edge}
 use Rattle.store.specs.Layout.{places}
-use Rattle.store.specs.Workers.{itself}
+use Rattle.store.specs.Workers.{Within, itself}
 use Rattle.steps.specs.Entries.{put}
 use Rattle.steps.specs.Carries.{merge}
 use Rattle.steps.proofs.NodeLists.{put-before, put-over, put-behind, put-most}
 use Rattle.steps.proofs.Merges.{Merging, merging, stay-short}
 use Rattle.steps.proofs.Merges.Merging.{through, carry, keep}
-use Rattle.carries.specs.Decisions.{span, Within}
-use Rattle.carries.specs.Writings.{Under, Over, Movable}
-use Rattle.carries.proofs.Passing.{span-length}
+use Rattle.merges.specs.Decisions.{span}
+use Rattle.merges.proofs.Passing.{span-length}
+use Rattle.moves.specs.Writings.{Under, Over, Movable}
 
 -- Each number of a list is at most its own place, counted from s on.
 data Climbing : ℕ → List ℕ → Type 0 where

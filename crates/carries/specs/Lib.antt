@@ -1,3 +1,1 @@
-pub mod Decisions
-pub mod Writings
 pub mod Settlings

@@ -4,18 +4,22 @@ use mathlib.Core.Bool.{true}
 use mathlib.Core.List.{List}
 use Prim.Native.Nat.{ℕ, _<_, _≤_}
 use lib.ListN.{length, set, take}
+use Rattle.plan.specs.declared.Edge.{Edge}
 use Rattle.plan.specs.Sizes.{mostNodes}
+use Rattle.plan.specs.Plan.{capacityOf, edgeOf}
+use Rattle.plan.specs.PlanRules.{IsEdge}
 use Rattle.store.specs.declared.Answer.{Answer}
 use Rattle.store.specs.declared.Slot.{Slot}
 use Rattle.store.specs.declared.Store.{Store}
 use Rattle.store.specs.Answers.{bare}
-use Rattle.store.specs.Layout.{width}
+use Rattle.store.specs.Layout.{planOf, width}
 use Rattle.store.specs.StoreRules.{goodStore}
 use Rattle.store.specs.Calls.{onStore}
-use Rattle.store.specs.Workers.{ofParts}
+use Rattle.store.specs.Workers.{Lent, storeAtEntry, storeAtExit}
 use Rattle.steps.specs.Carries.{carryStep}
+use Rattle.steps.specs.Promises.{Carries}
+use Rattle.moves.specs.Writings.{Movable, carriedColumn}
 use Rattle.carries.specs.declared.settling.Settled.{Settled}
-use Rattle.carries.specs.Writings.{Movable, carriedColumn}
 
 -- A refusal: no place is written, and only the first node's count, as it was.
 abbrev pub nothing : ℕ → ℕ → Settled
@@ -59,21 +63,31 @@ pub record Settles (z : Store) (n i : ℕ) (stay target : List ℕ) (r : Settled
   pub movable : Movable (take (r .kept) stay) (take (r .got) target) (r .from) (r .had) (r .start)
   pub outcome : record { answer = r .answer; store = settledStore stay target r z } ≡ onStore (carryStep n i) z
 
--- A carry where the columns lie: the answer and the store then are the carry's outcome.
-abbrev pub CarriesIn : Store → ℕ → ℕ → Answer → Store → Type 0
-CarriesIn before n i r after = record { answer = r; store = after } ≡ onStore (carryStep n i) before
+-- The same over lent columns.
+abbrev pub SettlesLent : ℕ → ℕ → Lent → Lent → Lent → Lent → Lent → List Slot → Lent → Lent → ℕ → ℕ → Settled → Type 0
+SettlesLent plan clock counts keys kinds values stamps slots stay target n i r =
+    Settles (storeAtEntry plan clock counts keys kinds values stamps slots) n i (stay .exit .now) (target .exit .now) r
 
--- The plan number, counts and keys of a good store, whatever else it holds.
-pub record OfGood (plan : ℕ) (counts keys : List ℕ) : Type 0 where
-  pub clock : ℕ
-  pub kinds : List ℕ
-  pub values : List ℕ
-  pub stamps : List ℕ
-  pub slots : List Slot
-  pub good : goodStore (ofParts plan clock counts keys kinds values stamps slots) ≡ true
+-- A good store that has these counts and keys, and in whose plan this is the edge i of node n, to a target of this capacity.
+pub record Carriable (counts keys : List ℕ) (n i : ℕ) (e : Edge) (capacity : ℕ) (z : Store) : Type 0 where
+  pub good : goodStore z ≡ true
+  pub counts-are : z .counts ≡ counts
+  pub keys-are : z .keys ≡ keys
+  pub is-edge : IsEdge (planOf z) n i
+  pub edge-is : e ≡ edgeOf (planOf z) n i
+  pub capacity-is : capacity ≡ capacityOf (planOf z) (e .target)
 
--- What is settled by them, whatever else the good store holds.
-abbrev pub SettlesIn : ℕ → List ℕ → List ℕ → ℕ → ℕ → List ℕ → List ℕ → Settled → Type 0
-SettlesIn plan counts keys n i stay target r =
-    (clock : ℕ) (kinds values stamps : List ℕ) (slots : List Slot) → goodStore (ofParts plan clock counts keys kinds values stamps slots) ≡ true
-    → Settles (ofParts plan clock counts keys kinds values stamps slots) n i stay target r
+-- There is such a store.
+abbrev pub OfGood : List ℕ → List ℕ → ℕ → Edge → ℕ → Type 0
+OfGood counts keys n e capacity = (z : Store) × (i : ℕ) × Carriable counts keys n i e capacity z
+
+-- What is settled for every such store.
+abbrev pub SettlesIn : List ℕ → List ℕ → ℕ → Edge → ℕ → List ℕ → List ℕ → Settled → Type 0
+SettlesIn counts keys n e capacity stay target r =
+    (z : Store) (i : ℕ) → Carriable counts keys n i e capacity z → Settles z n i stay target r
+
+-- The promise of a carry, over lent columns: the answer, and the store that they then are.
+abbrev pub CarriesLent : ℕ → ℕ → Lent → Lent → Lent → Lent → Lent → List Slot → ℕ → ℕ → Answer → Type 0
+CarriesLent plan clock counts keys kinds values stamps slots n i r =
+    Carries (storeAtEntry plan clock counts keys kinds values stamps slots) n i
+    (record { answer = r; store = storeAtExit plan clock counts keys kinds values stamps slots })

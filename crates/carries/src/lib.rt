@@ -1,60 +1,35 @@
 // Carry: a node's copies move to a child. Document 01, "What each step does".
+ghost use mathlib.Core.Path.{_≡_};
+ghost use Prim.Native.Nat.{_<_};
+ghost use lib.ListN.{length, set};
+ghost use Rattle.plan.specs.Sizes.{mostNodes};
 ghost use Rattle.steps.specs.Promises.{Carries};
-ghost use Rattle.store.specs.Workers.{LentSized, lentStore};
-ghost use Rattle.carries.specs.Settlings.{CarriesIn};
-use settling::settle;
+ghost use Rattle.store.specs.Workers.{LentSized};
+ghost use Rattle.carries.specs.Settlings.{CarriesLent};
+use moves::carry_column;
+use settling::Settled;
+use settling::settle_lent;
 use store::Answer;
 use store::Outcome;
 use store::Slot;
 use store::Store;
-use writing::carry_column;
-use writing::carry_counts;
 
-mod decision; // decision.rt: which copies move, by the keys alone
 mod settling; // settling.rt: what a carry is to write, and its answer
-mod writing; // writing.rt: a column after a carry, written in place
 
-// Carry (node, edge): what is to be written is settled first; then the columns are written, one by one, and two counts. A refusal writes no
-// place, and a count as it was. There is one way out, so that the store is moved into the outcome once.
-pub fn carry(mut store: Store, node: u32, edge: u32) -> Outcome
-    ensures { λ r. ⌜ Carries store node edge r ⌝ }
+// The counts after a carry: the node's, and then the target's.
+fn carry_counts(counts: &mut [u32; Store::NODES], s: Settled)
+    requires { ⌜ (s .node < mostNodes) × (s .target < mostNodes) × (length (now counts) ≡ mostNodes) ⌝ }
+    ensures { λ _. ⌜ now (counts .exit) ≡ set (set (now (counts .entry)) (s .node) (s .remains)) (s .target) (s .holds) ⌝ }
 {
-    let slots = store.slots;
-    let mut stay = [0; Store::WIDTH];
-    let mut target = [0; Store::WIDTH];
-    let s = settle(
-        store.plan,
-        store.clock,
-        &store.counts,
-        &store.keys,
-        &store.kinds,
-        &store.values,
-        &store.stamps,
-        slots,
-        &mut stay,
-        &mut target,
-        node,
-        edge,
-    );
-    let answer = s.answer;
-    let stays = &stay[..s.kept];
-    let gets = &target[..s.got];
-    carry_column(&mut store.keys, stays, gets, s.from, s.had, s.start);
-    carry_column(&mut store.kinds, stays, gets, s.from, s.had, s.start);
-    carry_column(&mut store.values, stays, gets, s.from, s.had, s.start);
-    carry_column(&mut store.stamps, stays, gets, s.from, s.had, s.start);
     let n = s.node;
     let t = s.target;
-    store.counts[n] = s.remains;
-    store.counts[t] = s.holds;
-    Outcome {
-        answer: answer,
-        store: store,
-    }
+    counts[n] = s.remains;
+    counts[t] = s.holds;
 }
 
-// The same on columns lent where they lie: each is written there.
-pub fn carry_in<'a>(
+// Carry (node, edge) on columns lent where they lie: what is to be written is settled first; then each column is written there, and two counts.
+// A refusal writes no place, and a count as it was.
+pub fn carry_lent<'a>(
     plan: u32,
     clock: u32,
     counts: &'a mut [u32; Store::NODES],
@@ -67,11 +42,11 @@ pub fn carry_in<'a>(
     edge: u32,
 ) -> Answer
     requires { ⌜ LentSized counts keys kinds values stamps ⌝ }
-    ensures { λ r. ⌜ CarriesIn (lentStore plan clock (counts .entry) (keys .entry) (kinds .entry) (values .entry) (stamps .entry) slots) node edge r (lentStore plan clock (counts .exit) (keys .exit) (kinds .exit) (values .exit) (stamps .exit) slots) ⌝ }
+    ensures { λ r. ⌜ CarriesLent plan clock counts keys kinds values stamps slots node edge r ⌝ }
 {
     let mut stay = [0; Store::WIDTH];
     let mut target = [0; Store::WIDTH];
-    let s = settle(
+    let s = settle_lent(
         plan,
         clock,
         counts,
@@ -93,4 +68,42 @@ pub fn carry_in<'a>(
     carry_column(stamps, stays, gets, s.from, s.had, s.start);
     carry_counts(counts, s);
     s.answer
+}
+
+// The same by value: the columns are taken out of the store, lent, and put back.
+pub fn carry(store: Store, node: u32, edge: u32) -> Outcome
+    ensures { λ r. ⌜ Carries store node edge r ⌝ }
+{
+    let slots = store.slots;
+    let mut counts = store.counts;
+    let mut keys = store.keys;
+    let mut kinds = store.kinds;
+    let mut values = store.values;
+    let mut stamps = store.stamps;
+    let answer = carry_lent(
+        store.plan,
+        store.clock,
+        &mut counts,
+        &mut keys,
+        &mut kinds,
+        &mut values,
+        &mut stamps,
+        slots,
+        node,
+        edge,
+    );
+    let after = Store {
+        plan: store.plan,
+        clock: store.clock,
+        counts,
+        keys,
+        kinds,
+        values,
+        stamps,
+        slots,
+    };
+    Outcome {
+        answer,
+        store: after,
+    }
 }

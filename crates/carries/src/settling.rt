@@ -2,14 +2,14 @@
 ghost use mathlib.Core.Path.{_≡_};
 ghost use Prim.Native.Nat.{_-_, _≤_};
 ghost use lib.ListN.{length};
-ghost use Rattle.plan.specs.PlanRules.{IsEdge};
-ghost use Rattle.plan_table.specs.PlanTable.{planNumbered};
 ghost use Rattle.store.specs.Answers.{DONE, answer};
 ghost use Rattle.store.specs.Layout.{width};
-ghost use Rattle.store.specs.Workers.{LentSized, lentStore};
-ghost use Rattle.carries.specs.Settlings.{nothing, OfGood, Settles, SettlesIn};
-use crate::decision::count_held;
-use crate::decision::decide;
+ghost use Rattle.store.specs.Workers.{LentSized};
+ghost use Rattle.carries.specs.Settlings.{nothing, OfGood, SettlesIn, SettlesLent};
+use merges::count_held;
+use merges::decide;
+use plan::Edge;
+use plan::arrays;
 use store::Answer;
 use store::Slot;
 use store::Store;
@@ -63,28 +63,26 @@ fn tally(had: usize, kept: usize, held: usize, got: usize, left: usize) -> Answe
     )
 }
 
-// Along an edge of a good store's plan: what stays and what the target gets.
+// Along an edge of a node of a good store, to a target of this capacity: what stays and what the target gets.
 fn along(
-    plan: u32,
     counts: &[u32; Store::NODES],
     keys: &[u32; Store::PLACES],
     stay: &mut [usize; Store::WIDTH],
     target: &mut [usize; Store::WIDTH],
     node: u32,
-    edge: u32,
+    e: Edge,
+    capacity: u32,
 ) -> Settled
-    requires { ⌜ OfGood plan (now counts) (now keys) × IsEdge (planNumbered plan) node edge × (length (now stay) ≡ width) × (length (now target) ≡ width) ⌝ }
-    ensures { λ r. ⌜ SettlesIn plan (now (counts .entry)) (now (keys .entry)) node edge (now (stay .exit)) (now (target .exit)) r ⌝ }
+    requires { ⌜ OfGood (now counts) (now keys) node e capacity × (length (now stay) ≡ width) × (length (now target) ≡ width) ⌝ }
+    ensures { λ r. ⌜ SettlesIn (now (counts .entry)) (now (keys .entry)) node e capacity (now (stay .exit)) (now (target .exit)) r ⌝ }
 {
-    let e = plan::edge_at(plan, node, edge);
     let n = node as usize;
     let t = e.target as usize;
     let had = counts[n] as usize;
     let held = counts[t] as usize;
     let from = Store::WIDTH * n;
     let start = Store::WIDTH * t;
-    let capacity = plan::capacity(plan, e.target) as usize;
-    let m = decide(keys, stay, target, from, had, start, held, e, capacity);
+    let m = decide(keys, stay, target, from, had, start, held, e, capacity as usize);
     let left = count_held(keys, stay, m.kept, e);
     Settled {
         answer: tally(had, m.kept, held, m.got, left),
@@ -100,8 +98,8 @@ fn along(
     }
 }
 
-// BADSTORE, then NODE, then EDGE, and none of them alters the store.
-pub fn settle<'a>(
+// BADSTORE, then NODE, then EDGE, and none of them alters the store. The plan's rows are taken once.
+pub fn settle_lent<'a>(
     plan: u32,
     clock: u32,
     counts: &'a [u32; Store::NODES],
@@ -116,7 +114,7 @@ pub fn settle<'a>(
     edge: u32,
 ) -> Settled
     requires { ⌜ LentSized counts keys kinds values stamps × (length (now stay) ≡ width) × (length (now target) ≡ width) ⌝ }
-    ensures { λ r. ⌜ Settles (lentStore plan clock (counts .entry) (keys .entry) (kinds .entry) (values .entry) (stamps .entry) slots) node edge (now (stay .exit)) (now (target .exit)) r ⌝ }
+    ensures { λ r. ⌜ SettlesLent plan clock counts keys kinds values stamps slots stay target node edge r ⌝ }
 {
     let first = counts[0];
     if !rules::good(plan, clock, counts, keys, kinds, values, stamps, slots) {
@@ -125,8 +123,15 @@ pub fn settle<'a>(
     if plan_table::nodes(plan) <= node {
         return refused(Answer::NODE, first);
     }
-    if plan::edge_count(plan, node) <= edge {
+    let edges = plan_table::edge_counts_of(plan);
+    if arrays::edge_count_in(&edges, node) <= edge {
         return refused(Answer::EDGE, first);
     }
-    along(plan, counts, keys, stay, target, node, edge)
+    let capacities = plan_table::capacities_of(plan);
+    let lows = plan_table::lowest_of(plan);
+    let highs = plan_table::highest_of(plan);
+    let targets = plan_table::targets_of(plan);
+    let e = arrays::edge_in(&edges, &lows, &highs, &targets, node, edge);
+    let capacity = arrays::capacity_in(&capacities, e.target);
+    along(counts, keys, stay, target, node, e, capacity)
 }

@@ -11,10 +11,10 @@ use Rattle.lists.proofs.Running.{run-off}
 use Rattle.plan.specs.declared.Edge.{Edge}
 use Rattle.plan.specs.Plan.{holds}
 use Rattle.store.specs.Layout.{width}
-use Rattle.store.specs.Workers.{numberIn, itself}
+use Rattle.store.specs.Workers.{Within, numberIn, itself}
 use Rattle.steps.specs.Carries.{Merged, merge, countHeld}
 use Rattle.merges.specs.declared.Merge.{Merge}
-use Rattle.merges.specs.Decisions.{placesMerged, begun, getting, standing, outcome, Going, Ready, Lists, Decided, Within}
+use Rattle.merges.specs.Decisions.{placesMerged, begun, getting, standing, outcome, Going, Ready, Lists, Decided}
 use Rattle.merges.proofs.Turning.{stood, own-stands}
 
 -- The rest of the target's own places: one more,

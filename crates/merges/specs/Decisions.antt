@@ -85,7 +85,3 @@ pub record Lists (array : List ℕ) (count : ℕ) (list : List ℕ) : Type 0 whe
 pub record Decided (l : Merged ℕ) (stay target : List ℕ) (r : Merge) : Type 0 where
   pub stays : Lists stay (r .kept) (l .stay)
   pub gets : Lists target (r .got) (l .target)
-
--- The numbers of a list are below a bound.
-abbrev pub Within : List ℕ → ℕ → Type 0
-Within list bound = (i : ℕ) → i < length list → numberIn list i < bound

@@ -5,10 +5,10 @@ ghost use Prim.Native.Nat.{_+_, _-_, _<_, _≤_};
 ghost use lib.ListN.{length, set, take};
 ghost use Rattle.plan.specs.Plan.{holds as heldBy};
 ghost use Rattle.store.specs.Layout.{width, places};
-ghost use Rattle.store.specs.Workers.{numberIn};
+ghost use Rattle.store.specs.Workers.{Within, numberIn};
 ghost use Rattle.steps.specs.Carries.{countHeld};
 ghost use Rattle.merges.specs.Decisions.{placesMerged, standing, keeping, getting};
-ghost use Rattle.merges.specs.Decisions.{Going, LentTurned, Ready, Lists, Decided, Within};
+ghost use Rattle.merges.specs.Decisions.{Going, LentTurned, Ready, Lists, Decided};
 use plan::Edge;
 use store::Store;
 

@@ -23,6 +23,10 @@ use Rattle.store.specs.Layout.{width, places, copyIn, nodeIn, stateIn}
 abbrev pub numberIn : List ℕ → ℕ → ℕ
 numberIn column i = getD column i 0
 
+-- The numbers of a list are below a bound.
+abbrev pub Within : List ℕ → ℕ → Type 0
+Within list bound = (i : ℕ) → i < length list → numberIn list i < bound
+
 -- A number is its own key.
 abbrev pub itself : ℕ → ℕ
 itself k = k

@@ -1,4 +1,4 @@
--- `carries::writing::gather_front` meets its contract. Assumes nothing.
+-- `moves::gather_front` meets its contract. Assumes nothing.
 use mathlib.Core.Path.{_≡_, refl, ap, _∙_}
 use Prim.Native.Nat.{ℕ, _+_, _-_, _≤_}
 use native.Mathlib.Omega.{arith}
@@ -8,10 +8,10 @@ use lib.Seq.{sets}
 use borrow.Author.Needs.{needs}
 use Rattle.store.specs.Layout.{places}
 use Rattle.store.specs.Workers.{numberIn}
-use Rattle.carries.specs.Writings.{gather}
-use Rattle.carries.proofs.Gathering.{front-turn, front-end}
-use Rattle.carries.proofs.writing.gather_front.Statement.{statement}
-use Rattle.carries.proofs.writing.gather_front.Tie as tie
+use Rattle.moves.specs.Writings.{gather}
+use Rattle.moves.proofs.Gathering.{front-turn, front-end}
+use Rattle.moves.proofs.gather_front.Statement.{statement}
+use Rattle.moves.proofs.gather_front.Tie as tie
 
 abbrev Inv-loop : tie.InvT-loop
 Inv-loop column₀ list start i₀ column i =
@@ -37,10 +37,10 @@ shared-slice-read-place : tie.Need-shared-slice-read-place Inv-loop μ-loop
 shared-slice-read-place c = search needs
 
 mul-number : tie.Need-mul-number Inv-loop μ-loop
-mul-number c = search (needs, c .before .before .before .pre .3 (c .before .before .loop .i))
+mul-number c = search (needs, c .before .before .before .pre .1 .2 (c .before .before .loop .i))
 
 element-copy-out-number : tie.Need-element-copy-out-number Inv-loop μ-loop
-element-copy-out-number c = c .before .before .before .pre .3 (c .before .before .loop .i) (omega arith)
+element-copy-out-number c = c .before .before .before .pre .1 .2 (c .before .before .loop .i) (omega arith)
 
 add-column : tie.Need-add-column Inv-loop μ-loop
 add-column c = search needs
@@ -61,7 +61,7 @@ loop-again : tie.Need-loop-again Inv-loop μ-loop
 loop-again c =
     let l = c .before .before .before in
     let a = l .before .args in
-    let t = front-turn (l .loop .column) (a .column .now) (a .list .now) (a .start) (l .loop .i) (omega arith) (l .before .pre .2) (l .loop .inv .2) in
+    let t = front-turn (l .loop .column) (a .column .now) (a .list .now) (a .start) (l .loop .i) (omega arith) (l .before .pre .1 .1) (l .loop .inv .2) in
     (omega arith, search needs, t .0, t .1 ∙ l .loop .inv .3)
 
 returns : tie.Need-returns Inv-loop μ-loop

@@ -4,8 +4,7 @@ use Prim.Native.Nat.{ℕ, _+_, _-_, _<_, _≤_}
 use lib.ListN.{length, replicate}
 use lib.Seq.{sets}
 use Rattle.store.specs.Layout.{places}
-use Rattle.store.specs.Workers.{numberIn}
-use Rattle.carries.specs.Decisions.{Within}
+use Rattle.store.specs.Workers.{Within, numberIn}
 
 -- The numbers of a column at the places of a list.
 abbrev pub gather : List ℕ → List ℕ → List ℕ
@@ -18,6 +17,14 @@ Under start list = (i : ℕ) → i < length list → numberIn list i ≤ start +
 -- No place of the list lies before its goal.
 abbrev pub Over : ℕ → List ℕ → Type 0
 Over start list = (i : ℕ) → i < length list → start + i ≤ numberIn list i
+
+-- A list whose numbers can go to the places from start on, from the last to the first.
+abbrev pub ToBack : ℕ → List ℕ → Type 0
+ToBack start list = (start + length list ≤ places) × Under start list
+
+-- The same from the first to the last.
+abbrev pub ToFront : ℕ → List ℕ → Type 0
+ToFront start list = (start + length list ≤ places) × Over start list × Within list places
 
 -- Two lists by which a column can be written in place: of a node of `had` copies from the place `from` on, and a target from `start` on.
 pub record Movable (stay target : List ℕ) (from had start : ℕ) : Type 0 where

@@ -1,4 +1,4 @@
--- `carries::writing::gather_back` meets its contract. Assumes nothing.
+-- `moves::gather_back` meets its contract. Assumes nothing.
 use mathlib.Core.Path.{_≡_, refl, ap, _∙_}
 use mathlib.Core.List.{List}
 use Prim.Native.Nat.{ℕ, _+_, _-_, _<_, _≤_}
@@ -8,10 +8,10 @@ use lib.Seq.{sets, take-length}
 use borrow.Author.Needs.{needs}
 use Rattle.store.specs.Layout.{places}
 use Rattle.store.specs.Workers.{numberIn}
-use Rattle.carries.specs.Writings.{gather}
-use Rattle.carries.proofs.Gathering.{back-turn}
-use Rattle.carries.proofs.writing.gather_back.Statement.{statement}
-use Rattle.carries.proofs.writing.gather_back.Tie as tie
+use Rattle.moves.specs.Writings.{gather}
+use Rattle.moves.proofs.Gathering.{back-turn}
+use Rattle.moves.proofs.gather_back.Statement.{statement}
+use Rattle.moves.proofs.gather_back.Tie as tie
 
 abbrev Inv-loop : tie.InvT-loop
 Inv-loop column₀ list start i₀ column i =
@@ -40,7 +40,7 @@ inside : (c : tie.After-shared-slice-known Inv-loop μ-loop) → let l = c .befo
     numberIn (l .before .args .list .now) (l .loop .i - 1) < places
 inside c =
     let l = c .before .before in
-    omega (arith, l .before .pre .2 (l .loop .i - 1) (omega arith))
+    omega (arith, l .before .pre .1 .1 (l .loop .i - 1) (omega arith))
 
 mul-number : tie.Need-mul-number Inv-loop μ-loop
 mul-number c = search (needs, inside c)
@@ -64,7 +64,7 @@ loop-again : tie.Need-loop-again Inv-loop μ-loop
 loop-again c =
     let l = c .before .before .before in
     let a = l .before .args in
-    let t = back-turn (l .loop .column) (a .column .now) (a .list .now) (a .start) (l .loop .i) (omega arith) (l .loop .inv .0) (l .before .pre .2) (l .loop .inv .2) in
+    let t = back-turn (l .loop .column) (a .column .now) (a .list .now) (a .start) (l .loop .i) (omega arith) (l .loop .inv .0) (l .before .pre .1 .1) (l .loop .inv .2) in
     (omega arith, search needs, t .0, t .1 ∙ l .loop .inv .3)
 
 returns : tie.Need-returns Inv-loop μ-loop

@@ -8,9 +8,8 @@ use lib.ListN.{length, set, take, drop, replicate, length-map, drop-of-length-le
 use lib.Seq.{sets, length-sets, drop-cons, take-suc, length-take-le, getD-set-other}
 use Rattle.lists.proofs.Standing.{sets-join}
 use Rattle.lists.proofs.Storing.{sets-below, sets-later, sets-snoc}
-use Rattle.store.specs.Workers.{numberIn}
-use Rattle.carries.specs.Decisions.{Within}
-use Rattle.carries.specs.Writings.{gather, Under, Over, carriedColumn}
+use Rattle.store.specs.Workers.{Within, numberIn}
+use Rattle.moves.specs.Writings.{gather, Under, Over, carriedColumn}
 
 -- The column as it is, as it was, and the places to gather by.
 module _ (now was list : List ℕ) (start : ℕ) where

@@ -1,19 +1,15 @@
-// A column after a carry, written in place by the two lists of places: those that stay in the node, and those that the target gets; and the
-// counts.
+// A column after a carry, written in place by the two lists of places: those that stay in the node, and those that the target gets.
 ghost use mathlib.Core.Path.{_≡_};
-ghost use Prim.Native.Nat.{_+_, _-_, _<_, _≤_};
-ghost use lib.ListN.{length, replicate, set};
+ghost use Prim.Native.Nat.{_-_, _≤_};
+ghost use lib.ListN.{length, replicate};
 ghost use lib.Seq.{sets};
-ghost use Rattle.plan.specs.Sizes.{mostNodes};
 ghost use Rattle.store.specs.Layout.{places};
-ghost use Rattle.carries.specs.Decisions.{Within};
-ghost use Rattle.carries.specs.Writings.{gather, Under, Over, Movable, carriedColumn};
-use crate::settling::Settled;
+ghost use Rattle.moves.specs.Writings.{gather, ToBack, ToFront, Movable, carriedColumn};
 use store::Store;
 
 // The numbers at the places of a list go to the places from start on. No place lies beyond its goal: from the last to the first.
 fn gather_back(column: &mut [u32; Store::PLACES], list: &[usize], start: usize)
-    requires { ⌜ (length (now column) ≡ places) × (start + length (now list) ≤ places) × Under start (now list) ⌝ }
+    requires { ⌜ (length (now column) ≡ places) × ToBack start (now list) ⌝ }
     ensures { λ _. ⌜ now (column .exit) ≡ sets (now (column .entry)) start (gather (now (column .entry)) (now (list .entry))) ⌝ }
 {
     let mut i = list.len();
@@ -27,7 +23,7 @@ fn gather_back(column: &mut [u32; Store::PLACES], list: &[usize], start: usize)
 
 // The same where no place lies before its goal: from the first to the last.
 fn gather_front(column: &mut [u32; Store::PLACES], list: &[usize], start: usize)
-    requires { ⌜ (length (now column) ≡ places) × (start + length (now list) ≤ places) × Over start (now list) × Within (now list) places ⌝ }
+    requires { ⌜ (length (now column) ≡ places) × ToFront start (now list) ⌝ }
     ensures { λ _. ⌜ now (column .exit) ≡ sets (now (column .entry)) start (gather (now (column .entry)) (now (list .entry))) ⌝ }
 {
     let mut i = 0;
@@ -66,15 +62,4 @@ pub fn carry_column(
     gather_back(column, target, start);
     gather_front(column, stay, from);
     clear(column, from + stay.len(), from + had);
-}
-
-// The counts after a carry: the node's, and then the target's.
-pub fn carry_counts(counts: &mut [u32; Store::NODES], s: Settled)
-    requires { ⌜ (s .node < mostNodes) × (s .target < mostNodes) × (length (now counts) ≡ mostNodes) ⌝ }
-    ensures { λ _. ⌜ now (counts .exit) ≡ set (set (now (counts .entry)) (s .node) (s .remains)) (s .target) (s .holds) ⌝ }
-{
-    let n = s.node;
-    let t = s.target;
-    counts[n] = s.remains;
-    counts[t] = s.holds;
 }

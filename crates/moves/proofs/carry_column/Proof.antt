@@ -1,10 +1,10 @@
--- `carries::writing::carry_column` meets its contract. Assumes nothing.
+-- `moves::carry_column` meets its contract. Assumes nothing.
 use native.Mathlib.Omega.{arith}
 use borrow.Author.Needs.{needs}
 use Rattle.store.specs.Layout.{places}
-use Rattle.carries.proofs.Gathering.{long-after, column-carried}
-use Rattle.carries.proofs.writing.carry_column.Statement.{statement}
-use Rattle.carries.proofs.writing.carry_column.Tie as tie
+use Rattle.moves.proofs.Gathering.{long-after, column-carried}
+use Rattle.moves.proofs.carry_column.Statement.{statement}
+use Rattle.moves.proofs.carry_column.Tie as tie
 
 gather-back-requires : tie.Need-gather-back-requires
 gather-back-requires c κs = search needs
@@ -15,9 +15,7 @@ gather-front-requires c κs =
     let s = c .before .before .before .before .before in
     let v = s .pre .0 in (
       long-after (s .args .column .now) (g .last .0) (s .args .target .now) (s .args .start) places (g .ensures) (s .pre .1),
-      omega (arith, v .stays, v .apart, v .room),
-      v .over,
-      λ i h. omega (arith, v .low i h, v .room),
+      (omega (arith, v .stays, v .apart, v .room), v .over, λ i h. omega (arith, v .low i h, v .room)),
     )
 
 add-clear : tie.Need-add-clear
