@@ -16,10 +16,11 @@ use Rattle.plan.specs.PlanRules.{PlanRules}
 use Rattle.plan.specs.PlanTable.{planNumbered, plans}
 use Rattle.plan.proofs.TableLaws.{table-rules}
 use Rattle.store.specs.declared.Copy.{Copy}
+use Rattle.store.specs.declared.Slot.{Slot}
 use Rattle.store.specs.declared.Store.{Store}
 use Rattle.store.specs.Copies.{noCopy, keyOf, find, foundOf}
 use Rattle.store.specs.State.{State, nodeAt, copyAt, slotCount}
-use Rattle.store.specs.Layout.{planOf, width, places, copyIn, nodeIn, copyOf, countOf, nodeOf, stateOf, placeOf, column, storeOf, Shape}
+use Rattle.store.specs.Layout.{planOf, width, places, copyIn, nodeIn, copyOf, countOf, nodeOf, stateIn, stateOf, placeOf, column, storeOf, Shape}
 use Rattle.store.specs.StateRules.{StateRules}
 use Rattle.store.specs.StoreRules.{StoreRules}
 
@@ -43,6 +44,11 @@ module _ (counts keys kinds values stamps : List ℕ) (n : ℕ) where
       let e : width * n + getD counts n 0 - width * n ≡ getD counts n 0 = omega arith in
       rw e
 
+  -- It is a node of the state that the columns hold.
+  pub state-node-in : (nodes clock : ℕ) (slots : List Slot) → n < nodes
+      → nodeAt (stateIn nodes clock counts keys kinds values stamps slots) n ≡ nodeIn counts keys kinds values stamps n
+  state-node-in nodes clock slots h = getD-run-0 (nodeIn counts keys kinds values stamps) nodes n [] h
+
 -- The nodes of a store, and of its state.
 module _ (z : Store) where
   pub length-node : (n : ℕ) → length (nodeOf z n) ≡ countOf z n
@@ -57,7 +63,7 @@ module _ (z : Store) where
 
   pub state-node : (n : ℕ) → n < size (planOf z) → nodeAt (stateOf z) n ≡ nodeOf z n
   unfolding stateOf
-  state-node n h = getD-run-0 (nodeOf z) (size (planOf z)) n [] h
+  state-node n h = state-node-in (z .counts) (z .keys) (z .kinds) (z .values) (z .stamps) n (size (planOf z)) (z .clock) (z .slots) h
 
   pub state-past : (n : ℕ) → size (planOf z) ≤ n → nodeAt (stateOf z) n ≡ []
   state-past n h = List·getD-eq-default (stateOf z .nodes) [] (omega (arith, length-nodes))
