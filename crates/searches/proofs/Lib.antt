@@ -1,5 +1,1 @@
-pub mod Descending
-pub mod Idling
-pub mod Slotting
-pub mod Ending
 pub mod Moving

@@ -1,47 +1,64 @@
 -- Start, step and cancel on a good store: what they ask for is there, and their answer and slots are the call's outcome. Assumes nothing.
-use mathlib.Core.Path.{_≡_, refl, sym, ap, _∙_}
-use mathlib.Core.Bool.{true, false}
+use mathlib.Core.Path.{_≡_, refl, sym, ap, subst, _∙_}
+use mathlib.Core.Bool.{Bool, true, false}
 use mathlib.Core.Logic.{_≢_}
+use mathlib.Core.List.{List}
 use Prim.Native.Nat.{ℕ, _<_}
 use native.Mathlib.Omega.{arith}
 use lib.ListN.{getD}
 use Rattle.plan.specs.Plan.{Plan}
+use Rattle.plan.specs.declared.Edge.{Edge}
+use Rattle.plan_table.specs.PlanTable.{planNumbered}
+use Rattle.plan.specs.PlanArrays.{Grid, countsRow, gridOf}
 use Rattle.plan.proofs.PathLaws.{path-within}
 use Rattle.store.specs.declared.Store.{Store}
 use Rattle.store.specs.Answers.{BADSTORE}
 use Rattle.store.specs.State.{State, slotCount, idle}
 use Rattle.store.specs.StateRules.{OnPath}
-use Rattle.store.specs.Layout.{planOf, planOf, stateOf, storeOf}
+use Rattle.store.specs.Layout.{planOf, stateOf, storeOf}
 use Rattle.store.specs.StoreRules.{goodStore}
 use Rattle.store.specs.Calls.{Effect}
-use Rattle.store.proofs.Lifting.{plan-good, state-good, good-back, on-bad, on-way}
-use Rattle.steps.proofs.LineSteps.{Still}
+use Rattle.store.proofs.Lifting.{plan-good, state-good, good-ordered, good-back, on-bad, on-way}
+use Rattle.steps.specs.Searches.{stepStep}
+use Rattle.steps.proofs.LineSteps.{Still, step-still}
 use Rattle.steps.proofs.OnPaths.{on-path-in-plan}
-use Rattle.searches.specs.declared.slots.Moved.{Moved}
-use Rattle.searches.specs.declared.slots.Turn.{Turn}
-use Rattle.searches.specs.Workers.{Stands, Steppable, movedBy, turned, stays, withSlots, Moves}
-use Rattle.searches.proofs.Ending.{good-lookable}
-use Rattle.searches.proofs.Slotting.{turn-stays}
+use Rattle.looks.proofs.Rows.{good-rows}
+use Rattle.slots.specs.declared.Moved.{Moved}
+use Rattle.slots.specs.declared.Change.{Change}
+use Rattle.slots.specs.Workers.{Steppable, SearchesIn, Decides, StepsBy, movedBy, changedBy, stays}
+use Rattle.slots.proofs.Slotting.{stays-at, change-kept}
+use Rattle.searches.specs.Workers.{withSlots, Moves}
 
--- What a call decides, of any store: done, it is what the call does.
-abbrev pub Turns : (Plan → State → Effect) → Store → Turn → Type 0
-Turns f z r = (r .at < slotCount) × Moves f z (turned (z .slots) r)
+-- A change, done, is what the call does, of any store.
+pub record Changes (f : Plan → State → Effect) (z : Store) (r : Change) : Type 0 where
+  pub at-slot : r .at < slotCount
+  pub moves : Moves f z (changedBy (z .slots) r)
 
 module _ (z : Store) (good : goodStore z ≡ true) where
-  -- A running search stands on its key's path, so at a node of the plan, after fewer visits than a plan may have nodes.
-  good-stands : (i : ℕ) → i < slotCount → getD (z .slots) i idle .running ≢ 0 → Stands (z .plan) (getD (z .slots) i idle)
+  -- A running search stands on its key's path, so at a node of the plan,
+  on-its-path : (i : ℕ) → i < slotCount → let q = getD (z .slots) i idle in
+      q .running ≢ 0 → OnPath (planOf z) (q .key) (q .node) (q .visits)
   unfolding stateOf
-  good-stands i h runs =
-      let q = getD (z .slots) i idle in
-      let rules = plan-good z good in
-      let o : OnPath (planOf z) (q .key) (q .node) (q .visits) = state-good z good .running-searches-on-their-paths i h runs .1 in
-      record {
-        node = on-path-in-plan (planOf z) rules (q .key) (q .node) (q .visits) o;
-        visits = omega (arith, o .inside, path-within (planOf z) rules (q .key), rules .nodes-within);
-      }
+  on-its-path i h runs = state-good z good .running-searches-on-their-paths i h runs .1
 
-  pub good-steppable : Steppable (z .plan) (z .counts) (z .keys) (z .slots)
-  good-steppable = record { lookable = good-lookable z good; stands = good-stands }
+  pub good-searches : SearchesIn (planOf z) (z .slots)
+  good-searches i h runs =
+      let q = getD (z .slots) i idle in
+      on-path-in-plan (planOf z) (plan-good z good) (q .key) (q .node) (q .visits) (on-its-path i h runs)
+
+  -- after fewer visits than a plan may have nodes.
+  pub good-steppable : Steppable (z .counts) (z .keys) (z .slots)
+  good-steppable =
+      record {
+        ordered = good-ordered z good;
+        stand = λ i h runs.
+            let q = getD (z .slots) i idle in
+            let rules = plan-good z good in
+            record {
+              node = omega (arith, good-searches i h runs, rules .nodes-within);
+              visits = omega (arith, on-its-path i h runs .inside, path-within (planOf z) rules (q .key), rules .nodes-within);
+            };
+      }
 
   -- The store of a state that differs from the store's own in its slots alone.
   still-store : (t : State) → Still (stateOf z) t → storeOf (z .plan) t ≡ withSlots (t .slots) z
@@ -58,16 +75,44 @@ module _ (z : Store) (good : goodStore z ≡ true) where
       ap (λ (n : Moved). record { answer = n .answer; store = withSlots (n .slots) z }) e
       ∙ on-way f z good (w .answer) (w .after) (withSlots (w .after .slots) z) refl (sym (still-store (w .after) still))
 
-  pub turn-out : (f : Plan → State → Effect) → Still (stateOf z) (f (planOf z) (stateOf z) .after)
-      → (t : Turn) → t .at < slotCount → turned (z .slots) t ≡ movedBy (f (planOf z) (stateOf z)) → Turns f z t
-  turn-out f still t h e = (h, moved-out f still (turned (z .slots) t) e)
+-- What is decided is the call's, of a store that the check says is good or bad.
+module _ (z : Store) (checked : Bool) (check : checked ≡ goodStore z) (r : Change) where
+  pub decided-good : checked ≡ true → (f : Plan → State → Effect) → Still (stateOf z) (f (planOf z) (stateOf z) .after)
+      → {t : Change} → r ≡ t → Decides f (z .slots) t → Changes f z r
+  unfolding stateOf
+  decided-good good f still {t} e d =
+      subst (Changes f z) (sym e)
+      (record {
+        at-slot = d .at-slot;
+        moves = moved-out z (sym check ∙ good) f still (changedBy (z .slots) t) (d .does (planOf z) (stateOf z .clock) (stateOf z .nodes));
+      })
 
--- And so do BADSTORE and the slots as they were, on a bad store.
-pub turn-bad : (z : Store) → goodStore z ≡ false → (f : Plan → State → Effect) (t : Turn) → t ≡ stays BADSTORE (z .slots) → Turns f z t
-turn-bad z bad f t e =
-    let w = turn-stays BADSTORE (z .slots) e in
-    (w .0, ap (λ (n : Moved). record { answer = n .answer; store = withSlots (n .slots) z }) (w .1) ∙ sym (on-bad f z bad))
+  -- A step goes by the rows taken by the plan's number.
+  pub stepped-good : checked ≡ true → (i : ℕ) {edges : List ℕ} {lows highs targets : Grid} → edges ≡ countsRow (planNumbered (z .plan))
+      → lows ≡ gridOf (λ (w : Edge). w .lowest) (planNumbered (z .plan)) → highs ≡ gridOf (λ (w : Edge). w .highest) (planNumbered (z .plan))
+      → targets ≡ gridOf (λ (w : Edge). w .target) (planNumbered (z .plan)) → {t : Change} → r ≡ t
+      → StepsBy edges lows highs targets (z .counts) (z .keys) (z .kinds) (z .values) (z .stamps) (z .slots) i t → Changes (stepStep i) z r
+  unfolding stateOf
+  stepped-good good i {edges} {lows} {highs} {targets} a l h b {t} e d =
+      let is-good : goodStore z ≡ true = sym check ∙ good in
+      let rows = good-rows z is-good edges lows highs targets a l h b in
+      subst (Changes (stepStep i) z) (sym e)
+      (record {
+        at-slot = d .at-slot;
+        moves = moved-out z is-good (stepStep i) (step-still i (planOf z) (stateOf z)) (changedBy (z .slots) t)
+            (d .does (planOf z) (z .clock) rows (good-searches z is-good));
+      })
+
+  -- A bad store is answered BADSTORE, and the slots as they were.
+  pub refused-bad : checked ≡ false → (f : Plan → State → Effect) {t : Change} → r ≡ t → t ≡ stays BADSTORE (z .slots) → Changes f z r
+  refused-bad bad f {t} g e =
+      subst (Changes f z) (sym g)
+      (record {
+        at-slot = stays-at BADSTORE (z .slots) e;
+        moves = ap (λ (n : Moved). record { answer = n .answer; store = withSlots (n .slots) z }) (change-kept BADSTORE (z .slots) e)
+            ∙ sym (on-bad f z (sym check ∙ bad));
+      })
 
 -- What was decided, done.
-pub turn-done : (z : Store) (f : Plan → State → Effect) (t : Turn) → Turns f z t → (m : Moved) → m ≡ turned (z .slots) t → Moves f z m
-turn-done z f t w m e = ap (λ (n : Moved). record { answer = n .answer; store = withSlots (n .slots) z }) e ∙ w .1
+pub change-done : (z : Store) (f : Plan → State → Effect) (r : Change) → Changes f z r → (m : Moved) → m ≡ changedBy (z .slots) r → Moves f z m
+change-done z f r w m e = ap (λ (n : Moved). record { answer = n .answer; store = withSlots (n .slots) z }) e ∙ w .moves

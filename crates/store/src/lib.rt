@@ -64,6 +64,13 @@ pub enum Found {
     Nothing,
 }
 
+// A slot's running mark.
+impl Slot {
+    pub const IDLE: u32 = 0;
+
+    pub const RUNNING: u32 = 1;
+}
+
 // The kinds of copies, the largest of them, and which have a value.
 impl Copy {
     pub const WITHDRAWN: u32 = 0;
