@@ -29,7 +29,7 @@ use Rattle.store.specs.Layout.{planOf, nodeIn, stateIn, stateOf}
 use Rattle.store.specs.StoreRules.{goodStore}
 use Rattle.store.specs.Calls.{ofStore}
 use Rattle.store.proofs.Halving.{found-none, found-some}
-use Rattle.store.proofs.Laying.{state-node-in}
+use Rattle.store.proofs.Laying.{parts-node}
 use Rattle.store.proofs.Lifting.{of-good, of-bad}
 use Rattle.steps.specs.Searches.{ended, visitsOn, lookAnswer}
 
@@ -41,7 +41,7 @@ held-answer x visits = rw add-one
 pub line-looked : (nodes clock : ℕ) (counts keys kinds values stamps : List ℕ) (slots : List Slot) (k n : ℕ) → n < nodes
     → line (stateIn nodes clock counts keys kinds values stamps slots) k n ≡ find keyOf (nodeIn counts keys kinds values stamps n) k
 line-looked nodes clock counts keys kinds values stamps slots k n h =
-    ap (λ (xs : List Copy). find keyOf xs k) (state-node-in counts keys kinds values stamps n nodes clock slots h)
+    ap (λ (xs : List Copy). find keyOf xs k) (parts-node nodes clock counts keys kinds values stamps slots n h)
 
 -- What a look answers that goes on from node n, where so many nodes were visited before.
 unfoldable pub answerFrom : Plan → State → ℕ → ℕ → ℕ → Answer

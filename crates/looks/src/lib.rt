@@ -1,5 +1,6 @@
 // Look: a whole search at once, down one line's path. Document 01, "What each step does".
 ghost use mathlib.Core.Path.{_≡_};
+ghost use Prim.Native.Nat.{ℕ};
 ghost use mathlib.Core.Option.{none, some};
 ghost use Rattle.store.specs.Workers.{LentSized, LentLookable, lentStore};
 ghost use Rattle.steps.specs.Promises.{Looks};
@@ -47,7 +48,7 @@ fn look_down<'a>(
     stamps: &'a [u32; Store::PLACES],
     key: u32,
 ) -> Answer
-    requires { ⌜ LentLookable edges lows highs targets counts keys ⌝ }
+    requires { ⌜ (nodes : ℕ) × LentLookable nodes edges lows highs targets counts keys ⌝ }
     ensures { λ r. ⌜ LooksDown edges lows highs targets counts keys kinds values stamps key r ⌝ }
 {
     let mut node = 0;

@@ -10,7 +10,7 @@ use Rattle.lists.specs.Runs.{run}
 use denote.Ref.{RefT}
 use denote.Triple.Both.{Both}
 use Rattle.plan.specs.Sizes.{mostNodes}
-use Rattle.plan.specs.Plan.{Plan, size}
+use Rattle.plan.specs.Plan.{Plan}
 use Rattle.plan.specs.PlanArrays.{Grid, RowsOf}
 use Rattle.store.specs.declared.Found.{Found}
 use Rattle.store.specs.declared.Slot.{Slot}
@@ -113,15 +113,15 @@ abbrev pub LentSized : RefT (List ℕ) → RefT (List ℕ) → RefT (List ℕ) �
 LentSized counts keys kinds values stamps = Sized (counts .now) (keys .now) (kinds .now) (values .now) (stamps .now)
 
 -- What a look down a path asks for: the rows of a plan, and nodes in which a look can go by halves. A good store has both.
-pub record Lookable (edges : List ℕ) (lows highs targets : Grid) (counts keys : List ℕ) : Type 0 where
+pub record Lookable (nodes : ℕ) (edges : List ℕ) (lows highs targets : Grid) (counts keys : List ℕ) : Type 0 where
   pub plan : Plan
-  pub rows : RowsOf plan (size plan) edges lows highs targets
+  pub rows : RowsOf plan nodes edges lows highs targets
   pub ordered : AllOrdered counts keys
 
 -- The same over references.
-abbrev pub LentLookable : RefT (List ℕ) → RefT Grid → RefT Grid → RefT Grid → RefT (List ℕ) → RefT (List ℕ) → Type 0
-LentLookable edges lows highs targets counts keys =
-    Lookable (edges .now) (lows .now) (highs .now) (targets .now) (counts .now) (keys .now)
+abbrev pub LentLookable : ℕ → RefT (List ℕ) → RefT Grid → RefT Grid → RefT Grid → RefT (List ℕ) → RefT (List ℕ) → Type 0
+LentLookable nodes edges lows highs targets counts keys =
+    Lookable nodes (edges .now) (lows .now) (highs .now) (targets .now) (counts .now) (keys .now)
 
 -- A list with x put in at a place; those from there up to end stand one place further up, over the one that stood at end.
 unfoldable pub opened : {A : Type 0} → List A → ℕ → ℕ → A → List A

@@ -5,6 +5,7 @@ use mathlib.Core.List.{[]}
 use Prim.Native.Nat.{_-_, _<_, _≤_}
 use native.Mathlib.Omega.{arith}
 use Rattle.plan.specs.Sizes.{mostNodes}
+use Rattle.plan.proofs.RowsLent.{own-count}
 use Rattle.looks.proofs.Descending.{Looking, looking-starts, looking-held, looking-never, looking-on, looking-down}
 use borrow.Author.Needs.{needs}
 use Rattle.looks.proofs.look_down.Statement.{statement}
@@ -20,8 +21,8 @@ abbrev μ-loop : tie.MeasureT-loop
 -- A look stands at a node that there are places for.
 node-within : (l : tie.At-loop Inv-loop μ-loop) → l .loop .node < mostNodes
 node-within l =
-    let w = l .before .pre in
-    omega (arith, l .loop .inv .1 .by (w .plan) (w .rows) .0, w .rows .rules .nodes-within)
+    let w = l .before .pre .1 in
+    omega (arith, l .loop .inv .1 .by (w .plan) (own-count (w .rows)) .0, w .rows .rules .nodes-within)
 
 loop-holds : tie.Need-loop-holds Inv-loop μ-loop
 loop-holds c =(omega arith, looking-starts)
@@ -30,7 +31,7 @@ add-visits : tie.Need-add-visits Inv-loop μ-loop
 add-visits c = omega (arith, node-within c)
 
 look-at-requires : tie.Need-look-at-requires Inv-loop μ-loop
-look-at-requires c κs = (node-within c, c .before .pre .ordered (c .loop .node) (node-within c))
+look-at-requires c κs = (node-within c, c .before .pre .1 .ordered (c .loop .node) (node-within c))
 
 enum-known-copy : tie.Need-enum-known-copy Inv-loop μ-loop
 enum-known-copy c = search needs
@@ -58,18 +59,18 @@ returns c =
 
 loop-less : tie.Need-loop-less Inv-loop μ-loop
 loop-less c =
-    let w = (c .before .before .before .before .before .before .before .before) .pre in
+    let w = (c .before .before .before .before .before .before .before .before) .pre .1 in
     let d = looking-down ((c .before .before .before .before .before .before .before .loop) .inv .1)
         ((c .before .before .before .before .before .before .look-at) .result) ((c .before .before .before .before .before .before .look-at) .ensures) ((c .before .before .before .before .enum-told) .given .1)
-        ((c .before .before .before .next-in) .result) ((c .before .before .before .next-in) .ensures) ((c .before .to) .given .0 .0) ((c .before .to) .given .1) (w .plan) (w .rows) in
+        ((c .before .before .before .next-in) .result) ((c .before .before .before .next-in) .ensures) ((c .before .to) .given .0 .0) ((c .before .to) .given .1) (w .plan) (own-count (w .rows)) in
     omega (arith, node-within (c .before .before .before .before .before .before .before))
 
 loop-again : tie.Need-loop-again Inv-loop μ-loop
 loop-again c =
-    let w = (c .before .before .before .before .before .before .before .before) .pre in
+    let w = (c .before .before .before .before .before .before .before .before) .pre .1 in
     let d = looking-down ((c .before .before .before .before .before .before .before .loop) .inv .1)
         ((c .before .before .before .before .before .before .look-at) .result) ((c .before .before .before .before .before .before .look-at) .ensures) ((c .before .before .before .before .enum-told) .given .1)
-        ((c .before .before .before .next-in) .result) ((c .before .before .before .next-in) .ensures) ((c .before .to) .given .0 .0) ((c .before .to) .given .1) (w .plan) (w .rows) in (
+        ((c .before .before .before .next-in) .result) ((c .before .before .before .next-in) .ensures) ((c .before .to) .given .0 .0) ((c .before .to) .given .1) (w .plan) (own-count (w .rows)) in (
       omega arith,
       looking-on ((c .before .before .before .before .before .before .before .loop) .inv .1)
           ((c .before .before .before .before .before .before .look-at) .result) ((c .before .before .before .before .before .before .look-at) .ensures) ((c .before .before .before .before .enum-told) .given .1)

@@ -8,7 +8,7 @@ use Rattle.store.specs.declared.Store.{Store}
 use Rattle.store.specs.StoreRules.{goodStore}
 use Rattle.store.specs.Layout.{planOf}
 use Rattle.store.specs.Workers.{ofParts}
-use Rattle.store.proofs.Lifting.{good-ordered}
+use Rattle.store.proofs.GoodNodes.{good-lookable}
 use Rattle.looks.proofs.Rows.{good-rows}
 use Rattle.looks.proofs.Descending.{look-lent, look-refused}
 use borrow.Author.Needs.{needs}
@@ -61,11 +61,8 @@ targets-of-requires c κs = search needs
 look-down-requires : tie.Need-look-down-requires
 look-down-requires c κs =
     let z = asked (c .before .before .before .before .before .before .before .before .before .before) in
-    record {
-      plan = planOf z;
-      rows = rows-here (c .before .before .before .before);
-      ordered = good-ordered z (good-here (c .before .before .before .before .before .before .before .before));
-    }
+    (size (planOf z),
+    good-lookable z (good-here (c .before .before .before .before .before .before .before .before)) (rows-here (c .before .before .before .before)))
 
 returns-2 : tie.Need-returns-2
 returns-2 c =
