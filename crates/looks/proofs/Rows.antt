@@ -22,13 +22,13 @@ module _ (z : Store) (good : goodStore z ≡ true) (edges : List ℕ) (lows high
     (h : highs ≡ gridOf (λ (w : Edge). w .highest) (planNumbered (z .plan)))
     (t : targets ≡ gridOf (λ (w : Edge). w .target) (planNumbered (z .plan)))
   where
-  pub good-rows : RowsOf (planOf z) (size (planOf z)) edges lows highs targets
-  good-rows =
-      record {
-        rules = plan-good z good;
-        nodes-are = refl;
-        edges-are = e ∙ ap countsRow (which z);
-        lows-are = l ∙ ap (gridOf (λ (w : Edge). w .lowest)) (which z);
-        highs-are = h ∙ ap (gridOf (λ (w : Edge). w .highest)) (which z);
-        targets-are = t ∙ ap (gridOf (λ (w : Edge). w .target)) (which z);
-      }
+    pub good-rows : RowsOf (planOf z) (size (planOf z)) edges lows highs targets
+    good-rows =
+        record {
+          rules = plan-good z good;
+          nodes-are = refl;
+          edges-are = e ∙ ap countsRow (which z);
+          lows-are = l ∙ ap (gridOf (λ (w : Edge). w .lowest)) (which z);
+          highs-are = h ∙ ap (gridOf (λ (w : Edge). w .highest)) (which z);
+          targets-are = t ∙ ap (gridOf (λ (w : Edge). w .target)) (which z);
+        }

@@ -90,7 +90,16 @@ pub fn look_lent<'a>(
     let highs = plan::highest_of(plan);
     let targets = plan::targets_of(plan);
     look_down(
-        &edges, &lows, &highs, &targets, counts, keys, kinds, values, stamps, key,
+        &edges,
+        &lows,
+        &highs,
+        &targets,
+        counts,
+        keys,
+        kinds,
+        values,
+        stamps,
+        key,
     )
 }
 
