@@ -98,44 +98,44 @@ module _ {edges : List ℕ} {lows highs targets : Grid} {counts keys kinds value
   module _ {n visits : ℕ} (w : Looking edges lows highs targets counts keys kinds values stamps k n visits)
       (found : Found) (f : found ≡ foundOf (find keyOf (nodeIn counts keys kinds values stamps n) k))
     where
-    -- A copy was found,
-    pub looking-held : (x : Copy) → found ≡ Held x → (a : Answer) → a ≡ ended (some x) (visits + 1)
-        → (p : Plan) → RowsOf p (size p) edges lows highs targets → a ≡ lookAnswer k p (lookedIn counts keys kinds values stamps p)
-    looking-held x e a q p rows =
-        let v = w .by p rows in
-        let g = line-looked (size p) 0 counts keys kinds values stamps [] k n (v .0) ∙ found-some (sym f ∙ e) in
-        q ∙ sym (v .1 ∙ answer-held p (rows .rules) (lookedIn counts keys kinds values stamps p) k n visits (v .0) x g)
-
-    module _ (nothing : found ≡ Nothing) (hop : Hop) (o : hop ≡ firstEdge (edgesIn edges lows highs targets n) k) where
-      none-here : (p : Plan) → RowsOf p (size p) edges lows highs targets → line (lookedIn counts keys kinds values stamps p) k n ≡ none
-      none-here p rows = line-looked (size p) 0 counts keys kinds values stamps [] k n (w .by p rows .0) ∙ found-none (sym f ∙ nothing)
-
-      hop-here : (p : Plan) → RowsOf p (size p) edges lows highs targets → (to : Hop) → hop ≡ to → next p n k ≡ to
-      hop-here p rows to e = sym (next-here rows n k hop o) ∙ e
-
-      -- or nothing, and the path ends,
-      pub looking-never : hop ≡ Ends → (a : Answer) → a ≡ ended none (visits + 1)
+      -- A copy was found,
+      pub looking-held : (x : Copy) → found ≡ Held x → (a : Answer) → a ≡ ended (some x) (visits + 1)
           → (p : Plan) → RowsOf p (size p) edges lows highs targets → a ≡ lookAnswer k p (lookedIn counts keys kinds values stamps p)
-      looking-never e a q p rows =
+      looking-held x e a q p rows =
           let v = w .by p rows in
-          let s = lookedIn counts keys kinds values stamps p in
-          q ∙ sym (v .1 ∙ answer-never p (rows .rules) s k n visits (v .0) (none-here p rows) (hop-here p rows Ends e))
+          let g = line-looked (size p) 0 counts keys kinds values stamps [] k n (v .0) ∙ found-some (sym f ∙ e) in
+          q ∙ sym (v .1 ∙ answer-held p (rows .rules) (lookedIn counts keys kinds values stamps p) k n visits (v .0) x g)
 
-      -- or it goes on,
-      pub looking-on : (t : ℕ) → hop ≡ To t → Looking edges lows highs targets counts keys kinds values stamps k t (visits + 1)
-      looking-on t e = record { by = here }
-        where
-          here : (p : Plan) → RowsOf p (size p) edges lows highs targets
-              → let s = lookedIn counts keys kinds values stamps p in (t < size p) × (lookAnswer k p s ≡ answerFrom p s k t (visits + 1))
-          here p rows =
-              let v = w .by p rows in
-              let g = hop-here p rows (To t) e in
-              let s = lookedIn counts keys kinds values stamps p in
-              (next-down p (rows .rules) n k t g .1, v .1 ∙ answer-on p (rows .rules) s k n visits (v .0) t (none-here p rows) g)
+      module _ (nothing : found ≡ Nothing) (hop : Hop) (o : hop ≡ firstEdge (edgesIn edges lows highs targets n) k) where
+        none-here : (p : Plan) → RowsOf p (size p) edges lows highs targets → line (lookedIn counts keys kinds values stamps p) k n ≡ none
+        none-here p rows = line-looked (size p) 0 counts keys kinds values stamps [] k n (w .by p rows .0) ∙ found-none (sym f ∙ nothing)
 
-      -- further down.
-      pub looking-down : (t : ℕ) → hop ≡ To t → (p : Plan) → RowsOf p (size p) edges lows highs targets → n < t
-      looking-down t e p rows = next-down p (rows .rules) n k t (hop-here p rows (To t) e) .0
+        hop-here : (p : Plan) → RowsOf p (size p) edges lows highs targets → (to : Hop) → hop ≡ to → next p n k ≡ to
+        hop-here p rows to e = sym (next-here rows n k hop o) ∙ e
+
+        -- or nothing, and the path ends,
+        pub looking-never : hop ≡ Ends → (a : Answer) → a ≡ ended none (visits + 1)
+            → (p : Plan) → RowsOf p (size p) edges lows highs targets → a ≡ lookAnswer k p (lookedIn counts keys kinds values stamps p)
+        looking-never e a q p rows =
+            let v = w .by p rows in
+            let s = lookedIn counts keys kinds values stamps p in
+            q ∙ sym (v .1 ∙ answer-never p (rows .rules) s k n visits (v .0) (none-here p rows) (hop-here p rows Ends e))
+
+        -- or it goes on,
+        pub looking-on : (t : ℕ) → hop ≡ To t → Looking edges lows highs targets counts keys kinds values stamps k t (visits + 1)
+        looking-on t e = record { by = here }
+          where
+            here : (p : Plan) → RowsOf p (size p) edges lows highs targets
+                → let s = lookedIn counts keys kinds values stamps p in (t < size p) × (lookAnswer k p s ≡ answerFrom p s k t (visits + 1))
+            here p rows =
+                let v = w .by p rows in
+                let g = hop-here p rows (To t) e in
+                let s = lookedIn counts keys kinds values stamps p in
+                (next-down p (rows .rules) n k t g .1, v .1 ∙ answer-on p (rows .rules) s k n visits (v .0) t (none-here p rows) g)
+
+        -- further down.
+        pub looking-down : (t : ℕ) → hop ≡ To t → (p : Plan) → RowsOf p (size p) edges lows highs targets → n < t
+        looking-down t e p rows = next-down p (rows .rules) n k t (hop-here p rows (To t) e) .0
 
 -- A look reads neither clock nor slots: its answer by the columns lent is the store's.
 pub look-lent : (z : Store) → goodStore z ≡ true → (k : ℕ) (a : Answer)

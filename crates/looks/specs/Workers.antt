@@ -2,17 +2,11 @@
 use mathlib.Core.Path.{_≡_}
 use mathlib.Core.List.{List}
 use Prim.Native.Nat.{ℕ}
-use denote.Ref.{RefT}
-use denote.Triple.Both.{Both}
 use Rattle.plan.specs.Plan.{Plan, size}
-use Rattle.plan.specs.PlanArrays.{Grid, LentRowsOf}
+use Rattle.plan.specs.PlanArrays.{Grid, Lent, LentRowsOf}
 use Rattle.store.specs.declared.Answer.{Answer}
 use Rattle.store.specs.Workers.{lentState}
 use Rattle.steps.specs.Searches.{lookAnswer}
-
--- What is lent to be read: as it is at entry, and at exit.
-abbrev pub Lent : Type 0 → Type 0
-Lent A = Both (RefT A) (RefT A)
 
 -- The answer of a look, by every plan that has these rows.
 abbrev pub LooksDown : Lent (List ℕ) → Lent Grid → Lent Grid → Lent Grid

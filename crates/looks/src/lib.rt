@@ -48,7 +48,7 @@ fn look_down<'a>(
     stamps: &'a [u32; Store::PLACES],
     key: u32,
 ) -> Answer
-    requires { ⌜ (nodes : ℕ) × LentLookable nodes edges lows highs targets counts keys ⌝ }
+    requires { ⌜ ((nodes : ℕ) × LentLookable nodes edges lows highs targets counts keys) ⌝ }
     ensures { λ r. ⌜ LooksDown edges lows highs targets counts keys kinds values stamps key r ⌝ }
 {
     let mut node = 0;
@@ -91,7 +91,16 @@ pub fn look_lent<'a>(
     let highs = plan_table::highest_of(plan);
     let targets = plan_table::targets_of(plan);
     look_down(
-        &edges, &lows, &highs, &targets, counts, keys, kinds, values, stamps, key,
+        &edges,
+        &lows,
+        &highs,
+        &targets,
+        counts,
+        keys,
+        kinds,
+        values,
+        stamps,
+        key,
     )
 }
 

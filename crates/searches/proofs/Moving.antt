@@ -25,7 +25,7 @@ use Rattle.steps.proofs.OnPaths.{on-path-in-plan}
 use Rattle.looks.proofs.Rows.{good-rows}
 use Rattle.slots.specs.declared.Moved.{Moved}
 use Rattle.slots.specs.declared.Change.{Change}
-use Rattle.slots.specs.Workers.{Steppable, SearchesIn, Decides, StepsBy, movedBy, changedBy, stays}
+use Rattle.slots.specs.Workers.{Steppable, SearchesIn, ChangesBy, StepsBy, movedBy, changedBy, stays}
 use Rattle.slots.proofs.Slotting.{stays-at, change-kept}
 use Rattle.searches.specs.Workers.{withSlots, Moves}
 
@@ -78,7 +78,7 @@ module _ (z : Store) (good : goodStore z ≡ true) where
 -- What is decided is the call's, of a store that the check says is good or bad.
 module _ (z : Store) (checked : Bool) (check : checked ≡ goodStore z) (r : Change) where
   pub decided-good : checked ≡ true → (f : Plan → State → Effect) → Still (stateOf z) (f (planOf z) (stateOf z) .after)
-      → {t : Change} → r ≡ t → Decides f (z .slots) t → Changes f z r
+      → {t : Change} → r ≡ t → ChangesBy f (z .slots) t → Changes f z r
   unfolding stateOf
   decided-good good f still {t} e d =
       subst (Changes f z) (sym e)

@@ -3,8 +3,7 @@
 // that the slots, and the store of a call by value, are moved into the outcome once.
 ghost use Rattle.store.specs.Workers.{LentSized, lentStore};
 ghost use Rattle.steps.specs.Promises.{Starts, Steps, Cancels};
-ghost use Rattle.steps.specs.Searches.{startStep, stepStep, cancelStep};
-ghost use Rattle.searches.specs.Workers.{Moves};
+ghost use Rattle.searches.specs.Workers.{StartMoves, StepMoves, CancelMoves};
 use slots::Moved;
 use store::Answer;
 use store::Outcome;
@@ -24,7 +23,7 @@ pub fn start_lent<'a>(
     key: u32,
 ) -> Moved
     requires { ⌜ LentSized counts keys kinds values stamps ⌝ }
-    ensures { λ r. ⌜ Moves (startStep key) (lentStore plan clock (counts .entry) (keys .entry) (kinds .entry) (values .entry) (stamps .entry) slots) r ⌝ }
+    ensures { λ r. ⌜ StartMoves (lentStore plan clock (counts .entry) (keys .entry) (kinds .entry) (values .entry) (stamps .entry) slots) key r ⌝ }
 {
     let change = if rules::good(plan, clock, counts, keys, kinds, values, stamps, slots) {
         slots::started(slots, key)
@@ -47,7 +46,7 @@ pub fn step_lent<'a>(
     slot: u32,
 ) -> Moved
     requires { ⌜ LentSized counts keys kinds values stamps ⌝ }
-    ensures { λ r. ⌜ Moves (stepStep slot) (lentStore plan clock (counts .entry) (keys .entry) (kinds .entry) (values .entry) (stamps .entry) slots) r ⌝ }
+    ensures { λ r. ⌜ StepMoves (lentStore plan clock (counts .entry) (keys .entry) (kinds .entry) (values .entry) (stamps .entry) slots) slot r ⌝ }
 {
     let change = if rules::good(plan, clock, counts, keys, kinds, values, stamps, slots) {
         let edges = plan_table::edge_counts_of(plan);
@@ -55,7 +54,17 @@ pub fn step_lent<'a>(
         let highs = plan_table::highest_of(plan);
         let targets = plan_table::targets_of(plan);
         slots::stepped(
-            &edges, &lows, &highs, &targets, counts, keys, kinds, values, stamps, slots, slot,
+            &edges,
+            &lows,
+            &highs,
+            &targets,
+            counts,
+            keys,
+            kinds,
+            values,
+            stamps,
+            slots,
+            slot,
         )
     } else {
         slots::refused(Answer::BADSTORE, slots)
@@ -76,7 +85,7 @@ pub fn cancel_lent<'a>(
     slot: u32,
 ) -> Moved
     requires { ⌜ LentSized counts keys kinds values stamps ⌝ }
-    ensures { λ r. ⌜ Moves (cancelStep slot) (lentStore plan clock (counts .entry) (keys .entry) (kinds .entry) (values .entry) (stamps .entry) slots) r ⌝ }
+    ensures { λ r. ⌜ CancelMoves (lentStore plan clock (counts .entry) (keys .entry) (kinds .entry) (values .entry) (stamps .entry) slots) slot r ⌝ }
 {
     let change = if rules::good(plan, clock, counts, keys, kinds, values, stamps, slots) {
         slots::cancelled(slots, slot)

@@ -20,7 +20,7 @@ use Rattle.store.specs.Calls.{Effect}
 use Rattle.steps.specs.Searches.{running, lowestIdle, startStep, ended, withRunning, stepStep, cancelStep}
 use Rattle.slots.specs.declared.Moved.{Moved}
 use Rattle.slots.specs.declared.Change.{Change}
-use Rattle.slots.specs.Workers.{movedBy, changedBy, stays, Decides}
+use Rattle.slots.specs.Workers.{movedBy, changedBy, stays, ChangesBy}
 
 -- One slot is written; or a refusal, and the slots as they were.
 abbrev pub wrote : Answer → List Slot → ℕ → Slot → Moved
@@ -123,7 +123,7 @@ module _ (p : Plan) (s : State) where
 
 -- What a start decides.
 module _ (slots : List Slot) (long : length slots ≡ slotCount) (k : ℕ) where
-  pub starts-none : {r : Change} → slotCount ≤ lowestIdle slots → r ≡ stays SLOTS slots → Decides (startStep k) slots r
+  pub starts-none : {r : Change} → slotCount ≤ lowestIdle slots → r ≡ stays SLOTS slots → ChangesBy (startStep k) slots r
   starts-none h e =
       record {
         at-slot = stays-at SLOTS slots e;
@@ -132,7 +132,7 @@ module _ (slots : List Slot) (long : length slots ≡ slotCount) (k : ℕ) where
       }
 
   pub starts-at : (i : ℕ) → lowestIdle slots ≡ i → i < slotCount → {a : Answer} {q : Slot} → a ≡ answer DONE i 0 0 0 → q ≡ running k 0 0
-      → Decides (startStep k) slots (record { answer = a; at = i; slot = q })
+      → ChangesBy (startStep k) slots (record { answer = a; at = i; slot = q })
   starts-at i e h f g =
       record {
         at-slot = h;
@@ -142,7 +142,7 @@ module _ (slots : List Slot) (long : length slots ≡ slotCount) (k : ℕ) where
 
 -- What a cancel decides.
 module _ (slots : List Slot) (long : length slots ≡ slotCount) (i : ℕ) where
-  pub cancels-no-slot : {r : Change} → slotCount ≤ i → r ≡ stays SLOT slots → Decides (cancelStep i) slots r
+  pub cancels-no-slot : {r : Change} → slotCount ≤ i → r ≡ stays SLOT slots → ChangesBy (cancelStep i) slots r
   cancels-no-slot h e =
       record {
         at-slot = stays-at SLOT slots e;
@@ -151,7 +151,7 @@ module _ (slots : List Slot) (long : length slots ≡ slotCount) (i : ℕ) where
       }
 
   module _ (h : i < slotCount) where
-    pub cancels-idle : {r : Change} → getD slots i idle .running ≡ 0 → r ≡ stays IDLE slots → Decides (cancelStep i) slots r
+    pub cancels-idle : {r : Change} → getD slots i idle .running ≡ 0 → r ≡ stays IDLE slots → ChangesBy (cancelStep i) slots r
     cancels-idle rests e =
         record {
           at-slot = stays-at IDLE slots e;
@@ -159,7 +159,7 @@ module _ (slots : List Slot) (long : length slots ≡ slotCount) (i : ℕ) where
               change-kept IDLE slots e ∙ sym (cancel-idle p (record { clock = clock; nodes = nodes; slots = slots }) i (omega arith) rests);
         }
 
-    pub cancels : {r : Change} {a : Answer} → getD slots i idle .running ≢ 0 → a ≡ bare DONE → r ≡ frees a i → Decides (cancelStep i) slots r
+    pub cancels : {r : Change} {a : Answer} → getD slots i idle .running ≢ 0 → a ≡ bare DONE → r ≡ frees a i → ChangesBy (cancelStep i) slots r
     cancels runs f e =
         record {
           at-slot = frees-at e h;

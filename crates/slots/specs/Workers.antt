@@ -33,7 +33,7 @@ abbrev pub stays : ℕ → List Slot → Change
 stays number slots = record { answer = bare number; at = 0; slot = getD slots 0 idle }
 
 -- What a start or a cancel decides, whatever else a state holds.
-pub record Decides (step : Plan → State → Effect) (slots : List Slot) (r : Change) : Type 0 where
+pub record ChangesBy (step : Plan → State → Effect) (slots : List Slot) (r : Change) : Type 0 where
   pub at-slot : r .at < slotCount
   pub does : (p : Plan) (clock : ℕ) (nodes : List (List Copy))
       → changedBy slots r ≡ movedBy (step p (record { clock = clock; nodes = nodes; slots = slots }))

@@ -3,7 +3,7 @@ ghost use mathlib.Core.Path.{_≡_};
 ghost use Prim.Native.Nat.{_<_};
 ghost use Rattle.store.specs.State.{slotCount, idle};
 ghost use Rattle.steps.specs.Searches.{running, startStep, cancelStep};
-ghost use Rattle.slots.specs.Workers.{stays, changedBy, LentSteppable, LentRunning, Decides, LentStepsBy};
+ghost use Rattle.slots.specs.Workers.{stays, changedBy, LentSteppable, LentRunning, ChangesBy, LentStepsBy};
 use plan::Hop;
 use plan::arrays;
 use store::Answer;
@@ -83,7 +83,7 @@ pub fn changed(change: Change, mut slots: [Slot; Store::SLOTS]) -> Moved
 
 // "The lowest idle slot takes the key, at the root, 0 visits." SLOTS where none is idle.
 pub fn started(slots: [Slot; Store::SLOTS], key: u32) -> Change
-    ensures { λ r. ⌜ Decides (startStep key) slots r ⌝ }
+    ensures { λ r. ⌜ ChangesBy (startStep key) slots r ⌝ }
 {
     let mut n = 0;
     let slot = loop {
@@ -161,13 +161,23 @@ pub fn stepped<'a>(
         return refused(Answer::IDLE, slots);
     }
     visited(
-        edges, lows, highs, targets, counts, keys, kinds, values, stamps, slots, i,
+        edges,
+        lows,
+        highs,
+        targets,
+        counts,
+        keys,
+        kinds,
+        values,
+        stamps,
+        slots,
+        i,
     )
 }
 
 // "The slot becomes idle." SLOT before IDLE.
 pub fn cancelled(slots: [Slot; Store::SLOTS], slot: u32) -> Change
-    ensures { λ r. ⌜ Decides (cancelStep slot) slots r ⌝ }
+    ensures { λ r. ⌜ ChangesBy (cancelStep slot) slots r ⌝ }
 {
     let at = slot as usize;
     if Store::SLOTS <= at {
