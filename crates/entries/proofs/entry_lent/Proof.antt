@@ -58,7 +58,7 @@ ready c =
           (capacities-known z (rows .capacities-of .result) (rows .capacities-of .ensures)) 0;
     }
 
-decided : (c : tie.After-decide) → DecidesFor (lent (begun (c .before))) (begun c .before .args .key) (c .decide .result)
+decided : (c : tie.After-decide) → DecidesFor (lent (begun (c .before))) (begun (c .before) .args .key) (c .decide .result)
 decided c = c .decide .ensures (lent (begun (c .before))) (ready (c .before))
 
 good-requires : tie.Need-good-requires

@@ -54,11 +54,11 @@ count-held-requires c κs =
 tally-requires : tie.Need-tally-requires
 tally-requires c κs = counts-move (c .before .before .before .before .before .before .before .before .pre .0 .2) (c .before .before .decide .ensures)
 
-cast-t19 : tie.Need-cast-t19
-cast-t19 c = search needs
+cast-t20 : tie.Need-cast-t20
+cast-t20 c = search needs
 
-cast-t26 : tie.Need-cast-t26
-cast-t26 c = search needs
+cast-t27 : tie.Need-cast-t27
+cast-t27 c = search needs
 
 returns : tie.Need-returns
 returns c =
@@ -83,6 +83,6 @@ along-spec =
     decide-requires
     count-held-requires
     tally-requires
-    cast-t19
-    cast-t26
+    cast-t20
+    cast-t27
     returns)
