@@ -82,7 +82,8 @@ fn along(
     let held = counts[t] as usize;
     let from = Store::WIDTH * n;
     let start = Store::WIDTH * t;
-    let m = decide(keys, stay, target, from, had, start, held, e, capacity as usize);
+    let room = capacity as usize;
+    let m = decide(keys, stay, target, from, had, start, held, e, room);
     let left = count_held(keys, stay, m.kept, e);
     Settled {
         answer: tally(had, m.kept, held, m.got, left),

@@ -12,7 +12,7 @@ bare-requires : tie.Need-bare-requires
 bare-requires c κs = search needs
 
 returns : tie.Need-returns
-returns c = ap (λ (a : Answer). record { answer = a; clock = (c .before) .args .clock }) ((c .bare) .ensures)
+returns c = ap (λ (a : Answer). record { answer = a; clock = c .before .args .clock }) (c .bare .ensures)
 
 pub refused-spec : {M : Type 1} → statement M
 refused-spec = tie.close (tie.spec bare-requires returns)

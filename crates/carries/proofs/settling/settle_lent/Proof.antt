@@ -1,6 +1,6 @@
 -- `carries::settling::settle_lent` meets its contract.
 use mathlib.Core.Path.{_≡_, refl, sym, _∙_}
-use mathlib.Core.Bool.{true}
+use mathlib.Core.Bool.{true, false}
 use borrow.Author.Needs.{needs}
 use borrow.Author.Tests.{not-true, not-false}
 use Rattle.store.specs.declared.Store.{Store}
@@ -23,9 +23,12 @@ lent s =
     let a = s .args in
     ofParts (a .plan) (a .clock) (a .counts .now) (a .keys .now) (a .kinds .now) (a .values .now) (a .stamps .now) (a .slots)
 
--- Past the check it is good.
+-- Past the check it is good, and else it is not.
 checked : (c : tie.Else1) → goodStore (lent (c .before .before .before)) ≡ true
 checked c = sym (c .before .good2 .ensures) ∙ not-false (c .before .good2 .result) (c .if1 .left)
+
+broken : (c : tie.Then1) → goodStore (lent (c .before .before .before)) ≡ false
+broken c = sym (c .before .good2 .ensures) ∙ not-true (c .before .good2 .result) (c .if1 .taken)
 
 -- The edge that is asked for, once it is read.
 abbrev begun : tie.After-capacity-in → tie.Start
@@ -62,11 +65,9 @@ refused-requires c κs = search needs
 
 returns : tie.Need-returns
 returns c =
-    let s = (c .before .before .before .before) in
-    let g = (c .before .before .good2) in
-    let bad = sym (g .ensures) ∙ not-true (g .result) ((c .before .if1) .taken) in
+    let s = c .before .before .before .before in
     settled-none (lent s) (s .args .node) (s .args .edge) (s .args .stay .now) (s .args .target .now) (s .pre .1) (s .pre .2) BADSTORE
-    (on-broken (carryStep (s .args .node) (s .args .edge)) (lent s) bad (bare BADSTORE) refl) ((c .refused) .result) ((c .refused) .ensures)
+    (on-broken (carryStep (s .args .node) (s .args .edge)) (lent s) (broken (c .before)) (bare BADSTORE) refl) (c .refused .result) (c .refused .ensures)
 
 nodes-requires : tie.Need-nodes-requires
 nodes-requires c κs = search needs
@@ -76,10 +77,10 @@ refused-requires-2 c κs = search needs
 
 returns-2 : tie.Need-returns-2
 returns-2 c =
-    let s = (c .before .before .before .before .before .before) in
+    let s = c .before .before .before .before .before .before in
     settled-none (lent s) (s .args .node) (s .args .edge) (s .args .stay .now) (s .args .target .now) (s .pre .1) (s .pre .2) NODE
-    (no-node (lent s) (checked (c .before .before .before)) (s .args .node) (s .args .edge) ((c .before .before .nodes) .ensures) ((c .before .if2) .taken))
-    ((c .refused2) .result) ((c .refused2) .ensures)
+    (no-node (lent s) (checked (c .before .before .before)) (s .args .node) (s .args .edge) (c .before .before .nodes .ensures) (c .before .if2 .taken))
+    (c .refused2 .result) (c .refused2 .ensures)
 
 edge-counts-of-requires : tie.Need-edge-counts-of-requires
 edge-counts-of-requires c κs = search needs
@@ -92,11 +93,11 @@ refused-requires-3 c κs = search needs
 
 returns-3 : tie.Need-returns-3
 returns-3 c =
-    let s = (c .before .before .before .before .before .before .before .before .before .before) in
+    let s = c .before .before .before .before .before .before .before .before .before .before in
     settled-none (lent s) (s .args .node) (s .args .edge) (s .args .stay .now) (s .args .target .now) (s .pre .1) (s .pre .2) EDGE
-    (no-edge (lent s) (checked (c .before .before .before .before .before .before .before)) (s .args .node) (s .args .edge) ((c .before .before .before .before .before .before .nodes) .ensures)
-    ((c .before .before .before .before .before .if2) .left) ((c .before .before .before .before .edge-counts-of) .ensures) ((c .before .before .edge-count-in) .ensures) ((c .before .if3) .taken))
-    ((c .refused3) .result) ((c .refused3) .ensures)
+    (no-edge (lent s) (checked (c .before .before .before .before .before .before .before)) (s .args .node) (s .args .edge) (c .before .before .before .before .before .before .nodes .ensures)
+    (c .before .before .before .before .before .if2 .left) (c .before .before .before .before .edge-counts-of .ensures) (c .before .before .edge-count-in .ensures) (c .before .if3 .taken))
+    (c .refused3 .result) (c .refused3 .ensures)
 
 capacities-of-requires : tie.Need-capacities-of-requires
 capacities-of-requires c κs = search needs
@@ -118,13 +119,13 @@ capacity-in-requires c κs = search needs
 
 along-requires : tie.Need-along-requires
 along-requires c κs =
-    let s = (c .before .before .before .before .before .before .before .before .before .before .before .before .before .before .before .before .before .before .before .before .before .before) in
+    let s = c .before .before .before .before .before .before .before .before .before .before .before .before .before .before .before .before .before .before .before .before .before .before in
     ((lent s, s .args .edge, known (c .before .before)), s .pre .1, s .pre .2)
 
 returns-4 : tie.Need-returns-4
 returns-4 c =
-    let s = (c .before .before .before .before .before .before .before .before .before .before .before .before .before .before .before .before .before .before .before .before .before .before .before) in
-    (c .along) .ensures (lent s) (s .args .edge) (known (c .before .before .before))
+    let s = c .before .before .before .before .before .before .before .before .before .before .before .before .before .before .before .before .before .before .before .before .before .before .before in
+    c .along .ensures (lent s) (s .args .edge) (known (c .before .before .before))
 
 pub settle-lent-spec : {M : Type 1} → statement M
 settle-lent-spec =

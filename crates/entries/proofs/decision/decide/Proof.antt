@@ -25,41 +25,41 @@ element-copy-out-count : tie.Need-element-copy-out-count
 element-copy-out-count c = search needs
 
 cast-end : tie.Need-cast-end
-cast-end c = omega (arith, (c .before) .pre .0 .fits)
+cast-end c = omega (arith, c .before .pre .0 .fits)
 
 seek-requires : tie.Need-seek-requires
 seek-requires c κs =
-    let o = (c .before) .pre .0 in
+    let o = c .before .pre .0 in
     (omega arith, omega (arith, o .fits), λ i l h. o .rises i (omega arith) (omega arith))
 
 mul-if2 : tie.Need-mul-if2
 mul-if2 c =
-    let f = (c .before .before .before) .pre .0 .fits in
+    let f = c .before .before .before .pre .0 .fits in
     search needs
 
 element-copy-out-if2 : tie.Need-element-copy-out-if2
-element-copy-out-if2 c = omega (arith, (c .before .before .before) .pre .0 .fits)
+element-copy-out-if2 c = omega (arith, c .before .before .before .pre .0 .fits)
 
 returns : tie.Need-returns
 returns c =
-    let s = (c .before .before .before .before .before) in
+    let s = c .before .before .before .before .before in
     let a = s .args in
-    let w = (c .before .before .before .seek) in
-    λ z e. decides-replaced e (a .key) (w .result) (w .ensures) ((c .before .before .if1) .taken) (eqb-true (getD (a .keys .now) (w .result) 0) (a .key) ((c .if2) .taken))
+    let w = c .before .before .before .seek in
+    λ z e. decides-replaced e (a .key) (w .result) (w .ensures) (c .before .before .if1 .taken) (eqb-true (getD (a .keys .now) (w .result) 0) (a .key) (c .if2 .taken))
 
 add-t18 : tie.Need-add-t18
-add-t18 c = omega (arith, (c .before .before .before .before) .pre .0 .fits)
+add-t18 c = omega (arith, c .before .before .before .before .pre .0 .fits)
 
 returns-2 : tie.Need-returns-2
 returns-2 c =
-    let s = (c .before .before .before .before) in
-    let w = (c .before .before .seek) in
-    λ z e. decides-added e (s .args .key) (w .result) (w .ensures) (lacks (c .before)) ((c .if3) .taken) (s .pre .1)
+    let s = c .before .before .before .before in
+    let w = c .before .before .seek in
+    λ z e. decides-added e (s .args .key) (w .result) (w .ensures) (lacks (c .before)) (c .if3 .taken) (s .pre .1)
 
 returns-3 : tie.Need-returns-3
 returns-3 c =
-    let w = (c .before .before .seek) in
-    λ z e. decides-full e ((c .before .before .before .before) .args .key) (w .result) (w .ensures) (lacks (c .before)) ((c .if3) .left)
+    let w = c .before .before .seek in
+    λ z e. decides-full e (c .before .before .before .before .args .key) (w .result) (w .ensures) (lacks (c .before)) (c .if3 .left)
 
 pub decide-spec : {M : Type 1} → statement M
 decide-spec = tie.close (tie.spec element-copy-out-count cast-end seek-requires mul-if2 element-copy-out-if2 returns add-t18 returns-2 returns-3)
