@@ -10,7 +10,6 @@ const LAST: u32 = 4294967295;
 
 const HIGH: u32 = 2147483648;
 
-
 // One line. False where it could not be written: there is nobody to print for.
 fn print(first: u32, answer: Answer) -> bool {
     let mut text = [0; lines::ROOM];
@@ -248,7 +247,6 @@ fn looked() {
     look(entries::enter(fresh(1), 33, 0).store, 33);
     look(broken(), 33);
 }
-
 
 // The examples, in the order of the calls' numbers.
 fn main() {

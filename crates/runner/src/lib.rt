@@ -8,6 +8,7 @@ ghost use Rattle.schedule.specs.Running.{noStep, stepOf};
 ghost use Rattle.schedule.specs.Promises.{Runs};
 ghost use Rattle.runner.specs.Workers.{DoesLent};
 use schedule::Step;
+use searches::slots;
 use searches::slots::Moved;
 use store::Answer;
 use store::Outcome;
@@ -73,15 +74,15 @@ pub fn do_lent<'a>(
         return Done::of(c, clock, was);
     }
     if number == Step::START {
-        let s = searches::slots::start_in(plan, clock, counts, keys, kinds, values, stamps, was, x);
+        let s = slots::start_in(plan, clock, counts, keys, kinds, values, stamps, was, x);
         return Done::moved(clock, s);
     }
     if number == Step::STEP {
-        let s = searches::slots::step_in(plan, clock, counts, keys, kinds, values, stamps, was, x);
+        let s = slots::step_in(plan, clock, counts, keys, kinds, values, stamps, was, x);
         return Done::moved(clock, s);
     }
     if number == Step::CANCEL {
-        let s = searches::slots::cancel_in(plan, clock, counts, keys, kinds, values, stamps, was, x);
+        let s = slots::cancel_in(plan, clock, counts, keys, kinds, values, stamps, was, x);
         return Done::moved(clock, s);
     }
     if !rules::good(plan, clock, counts, keys, kinds, values, stamps, was) {
