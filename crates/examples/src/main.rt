@@ -82,7 +82,7 @@ fn cancel(store: Store, slot: u32) -> Store {
 
 // One line of look.
 fn look(store: Store, key: u32) {
-    print(8, searches::look(store, key));
+    print(8, looks::look(store, key));
 }
 
 // The store after four entries: the keys that differ from the first in the last two bits alone.

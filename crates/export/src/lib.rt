@@ -47,7 +47,7 @@ pub extern "C" fn olipranj_step(store: &mut Store, number: u32, x: u32, y: u32) 
 pub extern "C" fn olipranj_look(store: &Store, key: u32) -> Answer
     ensures { λ r. ⌜ Looks (now (store .entry)) key r ⌝ }
 {
-    searches::lines::look_lent(
+    looks::look_lent(
         store.plan,
         store.clock,
         &store.counts,
@@ -83,7 +83,7 @@ pub extern "C" fn olipranj_save(store: &Store, buffer: &mut [u8]) -> Answer
 pub extern "C" fn olipranj_load(store: &mut Store, bytes: &[u8]) -> Answer
     ensures { λ r. ⌜ LoadsBehind (now (bytes .entry)) r (now (store .exit)) ⌝ }
 {
-    let loaded = image::load_in(
+    let loaded = image::load_lent(
         bytes,
         &mut store.counts,
         &mut store.keys,

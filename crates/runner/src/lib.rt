@@ -8,8 +8,7 @@ ghost use Rattle.schedule.specs.Running.{noStep, stepOf};
 ghost use Rattle.schedule.specs.Promises.{Runs};
 ghost use Rattle.runner.specs.Workers.{DoesLent};
 use schedule::Step;
-use searches::slots;
-use searches::slots::Moved;
+use slots::Moved;
 use store::Answer;
 use store::Outcome;
 use store::Slot;
@@ -70,19 +69,19 @@ pub fn do_lent<'a>(
         return Done::of(e.answer, e.clock, was);
     }
     if number == Step::CARRY {
-        let c = carries::carry_in(plan, clock, counts, keys, kinds, values, stamps, was, x, y);
+        let c = carries::carry_lent(plan, clock, counts, keys, kinds, values, stamps, was, x, y);
         return Done::of(c, clock, was);
     }
     if number == Step::START {
-        let s = slots::start_in(plan, clock, counts, keys, kinds, values, stamps, was, x);
+        let s = searches::start_lent(plan, clock, counts, keys, kinds, values, stamps, was, x);
         return Done::moved(clock, s);
     }
     if number == Step::STEP {
-        let s = slots::step_in(plan, clock, counts, keys, kinds, values, stamps, was, x);
+        let s = searches::step_lent(plan, clock, counts, keys, kinds, values, stamps, was, x);
         return Done::moved(clock, s);
     }
     if number == Step::CANCEL {
-        let s = slots::cancel_in(plan, clock, counts, keys, kinds, values, stamps, was, x);
+        let s = searches::cancel_lent(plan, clock, counts, keys, kinds, values, stamps, was, x);
         return Done::moved(clock, s);
     }
     if !rules::good(plan, clock, counts, keys, kinds, values, stamps, was) {

@@ -7,7 +7,7 @@ use lib.ListN.{getD, set}
 use denote.Ref.{RefT}
 use Rattle.plan.specs.Sizes.{mostNodes}
 use Rattle.plan.specs.Plan.{Plan, size}
-use Rattle.plan.specs.PlanArrays.{Grid, RowsOf}
+use Rattle.plan.specs.PlanArrays.{Grid, Lent, RowsOf}
 use Rattle.store.specs.declared.Copy.{Copy}
 use Rattle.store.specs.declared.Slot.{Slot}
 use Rattle.store.specs.Answers.{bare}
@@ -16,7 +16,6 @@ use Rattle.store.specs.Layout.{stateIn}
 use Rattle.store.specs.Calls.{Effect}
 use Rattle.store.specs.Workers.{AllOrdered}
 use Rattle.steps.specs.Searches.{stepStep}
-use Rattle.looks.specs.Workers.{Lent}
 use Rattle.slots.specs.declared.Moved.{Moved}
 use Rattle.slots.specs.declared.Change.{Change}
 

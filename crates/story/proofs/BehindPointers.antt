@@ -8,7 +8,7 @@ use Prim.Native.Nat.{ℕ}
 use native.Mathlib.Omega.{arith}
 use Rattle.lists.proofs.Truths.{bool?, not-both, le-both}
 use Rattle.plan_table.specs.PlanTable.{plans}
-use Rattle.plan_table.proofs.TableLaws.{plans-three}
+use Rattle.plan_table.proofs.TableLaws.{first-plan}
 use Rattle.store.specs.declared.Outcome.{Outcome}
 use Rattle.store.specs.declared.Store.{Store}
 use Rattle.store.specs.Layout.{freshStore}
@@ -27,7 +27,7 @@ use Rattle.story.specs.Behind.{storeBehind, storeBehindAll, behind}
 -- What `fresh 1` leaves is a fresh store of plan 1.
 fresh-one : (z : Store) → storeAfter (fresh 1) z ≡ freshStore 1
 unfolding storeAfter freshOutcome planNumberTest
-fresh-one z = rw (le-both 1 1 1 plans (omega arith) (omega (arith, plans-three)))
+fresh-one z = rw (le-both 1 1 1 plans (omega arith) (omega (arith, first-plan)))
 
 -- An outcome that is refused with a fresh store of plan 1.
 refused-or-taken : (o : Outcome) (c : Call) → ((z : Store) → storeAfter c z ≡ replaced o z)

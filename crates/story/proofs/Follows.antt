@@ -12,7 +12,7 @@ use Rattle.lists.proofs.Truths.{bool?, not-both, and-right, both-le}
 use Rattle.lists.proofs.Options.{option?, not-none-and-some, one-some}
 use Rattle.plan.specs.Plan.{Plan}
 use Rattle.plan_table.specs.PlanTable.{plans}
-use Rattle.plan_table.proofs.TableLaws.{plans-three}
+use Rattle.plan_table.proofs.TableLaws.{first-plan}
 use Rattle.store.specs.declared.Outcome.{Outcome}
 use Rattle.store.specs.declared.Store.{Store}
 use Rattle.store.specs.Copies.{isSome}
@@ -110,7 +110,7 @@ fresh-outcome plan P f = go (bool? (planNumberTest plan))
   where
     go : (planNumberTest plan ≡ true) ⊎ (planNumberTest plan ≡ false) → P (freshOutcome plan .store)
     go (inl t) = let w = both-le 1 plan plan plans t in rw t (f plan (w .0) (w .1))
-    go (inr t) = rw t (f 1 (omega arith) (omega (arith, plans-three)))
+    go (inr t) = rw t (f 1 (omega arith) (omega (arith, first-plan)))
 
 -- A call is its event on the store, of any store; or it is a fresh or a load, and gives an outcome of its own.
 pub record OwnOutcome (c : Call) : Type 0 where

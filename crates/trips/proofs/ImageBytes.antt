@@ -7,7 +7,7 @@ use lib.ListN.{length, getD}
 use Rattle.number.specs.Number.{Bytes, form}
 use Rattle.number.proofs.Meaning.{form-bytes}
 use Rattle.plan.specs.Plan.{Plan}
-use Rattle.plan_table.proofs.TableLaws.{plans-three}
+use Rattle.plan_table.proofs.TableLaws.{plans-fit}
 use Rattle.store.specs.declared.Copy.{Copy}
 use Rattle.store.specs.declared.Store.{Store}
 use Rattle.store.specs.Copies.{noCopy}
@@ -42,6 +42,6 @@ pub image-bytes : (z : Store) → StoreRules z → Declared z → Bytes (image z
 unfolding imageOf stateOf
 image-bytes z rules declared =
     bytes-join (form formatNumber) _ (form-bytes formatNumber (lit≤ tt))
-    (bytes-join (form (z .plan)) _ (form-bytes (z .plan) (omega (arith, rules .plan-known .1, plans-three)))
+    (bytes-join (form (z .plan)) _ (form-bytes (z .plan) (omega (arith, rules .plan-known .1, plans-fit)))
     (bytes-join (form (z .clock)) _ (form-bytes (z .clock) (rules .state-rules .clock-within .1))
     (nodes-bytes (planOf z) (stateOf z .nodes) (nodes-writable z rules declared))))

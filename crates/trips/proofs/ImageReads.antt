@@ -15,7 +15,7 @@ use Rattle.number.specs.Number.{Bytes, form}
 use Rattle.plan.specs.Plan.{Plan, size}
 use Rattle.plan.specs.PlanRules.{PlanRules}
 use Rattle.plan_table.specs.PlanTable.{planNumbered, plans}
-use Rattle.plan_table.proofs.TableLaws.{plans-three, table-rules}
+use Rattle.plan_table.proofs.TableLaws.{plans-fit, table-rules}
 use Rattle.store.specs.declared.Copy.{Copy}
 use Rattle.store.specs.declared.Store.{Store}
 use Rattle.store.specs.Answers.{PLAN, FORMAT, RULE}
@@ -50,7 +50,7 @@ image-back plan t p c w h =
     let k = stands-right format (number ++ (clock ++ nodes)) h in
     let j = stands-right number (clock ++ nodes) k in
     bind-got _ _ (number-back (omega arith) (stands-left format (number ++ (clock ++ nodes)) h))
-    ∙ bind-got _ _ (number-back (omega (arith, plans-three)) (stands-left number (clock ++ nodes) k))
+    ∙ bind-got _ _ (number-back (omega (arith, plans-fit)) (stands-left number (clock ++ nodes) k))
     ∙ check-holds (planNumberTest plan) PLAN _ _ (le-both 1 plan plan plans (p .0) (p .1))
     ∙ bind-got _ _ (number-back (c .1) (stands-left clock nodes j))
     ∙ check-holds (ltb 0 (t .clock)) RULE _ _ (lt-ltb 0 (t .clock) (omega arith))

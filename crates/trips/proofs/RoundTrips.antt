@@ -14,7 +14,7 @@ use Rattle.number.specs.Number.{Bytes, narrow}
 use Rattle.plan.specs.Plan.{Plan}
 use Rattle.plan.specs.Sizes.{lastKey}
 use Rattle.plan_table.specs.PlanTable.{planNumbered}
-use Rattle.plan_table.proofs.TableLaws.{plans-three}
+use Rattle.plan_table.proofs.TableLaws.{first-plan}
 use Rattle.store.specs.declared.Copy.{Copy}
 use Rattle.store.specs.declared.Outcome.{Outcome}
 use Rattle.store.specs.declared.Slot.{Slot}
@@ -133,7 +133,7 @@ pub load-good : (s : List ℕ) → goodStore (loadOutcome s .store) ≡ true
 load-good s = go (load-way s)
   where
     refused : goodStore (refusedStore) ≡ true
-    refused = fresh-good 1 (lit≤ tt) (omega (arith, plans-three))
+    refused = fresh-good 1 (lit≤ tt) (omega (arith, first-plan))
 
     go : LoadWay s → goodStore (loadOutcome s .store) ≡ true
     go (stops e r) = rw r refused

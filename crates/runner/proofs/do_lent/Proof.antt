@@ -43,8 +43,8 @@ returns-2 c =
     does-call (asked (c .before .before .before .before .before .before .before .before .before)) (a .number) (a .x) (a .y) (a .place) (withdrawStep (a .x)) ((c .of2) .ensures)
     (λ p s. does-withdraw (a .number) (a .x) (a .y) (a .place) p s ((c .before .before .before .before .before .before .before .if2) .taken)) ((c .before .withdraw-lent) .ensures)
 
-carry-in-requires : tie.Need-carry-in-requires
-carry-in-requires c κs = search needs
+carry-lent-requires : tie.Need-carry-lent-requires
+carry-lent-requires c κs = search needs
 
 of-requires-3 : tie.Need-of-requires-3
 of-requires-3 c κs = search needs
@@ -53,10 +53,10 @@ returns-3 : tie.Need-returns-3
 returns-3 c =
     let a = (c .before .before .before .before .before .before .before .before .before .before) .args in
     does-call (asked (c .before .before .before .before .before .before .before .before .before .before)) (a .number) (a .x) (a .y) (a .place) (carryStep (a .x) (a .y)) ((c .of3) .ensures)
-    (λ p s. does-carry (a .number) (a .x) (a .y) (a .place) p s ((c .before .before .before .before .before .before .before .if3) .taken)) ((c .before .carry-in) .ensures)
+    (λ p s. does-carry (a .number) (a .x) (a .y) (a .place) p s ((c .before .before .before .before .before .before .before .if3) .taken)) ((c .before .carry-lent) .ensures)
 
-start-in-requires : tie.Need-start-in-requires
-start-in-requires c κs = search needs
+start-lent-requires : tie.Need-start-lent-requires
+start-lent-requires c κs = search needs
 
 moved-requires : tie.Need-moved-requires
 moved-requires c κs = search needs
@@ -65,10 +65,10 @@ returns-4 : tie.Need-returns-4
 returns-4 c =
     let a = (c .before .before .before .before .before .before .before .before .before .before .before) .args in
     does-call (asked (c .before .before .before .before .before .before .before .before .before .before .before)) (a .number) (a .x) (a .y) (a .place) (startStep (a .x)) ((c .moved) .ensures)
-    (λ p s. does-start (a .number) (a .x) (a .y) (a .place) p s ((c .before .before .before .before .before .before .before .if4) .taken)) ((c .before .start-in) .ensures)
+    (λ p s. does-start (a .number) (a .x) (a .y) (a .place) p s ((c .before .before .before .before .before .before .before .if4) .taken)) ((c .before .start-lent) .ensures)
 
-step-in-requires : tie.Need-step-in-requires
-step-in-requires c κs = search needs
+step-lent-requires : tie.Need-step-lent-requires
+step-lent-requires c κs = search needs
 
 moved-requires-2 : tie.Need-moved-requires-2
 moved-requires-2 c κs = search needs
@@ -77,10 +77,10 @@ returns-5 : tie.Need-returns-5
 returns-5 c =
     let a = (c .before .before .before .before .before .before .before .before .before .before .before .before) .args in
     does-call (asked (c .before .before .before .before .before .before .before .before .before .before .before .before)) (a .number) (a .x) (a .y) (a .place) (stepStep (a .x)) ((c .moved2) .ensures)
-    (λ p s. does-step (a .number) (a .x) (a .y) (a .place) p s ((c .before .before .before .before .before .before .before .if5) .taken)) ((c .before .step-in) .ensures)
+    (λ p s. does-step (a .number) (a .x) (a .y) (a .place) p s ((c .before .before .before .before .before .before .before .if5) .taken)) ((c .before .step-lent) .ensures)
 
-cancel-in-requires : tie.Need-cancel-in-requires
-cancel-in-requires c κs = search needs
+cancel-lent-requires : tie.Need-cancel-lent-requires
+cancel-lent-requires c κs = search needs
 
 moved-requires-3 : tie.Need-moved-requires-3
 moved-requires-3 c κs = search needs
@@ -89,7 +89,7 @@ returns-6 : tie.Need-returns-6
 returns-6 c =
     let a = (c .before .before .before .before .before .before .before .before .before .before .before .before .before) .args in
     does-call (asked (c .before .before .before .before .before .before .before .before .before .before .before .before .before)) (a .number) (a .x) (a .y) (a .place) (cancelStep (a .x)) ((c .moved3) .ensures)
-    (λ p s. does-cancel (a .number) (a .x) (a .y) (a .place) p s ((c .before .before .before .before .before .before .before .if6) .taken)) ((c .before .cancel-in) .ensures)
+    (λ p s. does-cancel (a .number) (a .x) (a .y) (a .place) p s ((c .before .before .before .before .before .before .before .if6) .taken)) ((c .before .cancel-lent) .ensures)
 
 good-requires : tie.Need-good-requires
 good-requires c κs = search needs
@@ -130,16 +130,16 @@ do-lent-spec =
     withdraw-lent-requires
     of-requires-2
     returns-2
-    carry-in-requires
+    carry-lent-requires
     of-requires-3
     returns-3
-    start-in-requires
+    start-lent-requires
     moved-requires
     returns-4
-    step-in-requires
+    step-lent-requires
     moved-requires-2
     returns-5
-    cancel-in-requires
+    cancel-lent-requires
     moved-requires-3
     returns-6
     good-requires
