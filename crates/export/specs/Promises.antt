@@ -10,7 +10,7 @@ use Rattle.store.specs.Calls.{onStore}
 use Rattle.store.specs.Promises.{freshOutcome}
 use Rattle.steps.specs.Entries.{entry}
 use Rattle.steps.specs.Carries.{carryStep}
-use Rattle.image.specs.Loading.{loadOutcome}
+use Rattle.image_loading.specs.Loading.{loadOutcome}
 use Rattle.schedule.specs.Schedule.{stepRecord}
 use Rattle.schedule.specs.Running.{stepOf}
 

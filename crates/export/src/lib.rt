@@ -138,7 +138,7 @@ pub extern "C" fn olipranj_save(store: &Store, buffer: &mut [u8]) -> Answer
 pub extern "C" fn olipranj_load(store: &mut Store, bytes: &[u8]) -> Answer
     ensures { λ r. ⌜ LoadsBehind (now (bytes .entry)) r (now (store .exit)) ⌝ }
 {
-    let loaded = image::load_in(
+    let loaded = image::load_lent(
         bytes,
         &mut store.counts,
         &mut store.keys,

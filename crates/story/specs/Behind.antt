@@ -3,7 +3,7 @@ use mathlib.Core.Bool.{cond}
 use mathlib.Core.List.{List, [], _∷_}
 use Rattle.store.specs.declared.Store.{Store}
 use Rattle.store.specs.Promises.{freshOutcome}
-use Rattle.image.specs.Loading.{loadOutcome}
+use Rattle.image_loading.specs.Loading.{loadOutcome}
 use Rattle.story.specs.PublicCalls.{Call, accepted, storeAfter}
 use Rattle.story.specs.PublicCalls.Call.{fresh, load, enter, withdraw, carry, start, step, cancel, look, save, page, serve, run}
 

@@ -4,7 +4,7 @@ use Prim.Native.Nat.{_≤_}
 use lib.ListN.{getD}
 use Rattle.number.specs.Number.{Bytes}
 use Rattle.plan.specs.Sizes.{lastKey}
-use Rattle.image.specs.Image.{lastValue}
+use Rattle.copies.specs.CopyBytes.{lastValue}
 use Rattle.schedule.specs.declared.Step.{Step}
 use Rattle.schedule.specs.Running.{noStep}
 use Rattle.story.specs.PublicCalls.{Call}

@@ -1,5 +1,5 @@
 -- `export::olipranj_load` meets its promise: a walk of its MIR, by hand. The borrow is opened; the store's columns are lent at once for a lifetime
--- made for the call of `load_in`, which reads the bytes into them; plan, clock and slots are written, and the borrow is closed. Assumes nothing.
+-- made for the call of `load_lent`, which reads the bytes into them; plan, clock and slots are written, and the borrow is closed. Assumes nothing.
 use mathlib.Core.Path.{_≡_, refl, ap}
 use Prim.Native.Nat.{ℕ, _+_}
 use mathlib.Core.List.{[], _∷_, List}
@@ -40,10 +40,11 @@ use denote.Triple.Table.{entered, cited}
 use denote.Triple.Walked.{says, Stays, stay-ref, stay-none-slice, walkOf, goes-ref, goes-none-slice, Walks, ends-at, walked, walk-meets}
 use denote.Triple.Clauses.{ensured, lasts}
 use denote.Exit.{yes}
-use Rattle.image.specs.declared.Loaded.{Loaded}
-use Rattle.image.specs.Workers.{columns, storeIn, LoadsIn}
-use Rattle.image.proofs.Loaded as Ld
-use Rattle.image.proofs.Loaded.Laws as Ld′
+use Rattle.image_loading.specs.declared.Loaded.{Loaded}
+use Rattle.image_loading.specs.Loading.{loadOutcome}
+use Rattle.image_loading.specs.Workers.{loadedIn}
+use Rattle.image_loading.proofs.Loaded as Ld
+use Rattle.image_loading.proofs.Loaded.Laws as Ld′
 use Rattle.store.specs.declared.Store.{Store}
 use Rattle.store.specs.declared.Outcome.{Outcome}
 use Rattle.store.proofs.Store as S
@@ -52,10 +53,10 @@ use Rattle.store.proofs.Answer as R
 use Rattle.store.proofs.Answer.Laws as R′
 use Rattle.store.proofs.Slot as Q
 use Rattle.store.proofs.Slot.Laws as Q′
-use Rattle.image.proofs.load_in as call
-use Rattle.image.proofs.load_in.Symbol as call-def
-use Rattle.image.proofs.load_in.Symbol.{name as #image·load-in}
-use Rattle.image.proofs.load_in.Met as call-thm
+use Rattle.image.proofs.load_lent as call
+use Rattle.image.proofs.load_lent.Symbol as call-def
+use Rattle.image.proofs.load_lent.Symbol.{name as #image·load-lent}
+use Rattle.image.proofs.load_lent.Met as call-thm
 use Rattle.export.proofs.Values.{store-val, answer-val}
 use Rattle.export.proofs.Columns.{Names, countsRef, keysRef, kindsRef, valuesRef, stampsRef, slots-are}
 use Rattle.export.proofs.AtOnce.{Five, with-columns, Muts, Kept, columns-lent, columns-back}
@@ -67,7 +68,7 @@ use Rattle.export.proofs.olipranj_load.Code as code
 abbrev stayed : Stays (f.ended .signature .params) (f.ended .kept)
 stayed = (stay-ref (0 ∷ []) tt (plain (λ _. S.the-row)), (stay-none-slice (1 ∷ []) tt (plain (λ _. u8)) yes, tt))
 
--- What `load_in` gives, as the machine holds it.
+-- What `load_lent` gives, as the machine holds it.
 abbrev loaded-val : Loaded → Val
 loaded-val r = LL.tuple-val Ld.the-type Ld′.the-laws (Ld.the-type .to r)
 
@@ -87,7 +88,7 @@ abbrev five : Ends → Five
 five ws = (ws .1 .0, (ws .1 .1 .0, (ws .1 .1 .1 .0, (ws .1 .1 .1 .1 .0, ws .1 .1 .1 .1 .1 .0))))
 
 abbrev after : Loaded → Five → Store
-after r w = storeIn (r .plan) (r .clock) (w .0) (columns (w .1 .0) (w .1 .1 .0) (w .1 .1 .1 .0) (w .1 .1 .1 .1)) (r .slots)
+after r w = loadedIn r (w .0) (w .1 .0) (w .1 .1 .0) (w .1 .1 .1 .0) (w .1 .1 .1 .1) .store
 
 after-is : (h : Store) (w : Five) (r : Loaded) → Is S.the-row (with-columns h w) (store-val (with-columns h w) ∷ []) → Is Ld.the-row r (loaded-val r ∷ [])
     → Is S.the-row (after r w) (store-val (after r w) ∷ [])
@@ -118,9 +119,9 @@ module _ {M : Type 1} (𝓤 : URA M) (H : Heap 𝓤) (A : Atoms 𝓤) (W : Given
   abbrev Own : Fml
   Own = ShrSlice (named 0) κ′ u8 .own bs (v ∷ [])
 
-  -- what `load_in` says
+  -- what `load_lent` says
   abbrev Says : Loaded → Five → Type 0
-  Says r w = LoadsIn (now bs) r (w .0) (columns (w .1 .0) (w .1 .1 .0) (w .1 .1 .1 .0) (w .1 .1 .1 .1))
+  Says r w = loadedIn r (w .0) (w .1 .0) (w .1 .1 .0) (w .1 .1 .1 .0) (w .1 .1 .1 .1) ≡ loadOutcome (now bs)
 
   -- the call of it
   module _ (p : ℕ × Names) where
@@ -151,7 +152,7 @@ module _ {M : Type 1} (𝓤 : URA M) (H : Heap 𝓤) (A : Atoms 𝓤) (W : Given
       frame ! $ feqI ! (List Val) (vptr b o ∷ []) (vptr b o ∷ []) refl $ fjoin3 ! $ nothing ! $ move ! (2 ∷ 0 ∷ []) $ fjoin ! $ move ! (1 ∷ 0 ∷ []) $ fjoin ! $
       owned ! R.the-row (Is R.the-row) (LL.makes R.the-type R′.the-plain 𝓤 H A) (r .answer) _ ia $ move ! (1 ∷ 0 ∷ []) $ done !
 
-  module _ (C : Calls 𝓤 H) (Λ : Loops 𝓤 H) (fm : FmC 𝓤 H (W .laws) C) (known : Triple 𝓤 (C #image·load-in) (Call 𝓤 H A at-mem run)) where
+  module _ (C : Calls 𝓤 H) (Λ : Loops 𝓤 H) (fm : FmC 𝓤 H (W .laws) C) (known : Triple 𝓤 (C #image·load-lent) (Call 𝓤 H A at-mem run)) where
     walk : Room u8 (length (bs .now)) → ent 𝓤 (onEntry 𝓤 H A f.signature (κ, (κ′, tt)) (q, (q′, tt)) x at) (WpFn 𝓤 H C Λ code.function (vptr b o ∷ v ∷ []) Post)
     unfolding partOf
     walk gb =
@@ -171,14 +172,14 @@ module _ {M : Type 1} (𝓤 : URA M) (H : Heap 𝓤) (A : Atoms 𝓤) (W : Given
         assigns ! (addr ! (from ! (hop ! (look ! 18 refl) (fld ! refl (stop !))))) (from ! (stop !)) (init ! 4 refl (tt, tt)) $
         use1 W (later (some (λ (p : ℕ × Names). Muts 𝓤 H A W h b o (p .0 ∷ []) (p .1) ⊛ (‵ (flft (p .0 ∷ []) fullShare) ⊛ Kept 𝓤 H A W h b o (p .0 ∷ []) (p .1))))) (columns-lent 𝓤 H A W h b o) $ await ! tt $ pick ! (λ p.
         split ! $ move ! (1 ∷ []) $ split ! $ move ! (2 ∷ 0 ∷ []) $ join ! $ move ! (23 ∷ 26 ∷ 0 ∷ []) $ use3 W (raw (Call 𝓤 H A at-mem run .pre (to-call p))) (goes-call p) $
-        -- [what load_in asks; what is kept; the open borrow; obs; auth; _8; …; _0; …; what bytes owns; …]
+        -- [what load_lent asks; what is kept; the open borrow; obs; auth; _8; …; _0; …; what bytes owns; …]
         calls-at ! fm (Call 𝓤 H A at-mem run) known (to-call p) (and-then ! (load ! (from ! (stop !)) (look ! 17 refl)) (and-then ! (load ! (from ! (stop !)) (look ! 13 refl)) (and-then ! (load ! (from ! (stop !)) (look ! 11 refl)) (and-then ! (load ! (from ! (stop !)) (look ! 9 refl)) (and-then ! (load ! (from ! (stop !)) (look ! 7 refl)) (and-then ! (load ! (from ! (stop !)) (look ! 5 refl)) (no-more !))))))) (λ u.
         use1 W (later (some (λ (r : Loaded). ((‵ (flft κ′ q′) ⊛ (‵ (flft (p .0 ∷ []) fullShare) ⊛ ‵ ftrue)) ⊛ ‵ (Ld.the-row .own r (u ∷ []))) ⊛ raw (ensured 𝓤 H A call.ended (call.clauses 𝓤 H A at-mem run) (κ′, (p .0 ∷ [], tt)) (passed p) tt r)))) (id⊢ 𝓤 _) $ await ! tt $ pick ! (λ r.
         split ! $ move ! (1 ∷ []) $ use1 W (some (λ (ws : Ends). ‵ (lasts call.ended (κ′, (p .0 ∷ [], tt)) (passed p) ws) ⊛ raw (fact 𝓤 (Says r (five ws))))) (id⊢ 𝓤 _) $ pick ! (λ ws. split ! $ move ! (1 ∷ []) $ heard ! (Says r (five ws)) (λ e.
-        -- [what the parameters show last; the tokens and what load_in gave; what is kept; the open borrow; obs; auth; _8; …; _0; …]
+        -- [what the parameters show last; the tokens and what load_lent gave; what is kept; the open borrow; obs; auth; _8; …; _0; …]
         fsplit ! $ move ! (1 ∷ []) $ fsplit ! $ move ! (1 ∷ []) $ fsplit ! $ move ! (1 ∷ []) $ fsplit ! $ move ! (1 ∷ []) $ fsplit ! $ move ! (1 ∷ []) $ fsplit ! $
         move ! (2 ∷ 0 ∷ []) $ fjoin ! $ move ! (2 ∷ 0 ∷ []) $ fjoin ! $ move ! (2 ∷ 0 ∷ []) $ fjoin ! $ move ! (2 ∷ 0 ∷ []) $ fjoin ! $
-        -- [what the columns show last; true; true; the tokens and what load_in gave; what is kept; …]: the lifetime ends, and the store is back
+        -- [what the columns show last; true; true; the tokens and what load_lent gave; what is kept; …]: the lifetime ends, and the store is back
         move ! (3 ∷ []) $ split ! $ split ! $ move ! (1 ∷ []) $ split ! $ move ! (0 ∷ 7 ∷ 4 ∷ []) $
         use3 W (later (‵ (partAt S.the-row fullShare (with-columns h (five ws)) b o))) (columns-back 𝓤 H A W h b o p (five ws)) $ await ! tt $
         move ! (3 ∷ []) $ peeks ! Ld.the-row (Is Ld.the-row) (shows 𝓤 H A Ld.the-row) r (u ∷ []) (λ iu.
@@ -202,12 +203,12 @@ module _ {M : Type 1} (𝓤 : URA M) (H : Heap 𝓤) (A : Atoms 𝓤) (W : Given
         keep ! (0 ∷ 1 ∷ 2 ∷ 3 ∷ 4 ∷ []) $ by ! (exits r (five ws) (LL.owed Ld.the-type Ld′.the-laws r _ ir .0) e))))))))))))))))))))
 
 module _ {M : Type 1} (𝓤 : URA M) (H : Heap 𝓤) (A : Atoms 𝓤) (W : Given 𝓤 H A) (at-mem : Memory → SProp 𝓤) (run : Routine → Fun 𝓤) where
-  f-walks : (C : Calls 𝓤 H) (Λ : Loops 𝓤 H) → FmC 𝓤 H (W .laws) C → Triple 𝓤 (C #image·load-in) (Call 𝓤 H A at-mem run) → Walks 𝓤 H A f.ended stayed (WpFn 𝓤 H C Λ code.function) (f.clauses 𝓤 H A at-mem run)
+  f-walks : (C : Calls 𝓤 H) (Λ : Loops 𝓤 H) → FmC 𝓤 H (W .laws) C → Triple 𝓤 (C #image·load-lent) (Call 𝓤 H A at-mem run) → Walks 𝓤 H A f.ended stayed (WpFn 𝓤 H C Λ code.function) (f.clauses 𝓤 H A at-mem run)
   f-walks C Λ fm known = walked 𝓤 H A f.ended stayed (f.clauses 𝓤 H A at-mem run) (WpFn 𝓤 H C Λ code.function) (λ κs. (ptr-vals, (slice-vals, tt))) (λ κs. (mut-tells (named 0) (κs .0) S.the-row, (shr-slice-tells (named 1) (κs .1 .0) u8, tt)))
       (λ κs qs bounds a g are. via 𝓤 _ (fst∗ 𝓤 _ (emp 𝓤)) (walk 𝓤 H A W at-mem run (κs .0) (κs .1 .0) (qs .0) (qs .1 .0) (a .0 .ptr .0) (a .0 .ptr .1) (a .0 .name) (a .0 .now) (a .1 .0) C Λ fm known (are .1 .0 .0 .1)))
 
 f-meets : {M : Type 1} (𝓤 : URA M) (H : Heap 𝓤) (A : Atoms 𝓤) (W : Given 𝓤 H A) (at-mem : Memory → SProp 𝓤) (run : Routine → Fun 𝓤) (𝓣 : Tables 𝓤 H)
-    → Triple 𝓤 (𝓣 .C #image·load-in) (Call 𝓤 H A at-mem run) → Meets 𝓤 H A f.signature (WpFn 𝓤 H (𝓣 .C) (𝓣 .Λ) code.function) (f.spec 𝓤 H A at-mem run)
+    → Triple 𝓤 (𝓣 .C #image·load-lent) (Call 𝓤 H A at-mem run) → Meets 𝓤 H A f.signature (WpFn 𝓤 H (𝓣 .C) (𝓣 .Λ) code.function) (f.spec 𝓤 H A at-mem run)
 f-meets 𝓤 H A W at-mem run 𝓣 known = walk-meets 𝓤 H A f.ended stayed W (goes-ref 𝓤 H A W 2 0 tt (plain (λ _. S.the-row)), (goes-none-slice 𝓤 H A W 2 (1 ∷ []) tt (plain (λ _. u8)) yes, tt)) (f.clauses 𝓤 H A at-mem run) (WpFn 𝓤 H (𝓣 .C) (𝓣 .Λ) code.function) (WpFn-mono 𝓤 H (W .laws) 𝓣 code.function)
     (f-walks 𝓤 H A W at-mem run (𝓣 .C) (𝓣 .Λ) (fmOf 𝓤 H (W .laws) 𝓣) known)
 
@@ -217,4 +218,4 @@ olipranj-load-spec 𝓤 H 𝓜 𝓖 𝓡 =
     entered 𝓤 H (tripleOf 𝓤 H (𝓖 .A) f.signature (f.spec 𝓤 H (𝓖 .A) (𝓜 .mem) (𝓡 .run)))
     (tables 𝓤 H 𝓜 𝓡 code.env .C) (tables 𝓤 H 𝓜 𝓡 code.env .Λ) #export·olipranj-load code.function (code.unfolded 𝓤 H 𝓜 𝓡)
     (f-meets 𝓤 H (𝓖 .A) (givenOf 𝓤 H 𝓜 𝓖) (𝓜 .mem) (𝓡 .run) (tablesOf 𝓤 H 𝓜 (tables 𝓤 H 𝓜 𝓡 code.env))
-    (cited 𝓤 H (Call 𝓤 H (𝓖 .A) (𝓜 .mem) (𝓡 .run)) 𝓜 𝓡 code.env #image·load-in call-def.routine code.calls-image·load-in (call-thm.met 𝓤 H 𝓜 𝓖 𝓡)))
+    (cited 𝓤 H (Call 𝓤 H (𝓖 .A) (𝓜 .mem) (𝓡 .run)) 𝓜 𝓡 code.env #image·load-lent call-def.routine code.calls-image·load-lent (call-thm.met 𝓤 H 𝓜 𝓖 𝓡)))
