@@ -8,7 +8,7 @@ use Rattle.store.specs.declared.Outcome.{Outcome}
 use Rattle.store.specs.declared.Store.{Store}
 use Rattle.store.specs.Calls.{onStore}
 use Rattle.store.specs.Promises.{freshOutcome}
-use Rattle.image.specs.Loading.{loadOutcome}
+use Rattle.image_loading.specs.Loading.{loadOutcome}
 use Rattle.schedule.specs.Schedule.{stepRecord}
 use Rattle.schedule.specs.Running.{stepOf}
 

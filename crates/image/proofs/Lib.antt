@@ -1,3 +1,1 @@
-pub mod LoadEnds
-pub mod LoadWays
 pub mod SaveWays

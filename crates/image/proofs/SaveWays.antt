@@ -4,8 +4,7 @@ use mathlib.Core.Bool.{true, false}
 use mathlib.Core.List.{List, []}
 use Prim.Native.Nat.{ℕ, _<_, _≤_}
 use native.Mathlib.Omega.{arith}
-use native.Mathlib.Decide.{decLt}
-use lib.ListN.{length, getD, List·getD-eq-default}
+use lib.ListN.{length}
 use Rattle.lists.specs.Stands.{Wrote}
 use Rattle.plan.specs.Sizes.{mostNodes}
 use Rattle.plan.specs.Plan.{size}
@@ -13,14 +12,11 @@ use Rattle.plan_table.specs.PlanTable.{planNumbered}
 use Rattle.store.specs.declared.Answer.{Answer}
 use Rattle.store.specs.declared.Store.{Store}
 use Rattle.store.specs.Answers.{DONE, BADSTORE, SMALL, answer, bare}
-use Rattle.store.specs.Layout.{width, planOf, stateIn, stateOf}
-use Rattle.store.specs.StoreRules.{StoreRules, goodStore}
-use Rattle.store.proofs.Laying.{every-count, node-fits}
+use Rattle.store.specs.Layout.{planOf, stateIn, stateOf}
+use Rattle.store.specs.StoreRules.{goodStore}
 use Rattle.store.proofs.Lifting.{plan-good}
-use Rattle.store.proofs.Ruling.{good-rules}
 use Rattle.wire.proofs.Buffers.{small-answer, small-buffer, done-answer, done-wrote, wrote-end}
 use Rattle.image_writing.specs.Image.{imageOf, image}
-use Rattle.image_writing.specs.Workers.{WithinPlaces}
 use Rattle.image.specs.Promises.{saveAnswer, saveBuffer, Saves}
 
 -- A bad store.
@@ -41,22 +37,9 @@ unfolding imageOf stateOf
 image-in z e = rw (nodes-of z e)
 
 module _ (z : Store) (good : goodStore z ≡ true) where
-  -- What a good store gives the length and the writing of its image: its plan's nodes are no more than a store has,
+  -- What a good store gives the length and the writing of its image: its plan's nodes are no more than a store has.
   pub good-nodes : {nodes : ℕ} → nodes ≡ size (planNumbered (z .plan)) → nodes ≤ mostNodes
   good-nodes e = omega (arith, nodes-of z e, plan-good z good .nodes-within .1)
-
-  -- and no node holds more than its places.
-  pub good-within : WithinPlaces (z .counts)
-  good-within n = go (decLt n mostNodes)
-    where
-      rules : StoreRules z
-      rules = good-rules z good
-
-      go : Dec (n < mostNodes) → getD (z .counts) n 0 ≤ width
-      go (yes h) = omega (arith, every-count z rules n h, node-fits (plan-good z good) (rules .state-rules) n)
-      go (no h) =
-          let e : getD (z .counts) n 0 ≡ 0 = List·getD-eq-default (z .counts) 0 (omega (arith, rules .shape .counts-long)) in
-          omega arith
 
   module _ (before : List ℕ) {nodes needed : ℕ} (n : nodes ≡ size (planNumbered (z .plan))) (e : needed ≡ length (imageIn z nodes)) where
     -- The buffer is too short.

@@ -1,3 +1,1 @@
-pub mod Loading
 pub mod Promises
-pub mod Workers

@@ -8,9 +8,9 @@ use Rattle.store.specs.declared.Outcome.{Outcome}
 use Rattle.store.specs.declared.Store.{Store}
 use Rattle.store.specs.Answers.{BADSTORE, bare}
 use Rattle.store.specs.StoreRules.{goodStore}
-use Rattle.wire.specs.Writing.{writtenAnswer, writtenBuffer}
+use Rattle.wire.specs.Writing.{writtenAnswer, writtenBuffer, Lent}
 use Rattle.image_writing.specs.Image.{image}
-use Rattle.image.specs.Loading.{loadOutcome}
+use Rattle.image_loading.specs.Loading.{loadOutcome}
 
 -- BADSTORE, SMALL with the bytes needed, or DONE with the bytes written.
 unfoldable pub saveAnswer : Store → List ℕ → Answer
@@ -23,6 +23,10 @@ saveBuffer z before = cond (goodStore z) (writtenBuffer (image z) before) before
 -- Of a buffer at entry: the answer, and the buffer at exit.
 abbrev pub Saves : Store → List ℕ → Answer → List ℕ → Type 0
 Saves store before r after = (r ≡ saveAnswer store before) × (after ≡ saveBuffer store before)
+
+-- The same of a lent buffer.
+abbrev pub LentSaves : Store → Lent → Answer → Type 0
+LentSaves store buffer r = Saves store (buffer .entry .now) r (buffer .exit .now)
 
 -- The outcome of a load: it is given no store.
 abbrev pub Loads : List ℕ → Outcome → Type 0

@@ -1,19 +1,25 @@
 -- How many bytes the parts of an image take, and that they are not too many for a machine's number. Assumes nothing.
 use mathlib.Core.Path.{_≡_, refl, ap}
+use mathlib.Core.Bool.{true}
 use mathlib.Core.List.{List, [], _∷_, _++_}
 use Prim.Native.Nat.{ℕ, suc, _+_, _-_, _*_, _<_, _≤_}
 use native.Mathlib.Omega.{arith}
+use native.Mathlib.Decide.{decLt}
 use lib.Dec.{lit≤}
-use lib.ListN.{length, getD, length-append}
+use lib.ListN.{length, getD, length-append, List·getD-eq-default}
 use Rattle.lists.specs.Runs.{run}
 use Rattle.lists.proofs.Running.{length-run, getD-run-0}
 use Rattle.number.specs.Number.{form}
 use Rattle.number.proofs.Forms.{form-length}
 use Rattle.plan.specs.Sizes.{mostNodes}
 use Rattle.store.specs.declared.Copy.{Copy}
+use Rattle.store.specs.declared.Store.{Store}
 use Rattle.store.specs.Layout.{width, nodeIn}
 use Rattle.store.specs.State.{State}
-use Rattle.store.proofs.Laying.{length-node-in}
+use Rattle.store.specs.StoreRules.{StoreRules, goodStore}
+use Rattle.store.proofs.Laying.{length-node-in, every-count, node-fits}
+use Rattle.store.proofs.Lifting.{plan-good}
+use Rattle.store.proofs.Ruling.{good-rules}
 use Rattle.wire.proofs.Parts.{count-on, count-off}
 use Rattle.copies.specs.CopyBytes.{copyBytes}
 use Rattle.copies.proofs.CopyLengths.{longestCopy, copy-short}
@@ -85,6 +91,19 @@ nodes-in-short size counts keys kinds values stamps within =
 
     few : (n : ℕ) → length (f n) ≤ width
     few n = rw (length-node-in counts keys kinds values stamps n) (within n)
+
+-- In a good store no node holds more than its places.
+pub good-within : (z : Store) → goodStore z ≡ true → WithinPlaces (z .counts)
+good-within z good n = go (decLt n mostNodes)
+  where
+    rules : StoreRules z
+    rules = good-rules z good
+
+    go : Dec (n < mostNodes) → getD (z .counts) n 0 ≤ width
+    go (yes h) = omega (arith, every-count z rules n h, node-fits (plan-good z good) (rules .state-rules) n)
+    go (no h) =
+        let e : getD (z .counts) n 0 ≡ 0 = List·getD-eq-default (z .counts) 0 (omega (arith, rules .shape .counts-long)) in
+        omega arith
 
 -- ---- an image
 

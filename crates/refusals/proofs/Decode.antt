@@ -11,7 +11,7 @@ use lib.Dec.{leb, eqb}
 use lib.ListN.{length}
 use borrow.Author.Tests.{lt-ltb, le-ltb, lt-leb, leb-false}
 use Rattle.lists.proofs.Truths.{bool?, not-both, or-cases, or-left, or-right}
-use Rattle.number.specs.Number.{moreBytes, lastByte, EndsEarly, EndsInZero, EndsAbove}
+use Rattle.number.specs.Number.{narrow, EndsEarly, EndsInZero, EndsAbove}
 use Rattle.store.specs.declared.Answer.{Answer}
 use Rattle.store.specs.Answers.{DONE, PLAN, SMALL, CUT, NUMBER, OP, MANY, answer}
 use Rattle.store.specs.Copies.{member}
@@ -78,81 +78,81 @@ module _ (s : List ℕ) where
   step-faults : (at : ℕ) → Faults (λ n. member n (CUT ∷ NUMBER ∷ OP ∷ []) ≡ true) (stepAt s at)
   unfolding stepAt secondAt member
   step-faults at =
-      faults-bind _ _ (faults-number s at refl refl) λ number a.
+      faults-bind _ _ (faults-number narrow s at refl refl) λ number a.
       faults-cond (knownStep number) _ (fault OP at)
-      (faults-bind _ _ (faults-number s a refl refl) λ x b.
-      faults-bind _ _ (faults-cond (hasTwo number) (numberAt s b) (got 0 b) (faults-number s b refl refl) (faults-got 0 b)) λ y c. faults-got _ c)
+      (faults-bind _ _ (faults-number narrow s a refl refl) λ x b.
+      faults-bind _ _ (faults-cond (hasTwo number) (numberAt narrow s b) (got 0 b) (faults-number narrow s b refl refl) (faults-got 0 b)) λ y c. faults-got _ c)
       (faults-fault at refl)
 
   step-op : (start at : ℕ) → (stepAt s start ≡ fault OP at) ↔ UnknownAt s start at
   unfolding stepAt secondAt member
-  step-op start at = (λ e. there (first-fault (numberAt s start) _ .0 e), λ u. back u)
+  step-op start at = (λ e. there (first-fault (numberAt narrow s start) _ .0 e), λ u. back u)
     where
       rest : ℕ → ℕ → Got Step
-      rest number a = bind (numberAt s a) λ x b. bind (secondAt s number b) λ y c. got (stepRecord number x y) c
+      rest number a = bind (numberAt narrow s a) λ x b. bind (secondAt s number b) λ y c. got (stepRecord number x y) c
 
       rest-faults : (number a : ℕ) → Faults (λ n. member n numberFaults ≡ true) (rest number a)
       rest-faults number a =
           faults-bind _ _ (number-faults s a) λ x b.
-          faults-bind _ _ (faults-cond (hasTwo number) (numberAt s b) (got 0 b) (number-faults s b) (faults-got 0 b)) λ y c. faults-got _ c
+          faults-bind _ _ (faults-cond (hasTwo number) (numberAt narrow s b) (got 0 b) (number-faults s b) (faults-got 0 b)) λ y c. faults-got _ c
 
-      in-rest : (number a : ℕ) → numberAt s start ≡ got number a → (knownStep number ≡ true) ⊎ (knownStep number ≡ false)
+      in-rest : (number a : ℕ) → numberAt narrow s start ≡ got number a → (knownStep number ≡ true) ⊎ (knownStep number ≡ false)
           → cond (knownStep number) (rest number a) (fault OP start) ≡ fault OP at → UnknownAt s start at
       in-rest number a r (inl t) e = absurd (not-both (rest-faults number a .each OP at (rw t at e)) refl)
       in-rest number a r (inr f) e =
           record { here = same-fault {A = Step} (rw f at e) .1; number = number; next = a; read = r; unknown = f }
 
-      there : (numberAt s start ≡ fault OP at) ⊎ After (numberAt s start) (λ number a. cond (knownStep number) (rest number a) (fault OP start)) OP at
+      there : (numberAt narrow s start ≡ fault OP at) ⊎ After (numberAt narrow s start) (λ number a. cond (knownStep number) (rest number a) (fault OP start)) OP at
           → UnknownAt s start at
       there (inl e) = absurd (not-both (number-faults s start .each OP at e) refl)
       there (inr h) = in-rest (h .value) (h .next) (h .first) (bool? (knownStep (h .value))) (h .then)
 
-      back : UnknownAt s start at → bind (numberAt s start) (λ number a. cond (knownStep number) (rest number a) (fault OP start)) ≡ fault OP at
+      back : UnknownAt s start at → bind (numberAt narrow s start) (λ number a. cond (knownStep number) (rest number a) (fault OP start)) ≡ fault OP at
       back u =
           bind-got _ _ (u .read) ∙ check-fails (knownStep (u .number)) OP start _ (u .unknown) ∙ ap (λ (n : ℕ). fault OP n) (u .here)
 
   -- CUT and NUMBER: one of the step's numbers cannot be read.
-  step-unread : {start n at : ℕ} → member n numberFaults ≡ true → (stepAt s start ≡ fault n at) ↔ (InStep s start at × (numberAt s at ≡ fault n at))
+  step-unread : {start n at : ℕ} → member n numberFaults ≡ true → (stepAt s start ≡ fault n at) ↔ (InStep s start at × (numberAt narrow s at ≡ fault n at))
   unfolding stepAt secondAt member
-  step-unread {start} {n} {at} is = (λ e. inNumber (first-fault (numberAt s start) _ .0 e), λ h. back (h .0) (h .1))
+  step-unread {start} {n} {at} is = (λ e. inNumber (first-fault (numberAt narrow s start) _ .0 e), λ h. back (h .0) (h .1))
     where
       Unread : Type 0
-      Unread = InStep s start at × (numberAt s at ≡ fault n at)
+      Unread = InStep s start at × (numberAt narrow s at ≡ fault n at)
 
       second : ℕ → ℕ → ℕ → Got Step
       second number x b = bind (secondAt s number b) λ y c. got (stepRecord number x y) c
 
       rest : ℕ → ℕ → Got Step
-      rest number a = bind (numberAt s a) (second number)
+      rest number a = bind (numberAt narrow s a) (second number)
 
       -- A number that cannot be read stops at its own offset.
-      here : {by : ℕ} → InStep s start by → numberAt s by ≡ fault n at → Unread
-      here {by} p e = let h = number-fault-at s by e in (subst (InStep s start) h p, ap (numberAt s) (sym h) ∙ e)
+      here : {by : ℕ} → InStep s start by → numberAt narrow s by ≡ fault n at → Unread
+      here {by} p e = let h = number-fault-at s by e in (subst (InStep s start) h p, ap (numberAt narrow s) (sym h) ∙ e)
 
-      inSecond : {number a x b : ℕ} → numberAt s start ≡ got number a → knownStep number ≡ true → numberAt s a ≡ got x b
+      inSecond : {number a x b : ℕ} → numberAt narrow s start ≡ got number a → knownStep number ≡ true → numberAt narrow s a ≡ got x b
           → (hasTwo number ≡ true) ⊎ (hasTwo number ≡ false)
           → (secondAt s number b ≡ fault n at) ⊎ After (secondAt s number b) (λ y c. got (stepRecord number x y) c) n at → Unread
       inSecond r t q (inl two) (inl e) = here (itsSecond r t q two) (rw two at e)
       inSecond r t q (inr f) (inl e) = absurd (got-or-fault {A = ℕ} refl (rw f at e))
       inSecond r t q w (inr h) = absurd (got-or-fault refl (h .then))
 
-      inFirst : {number a : ℕ} → numberAt s start ≡ got number a → knownStep number ≡ true
-          → (numberAt s a ≡ fault n at) ⊎ After (numberAt s a) (second number) n at → Unread
+      inFirst : {number a : ℕ} → numberAt narrow s start ≡ got number a → knownStep number ≡ true
+          → (numberAt narrow s a ≡ fault n at) ⊎ After (numberAt narrow s a) (second number) n at → Unread
       inFirst r t (inl e) = here (itsFirst r t) e
       inFirst {number} r t (inr h) = inSecond r t (h .first) (bool? (hasTwo number)) (first-fault (secondAt s number (h .next)) _ .0 (h .then))
 
-      known : (number a : ℕ) → numberAt s start ≡ got number a → (knownStep number ≡ true) ⊎ (knownStep number ≡ false)
+      known : (number a : ℕ) → numberAt narrow s start ≡ got number a → (knownStep number ≡ true) ⊎ (knownStep number ≡ false)
           → cond (knownStep number) (rest number a) (fault OP start) ≡ fault n at → Unread
-      known number a r (inl t) e = inFirst r t (first-fault (numberAt s a) (second number) .0 (rw t at e))
+      known number a r (inl t) e = inFirst r t (first-fault (numberAt narrow s a) (second number) .0 (rw t at e))
       known number a r (inr f) e = absurd (not-given numberFaults n is refl (sym (same-fault {A = Step} (rw f at e) .0)))
 
-      inNumber : (numberAt s start ≡ fault n at) ⊎ After (numberAt s start) (λ number a. cond (knownStep number) (rest number a) (fault OP start)) n at
+      inNumber : (numberAt narrow s start ≡ fault n at) ⊎ After (numberAt narrow s start) (λ number a. cond (knownStep number) (rest number a) (fault OP start)) n at
           → Unread
       inNumber (inl e) = here itsNumber e
       inNumber (inr h) = known (h .value) (h .next) (h .first) (bool? (knownStep (h .value))) (h .then)
 
-      back : {by : ℕ} → InStep s start by → numberAt s by ≡ fault n at
-          → bind (numberAt s start) (λ number a. cond (knownStep number) (rest number a) (fault OP start)) ≡ fault n at
+      back : {by : ℕ} → InStep s start by → numberAt narrow s by ≡ fault n at
+          → bind (numberAt narrow s start) (λ number a. cond (knownStep number) (rest number a) (fault OP start)) ≡ fault n at
       back itsNumber e = bind-fault _ _ e
       back (itsFirst {number} r t) e = bind-got _ _ r ∙ check-holds (knownStep number) OP start _ t ∙ bind-fault _ _ e
       back (itsSecond {number} r t q two) e =
@@ -160,12 +160,12 @@ module _ (s : List ℕ) where
 
   pub schedule-stop : (number at : ℕ) → (scheduleAt s ≡ fault number at) ↔ ScheduleStop s number at
   unfolding scheduleAt
-  schedule-stop number at = (λ e. there (first-fault (numberAt s 0) _ .0 e), λ h. back h)
+  schedule-stop number at = (λ e. there (first-fault (numberAt narrow s 0) _ .0 e), λ h. back h)
     where
       rest : ℕ → ℕ → Got Schedule
       rest plan a = bind (stepsAt s mostSteps a) λ xs b. got (record { plan = plan; steps = xs }) b
 
-      in-rest : (plan a : ℕ) → numberAt s 0 ≡ got plan a → (planNumberTest plan ≡ true) ⊎ (planNumberTest plan ≡ false)
+      in-rest : (plan a : ℕ) → numberAt narrow s 0 ≡ got plan a → (planNumberTest plan ≡ true) ⊎ (planNumberTest plan ≡ false)
           → cond (planNumberTest plan) (rest plan a) (fault PLAN 0) ≡ fault number at → ScheduleStop s number at
       in-rest plan a r (inl t) e =
           ⊎-elim
@@ -176,13 +176,13 @@ module _ (s : List ℕ) where
           let w = same-fault {A = Schedule} (rw f at e) in
           bad-plan (record { first = sym (w .1); plan = plan; next = a; read = r; no-such-plan = plan-test-fails plan .0 f }) (sym (w .0))
 
-      there : (numberAt s 0 ≡ fault number at) ⊎ After (numberAt s 0) (λ plan a. cond (planNumberTest plan) (rest plan a) (fault PLAN 0)) number at
+      there : (numberAt narrow s 0 ≡ fault number at) ⊎ After (numberAt narrow s 0) (λ plan a. cond (planNumberTest plan) (rest plan a) (fault PLAN 0)) number at
           → ScheduleStop s number at
       there (inl e) = no-number e
       there (inr h) = in-rest (h .value) (h .next) (h .first) (bool? (planNumberTest (h .value))) (h .then)
 
       back : ScheduleStop s number at
-          → bind (numberAt s 0) (λ plan a. cond (planNumberTest plan) (rest plan a) (fault PLAN 0)) ≡ fault number at
+          → bind (numberAt narrow s 0) (λ plan a. cond (planNumberTest plan) (rest plan a) (fault PLAN 0)) ≡ fault number at
       back (no-number e) = bind-fault _ _ e
       back (bad-plan b e) =
           bind-got _ _ (b .read) ∙ check-fails (planNumberTest (b .plan)) PLAN 0 _ (plan-test-fails (b .plan) .1 (b .no-such-plan))
@@ -199,17 +199,17 @@ module _ (s : List ℕ) where
   steps-faults (suc most) at =
       faults-cond (leb (length s) at) (got [] at) _ (faults-got [] at)
       (faults-bind _ _
-      (faults-bind _ _ (faults-number s at refl refl) λ number a.
+      (faults-bind _ _ (faults-number narrow s at refl refl) λ number a.
       faults-cond (knownStep number) _ (fault OP at)
-      (faults-bind _ _ (faults-number s a refl refl) λ x b.
-      faults-bind _ _ (faults-cond (hasTwo number) (numberAt s b) (got 0 b) (faults-number s b refl refl) (faults-got 0 b)) λ y c. faults-got _ c)
+      (faults-bind _ _ (faults-number narrow s a refl refl) λ x b.
+      faults-bind _ _ (faults-cond (hasTwo number) (numberAt narrow s b) (got 0 b) (faults-number narrow s b refl refl) (faults-got 0 b)) λ y c. faults-got _ c)
       (faults-fault at refl)) λ x a.
       faults-bind _ _ (steps-faults most a) λ xs b. faults-got _ b)
 
   schedule-faults : Faults (λ n. member n scheduleFaults ≡ true) (scheduleAt s)
   unfolding scheduleAt member
   schedule-faults =
-      faults-bind _ _ (faults-number s 0 refl refl) λ plan a.
+      faults-bind _ _ (faults-number narrow s 0 refl refl) λ plan a.
       faults-cond (planNumberTest plan) _ (fault PLAN 0) (faults-bind _ _ (steps-faults mostSteps a) λ xs b. faults-got _ b) (faults-fault 0 refl)
 
 -- ---- the call
@@ -336,7 +336,7 @@ module _ (s : List ℕ) (before : List Step) where
 
   -- CUT and NUMBER: one of the schedule's numbers cannot be read.
   decode-unread : (n at : ℕ) → member n numberFaults ≡ true
-      → (decodeAnswer s before ≡ answer n at 0 0 0) ↔ ((mostSteps ≤ length before) × (InSchedule s at × (numberAt s at ≡ fault n at)))
+      → (decodeAnswer s before ≡ answer n at 0 0 0) ↔ ((mostSteps ≤ length before) × (InSchedule s at × (numberAt narrow s at ≡ fault n at)))
   unfolding member
   decode-unread n at is =
       let f = decode-fault n at (wider (or-cases (eqb n CUT) _ is)) in
@@ -346,21 +346,21 @@ module _ (s : List ℕ) (before : List Step) where
       wider (inl t) = or-left (eqb n CUT) _ t
       wider (inr t) = or-right (eqb n CUT) _ (⊎-elim (λ u. or-left (eqb n NUMBER) _ u) (λ u. absurd (not-both u refl)) (or-cases (eqb n NUMBER) _ t))
 
-      there : ScheduleStop s n at → InSchedule s at × (numberAt s at ≡ fault n at)
-      there (no-number e) = let h = number-fault-at s 0 e in (subst (InSchedule s) h itsPlan, ap (numberAt s) (sym h) ∙ e)
+      there : ScheduleStop s n at → InSchedule s at × (numberAt narrow s at ≡ fault n at)
+      there (no-number e) = let h = number-fault-at s 0 e in (subst (InSchedule s) h itsPlan, ap (numberAt narrow s) (sym h) ∙ e)
       there (bad-plan b e) = absurd (not-given numberFaults n is refl e)
       there (in-steps p (many gs l e)) = absurd (not-given numberFaults n is refl e)
       there (in-steps p (one {n = k} {start} h gs l e)) = let w = step-unread s is .0 e in (inStep {n = k} {start = start} p h gs l (w .0), w .1)
 
-      back : {by : ℕ} → InSchedule s by → numberAt s by ≡ fault n at → ScheduleStop s n at
+      back : {by : ℕ} → InSchedule s by → numberAt narrow s by ≡ fault n at → ScheduleStop s n at
       back itsPlan e = no-number e
       back {by} (inStep {n = k} {start} p h gs l w) e =
           let q = number-fault-at s by e in
-          in-steps p (one {n = k} {start = start} h gs l (step-unread s is .1 (subst (InStep s start) q w, ap (numberAt s) (sym q) ∙ e)))
+          in-steps p (one {n = k} {start = start} h gs l (step-unread s is .1 (subst (InStep s start) q w, ap (numberAt narrow s) (sym q) ∙ e)))
 
   -- "bytes end inside or before a number"
   pub decode-cut : (at : ℕ)
-      → (decodeAnswer s before ≡ answer CUT at 0 0 0) ↔ ((mostSteps ≤ length before) × (InSchedule s at × EndsEarly moreBytes s at))
+      → (decodeAnswer s before ≡ answer CUT at 0 0 0) ↔ ((mostSteps ≤ length before) × (InSchedule s at × EndsEarly (narrow .more) s at))
   unfolding member
   decode-cut at =
       let f = decode-unread CUT at refl in (
@@ -371,7 +371,7 @@ module _ (s : List ℕ) (before : List Step) where
   -- "not shortest, or above 32 bits"
   pub decode-number : (at : ℕ)
       → (decodeAnswer s before ≡ answer NUMBER at 0 0 0)
-      ↔ ((mostSteps ≤ length before) × (InSchedule s at × (EndsInZero moreBytes s at ⊎ EndsAbove lastByte moreBytes s at)))
+      ↔ ((mostSteps ≤ length before) × (InSchedule s at × (EndsInZero (narrow .more) s at ⊎ EndsAbove (narrow .last) (narrow .more) s at)))
   unfolding member
   decode-number at =
       let f = decode-unread NUMBER at refl in (

@@ -10,21 +10,23 @@ use lib.Dec.{eqb}
 use lib.ListN.{length}
 use borrow.Author.Tests.{eqb-true, eqb-false, ne-eqb, ltb-false, le-ltb}
 use Rattle.lists.proofs.Truths.{bool?, not-both}
-use Rattle.number.specs.Number.{moreBytes, lastByte, EndsEarly, EndsInZero, EndsAbove}
+use Rattle.number.specs.Number.{narrow, EndsEarly, EndsInZero, EndsAbove}
 use Rattle.plan.specs.Plan.{Plan}
 use Rattle.plan_table.specs.PlanTable.{planNumbered}
 use Rattle.store.specs.declared.Copy.{Copy}
 use Rattle.store.specs.declared.Outcome.{Outcome}
 use Rattle.store.specs.declared.Store.{Store}
 use Rattle.store.specs.Answers.{DONE, PLAN, CUT, NUMBER, FORMAT, RULE, TRAIL, answer}
-use Rattle.store.specs.Copies.{RESULT, copy, member}
+use Rattle.store.specs.Copies.{hasValue, RESULT, copy, member}
 use Rattle.store.specs.StoreRules.{goodStore}
 use Rattle.wire.specs.Reading.{Got, got, fault, bind, numberAt}
 use Rattle.wire.proofs.Chains.{got-or-fault, bind-got, bind-fault, check-holds, check-fails}
-use Rattle.image.specs.Image.{formatNumber}
-use Rattle.image.specs.Loading.{valueAt, copyAt, copiesAt, nodeAt, nodesAt, nodesFrom, clockFrom, planFrom, imageAt, refusedLoad, loadOutcome}
-use Rattle.image.proofs.LoadEnds.{acceptedLoad, finish-stops, finish-trails, finish-breaks, finish-accepts}
-use Rattle.trips.proofs.LoadWays.{load-number as load-among}
+use Rattle.image_writing.specs.Image.{formatNumber}
+use Rattle.copies.specs.CopyBytes.{readValue, readCopy}
+use Rattle.image_reading.specs.ImageReading.{readCopies, readNode, readNodes, nodesFrom, clockFrom, planFrom, imageAt}
+use Rattle.image_loading.specs.Loading.{refusedLoad, loadOutcome}
+use Rattle.image_loading.proofs.LoadEnds.{acceptedLoad, finish-stops, finish-trails, finish-breaks, finish-accepts}
+use Rattle.image_loading.proofs.LoadWays.{load-number as load-among}
 use Rattle.refusals.specs.Given.{Among}
 use Rattle.refusals.specs.Images.{Own, theFormat, thePlan, theClock, theCount, theKind, nothing, passes, refusal, Passes, Breaks, Fails, InCopy, itsKey, itsKind, itsValue, itsStamp, InCopies, InNode, itsCount, itsCopies, InNodes, InImage, itsFormat, itsPlan, itsClock, itsNodes, StopsAt, BadFormat, BadPlan, RuleAt, clock-0, count-above, kind-above, Trails, BreaksWhole, LoadStop, atNumber, trailing, breaking}
 use Rattle.refusals.proofs.OnStores.{not-given}
@@ -34,7 +36,7 @@ use Rattle.refusals.proofs.Reading.{After, first-fault, same-fault, num
 -- One number with its check, and the rest after it.
 module _ {A : Type 0} (s : List ℕ) (own : Own) (start : ℕ) (rest : ℕ → ℕ → Got A) where
   abbrev staged : Got A
-  staged = bind (numberAt s start) λ v a. cond (passes own v) (rest v a) (fault (refusal own) start)
+  staged = bind (numberAt narrow s start) λ v a. cond (passes own v) (rest v a) (fault (refusal own) start)
 
   -- It fails here, or later.
   data Staged (number at : ℕ) : Type 0 where
@@ -42,19 +44,19 @@ module _ {A : Type 0} (s : List ℕ) (own : Own) (start : ℕ) (rest : ℕ → �
     later : {v next : ℕ} → Passes s own start v next → rest v next ≡ fault number at → Staged number at
 
   stage : {number at : ℕ} → staged ≡ fault number at → Staged number at
-  stage {number} {at} e = ⊎-elim unread then (first-fault (numberAt s start) _ .0 e)
+  stage {number} {at} e = ⊎-elim unread then (first-fault (numberAt narrow s start) _ .0 e)
     where
-      unread : numberAt s start ≡ fault number at → Staged number at
-      unread q = let h = number-fault-at s start q in here h (inl (ap (numberAt s) (sym h) ∙ q))
+      unread : numberAt narrow s start ≡ fault number at → Staged number at
+      unread q = let h = number-fault-at s start q in here h (inl (ap (numberAt narrow s) (sym h) ∙ q))
 
-      go : (v a : ℕ) → numberAt s start ≡ got v a → (passes own v ≡ true) ⊎ (passes own v ≡ false)
+      go : (v a : ℕ) → numberAt narrow s start ≡ got v a → (passes own v ≡ true) ⊎ (passes own v ≡ false)
           → cond (passes own v) (rest v a) (fault (refusal own) start) ≡ fault number at → Staged number at
       go v a r (inl t) q = later (record { read = r; passed = t }) (sym (check-holds (passes own v) (refusal own) start (rest v a) t) ∙ q)
       go v a r (inr f) q =
           let w = same-fault (sym (check-fails (passes own v) (refusal own) start (rest v a) f) ∙ q) in
-          here (w .1) (inr (record { value = v; next = a; read = ap (numberAt s) (sym (w .1)) ∙ r; broken = f; is = w .0 }))
+          here (w .1) (inr (record { value = v; next = a; read = ap (numberAt narrow s) (sym (w .1)) ∙ r; broken = f; is = w .0 }))
 
-      then : After (numberAt s start) (λ v a. cond (passes own v) (rest v a) (fault (refusal own) start)) number at → Staged number at
+      then : After (numberAt narrow s start) (λ v a. cond (passes own v) (rest v a) (fault (refusal own) start)) number at → Staged number at
       then h = go (h .value) (h .next) (h .first) (bool? (passes own (h .value))) (h .then)
 
   stage-here : {number : ℕ} → Fails s own start number → staged ≡ fault number start
@@ -69,49 +71,49 @@ module _ {A : Type 0} (s : List ℕ) (own : Own) (start : ℕ) (rest : ℕ → �
 
 module _ (s : List ℕ) where
   stampRest : ℕ → ℕ → ℕ → ℕ → Got Copy
-  stampRest key kind value c = bind (numberAt s c) λ stamp d. got (copy key kind value stamp) d
+  stampRest key kind value c = bind (numberAt narrow s c) λ stamp d. got (copy key kind value stamp) d
 
   valueRest : ℕ → ℕ → ℕ → Got Copy
-  valueRest key kind b = bind (valueAt s kind b) λ value c. stampRest key kind value c
+  valueRest key kind b = bind (readValue s kind b) λ value c. stampRest key kind value c
 
   kindRest : ℕ → ℕ → Got Copy
-  kindRest key a = bind (numberAt s a) λ kind b. cond (passes theKind kind) (valueRest key kind b) (fault RULE a)
+  kindRest key a = bind (numberAt narrow s a) λ kind b. cond (passes theKind kind) (valueRest key kind b) (fault RULE a)
 
-  copy-stops : {start number at : ℕ} → copyAt s start ≡ fault number at → StopsAt s (InCopy s start) number at
-  unfolding copyAt valueAt stampRest valueRest kindRest
+  copy-stops : {start number at : ℕ} → readCopy s start ≡ fault number at → StopsAt s (InCopy s start) number at
+  unfolding readCopy readValue hasValue stampRest valueRest kindRest
   copy-stops {start} {number} {at} e = inKey (stage s nothing start kindRest e)
     where
       Stop : Type 0
       Stop = StopsAt s (InCopy s start) number at
 
-      inStamp : {key a kind b value c : ℕ} → numberAt s start ≡ got key a → Passes s theKind a kind b → valueAt s kind b ≡ got value c
+      inStamp : {key a kind b value c : ℕ} → numberAt narrow s start ≡ got key a → Passes s theKind a kind b → readValue s kind b ≡ got value c
           → Staged s nothing c (λ stamp d. got (copy key kind value stamp) d) number at → Stop
       inStamp r p v (here h f) = record { own = nothing; place = subst (InCopy s start nothing) h (itsStamp r p v); fails = f }
       inStamp r p v (later q g) = absurd (got-or-fault refl g)
 
-      inValue : {key a kind b : ℕ} → numberAt s start ≡ got key a → Passes s theKind a kind b → (eqb kind RESULT ≡ true) ⊎ (eqb kind RESULT ≡ false)
-          → (valueAt s kind b ≡ fault number at) ⊎ After (valueAt s kind b) (stampRest key kind) number at → Stop
+      inValue : {key a kind b : ℕ} → numberAt narrow s start ≡ got key a → Passes s theKind a kind b → (eqb kind RESULT ≡ true) ⊎ (eqb kind RESULT ≡ false)
+          → (readValue s kind b ≡ fault number at) ⊎ After (readValue s kind b) (stampRest key kind) number at → Stop
       inValue {kind = kind} {b} r p (inl t) (inl g) =
-          let q : numberAt s b ≡ fault number at = rw t at g in
+          let q : numberAt narrow s b ≡ fault number at = rw t at g in
           let h = number-fault-at s b q in
           record {
             own = nothing;
             place = subst (InCopy s start nothing) h (itsValue r (p .read ∙ ap (λ (k : ℕ). got k b) (eqb-true kind RESULT t)));
-            fails = inl (ap (numberAt s) (sym h) ∙ q);
+            fails = inl (ap (numberAt narrow s) (sym h) ∙ q);
           }
       inValue {b = b} r p (inr f) (inl g) = absurd (got-or-fault {A = ℕ} refl (rw f at g))
       inValue {key} {kind = kind} r p w (inr h) = inStamp r p (h .first) (stage s nothing (h .next) (λ stamp d. got (copy key kind (h .value) stamp) d) (h .then))
 
-      inKind : {key a : ℕ} → numberAt s start ≡ got key a → Staged s theKind a (valueRest key) number at → Stop
+      inKind : {key a : ℕ} → numberAt narrow s start ≡ got key a → Staged s theKind a (valueRest key) number at → Stop
       inKind r (here h f) = record { own = theKind; place = subst (InCopy s start theKind) h (itsKind r); fails = f }
-      inKind {key} r (later {v = kind} {next = b} p g) = inValue r p (bool? (eqb kind RESULT)) (first-fault (valueAt s kind b) (stampRest key kind) .0 g)
+      inKind {key} r (later {v = kind} {next = b} p g) = inValue r p (bool? (eqb kind RESULT)) (first-fault (readValue s kind b) (stampRest key kind) .0 g)
 
       inKey : Staged s nothing start kindRest number at → Stop
       inKey (here h f) = record { own = nothing; place = subst (InCopy s start nothing) h itsKey; fails = f }
       inKey (later {v = key} {next = a} p g) = inKind (p .read) (stage s theKind a (valueRest key) g)
 
-  copy-fails : {start number at : ℕ} {own : Own} → InCopy s start own at → Fails s own at number → copyAt s start ≡ fault number at
-  unfolding copyAt valueAt stampRest valueRest kindRest
+  copy-fails : {start number at : ℕ} {own : Own} → InCopy s start own at → Fails s own at number → readCopy s start ≡ fault number at
+  unfolding readCopy readValue hasValue stampRest valueRest kindRest
   copy-fails {start} itsKey f = stage-here s nothing start kindRest f
   copy-fails {start} {at = at} (itsKind {key} r) f =
       stage-later s nothing start kindRest (record { read = r; passed = refl }) ∙ stage-here s theKind at (valueRest key) f
@@ -126,64 +128,64 @@ module _ (s : List ℕ) where
 -- ---- the copies of a node, and nodes
 
 module _ (s : List ℕ) where
-  copies-stop : (n start : ℕ) {number at : ℕ} → copiesAt s n start ≡ fault number at → StopsAt s (InCopies s n start) number at
-  unfolding copiesAt
+  copies-stop : (n start : ℕ) {number at : ℕ} → readCopies s n start ≡ fault number at → StopsAt s (InCopies s n start) number at
+  unfolding readCopies
   copies-stop zero start e = absurd (got-or-fault refl e)
-  copies-stop (suc n) start {number} {at} e = go (λ a q. copies-stop n a q) (first-fault (copyAt s start) _ .0 e)
+  copies-stop (suc n) start {number} {at} e = go (λ a q. copies-stop n a q) (first-fault (readCopy s start) _ .0 e)
     where
       Again : Type 0
-      Again = (a : ℕ) → copiesAt s n a ≡ fault number at → StopsAt s (InCopies s n a) number at
+      Again = (a : ℕ) → readCopies s n a ≡ fault number at → StopsAt s (InCopies s n a) number at
 
-      go : Again → (copyAt s start ≡ fault number at) ⊎ After (copyAt s start) (λ x a. bind (copiesAt s n a) λ xs b. got (x ∷ xs) b) number at
+      go : Again → (readCopy s start ≡ fault number at) ⊎ After (readCopy s start) (λ x a. bind (readCopies s n a) λ xs b. got (x ∷ xs) b) number at
           → StopsAt s (InCopies s (suc n) start) number at
       go again (inl q) = let h = copy-stops s q in record { own = h .own; place = inl (h .place); fails = h .fails }
       go again (inr h) =
           ⊎-elim
           (λ q. let k = again (h .next) q in record { own = k .own; place = inr (h .value, h .next, h .first, k .place); fails = k .fails })
           (λ k. absurd (got-or-fault refl (k .then)))
-          (first-fault (copiesAt s n (h .next)) _ .0 (h .then))
+          (first-fault (readCopies s n (h .next)) _ .0 (h .then))
 
-  copies-fail : (n start : ℕ) {number at : ℕ} {own : Own} → InCopies s n start own at → Fails s own at number → copiesAt s n start ≡ fault number at
-  unfolding copiesAt
+  copies-fail : (n start : ℕ) {number at : ℕ} {own : Own} → InCopies s n start own at → Fails s own at number → readCopies s n start ≡ fault number at
+  unfolding readCopies
   copies-fail zero start h f = absurd h
   copies-fail (suc n) start (inl h) f = bind-fault _ _ (copy-fails s h f)
   copies-fail (suc n) start (inr (x, a, g, h)) f = bind-got _ _ g ∙ bind-fault _ _ (copies-fail n a h f)
 
-  node-stops : {capacity start number at : ℕ} → nodeAt s capacity start ≡ fault number at → StopsAt s (InNode s capacity start) number at
-  unfolding nodeAt
-  node-stops {capacity} {start} {number} {at} e = go (stage s (theCount capacity) start (copiesAt s) e)
+  node-stops : {capacity start number at : ℕ} → readNode s capacity start ≡ fault number at → StopsAt s (InNode s capacity start) number at
+  unfolding readNode
+  node-stops {capacity} {start} {number} {at} e = go (stage s (theCount capacity) start (readCopies s) e)
     where
-      go : Staged s (theCount capacity) start (copiesAt s) number at → StopsAt s (InNode s capacity start) number at
+      go : Staged s (theCount capacity) start (readCopies s) number at → StopsAt s (InNode s capacity start) number at
       go (here h f) = record { own = theCount capacity; place = subst (InNode s capacity start (theCount capacity)) h itsCount; fails = f }
       go (later {v = count} {next = a} p g) =
           let k = copies-stop count a g in record { own = k .own; place = itsCopies p (k .place); fails = k .fails }
 
-  node-fails : {capacity start number at : ℕ} {own : Own} → InNode s capacity start own at → Fails s own at number → nodeAt s capacity start ≡ fault number at
-  unfolding nodeAt
-  node-fails {capacity} {start} itsCount f = stage-here s (theCount capacity) start (copiesAt s) f
-  node-fails {capacity} {start} (itsCopies {count} {a} p h) f = stage-later s (theCount capacity) start (copiesAt s) p ∙ copies-fail count a h f
+  node-fails : {capacity start number at : ℕ} {own : Own} → InNode s capacity start own at → Fails s own at number → readNode s capacity start ≡ fault number at
+  unfolding readNode
+  node-fails {capacity} {start} itsCount f = stage-here s (theCount capacity) start (readCopies s) f
+  node-fails {capacity} {start} (itsCopies {count} {a} p h) f = stage-later s (theCount capacity) start (readCopies s) p ∙ copies-fail count a h f
 
-  nodes-stop : (p : Plan) (start : ℕ) {number at : ℕ} → nodesAt s p start ≡ fault number at → StopsAt s (InNodes s p start) number at
-  unfolding nodesAt
+  nodes-stop : (p : Plan) (start : ℕ) {number at : ℕ} → readNodes s p start ≡ fault number at → StopsAt s (InNodes s p start) number at
+  unfolding readNodes
   nodes-stop [] start e = absurd (got-or-fault refl e)
-  nodes-stop (n ∷ p) start {number} {at} e = go (λ a q. nodes-stop p a q) (first-fault (nodeAt s (n .capacity) start) _ .0 e)
+  nodes-stop (n ∷ p) start {number} {at} e = go (λ a q. nodes-stop p a q) (first-fault (readNode s (n .capacity) start) _ .0 e)
     where
       Again : Type 0
-      Again = (a : ℕ) → nodesAt s p a ≡ fault number at → StopsAt s (InNodes s p a) number at
+      Again = (a : ℕ) → readNodes s p a ≡ fault number at → StopsAt s (InNodes s p a) number at
 
       go : Again
-          → (nodeAt s (n .capacity) start ≡ fault number at)
-          ⊎ After (nodeAt s (n .capacity) start) (λ xs a. bind (nodesAt s p a) λ xss b. got (xs ∷ xss) b) number at
+          → (readNode s (n .capacity) start ≡ fault number at)
+          ⊎ After (readNode s (n .capacity) start) (λ xs a. bind (readNodes s p a) λ xss b. got (xs ∷ xss) b) number at
           → StopsAt s (InNodes s (n ∷ p) start) number at
       go again (inl q) = let h = node-stops q in record { own = h .own; place = inl (h .place); fails = h .fails }
       go again (inr h) =
           ⊎-elim
           (λ q. let k = again (h .next) q in record { own = k .own; place = inr (h .value, h .next, h .first, k .place); fails = k .fails })
           (λ k. absurd (got-or-fault refl (k .then)))
-          (first-fault (nodesAt s p (h .next)) _ .0 (h .then))
+          (first-fault (readNodes s p (h .next)) _ .0 (h .then))
 
-  nodes-fail : (p : Plan) (start : ℕ) {number at : ℕ} {own : Own} → InNodes s p start own at → Fails s own at number → nodesAt s p start ≡ fault number at
-  unfolding nodesAt
+  nodes-fail : (p : Plan) (start : ℕ) {number at : ℕ} {own : Own} → InNodes s p start own at → Fails s own at number → readNodes s p start ≡ fault number at
+  unfolding readNodes
   nodes-fail [] start h f = absurd h
   nodes-fail (n ∷ p) start (inl h) f = bind-fault _ _ (node-fails h f)
   nodes-fail (n ∷ p) start (inr (xs, a, g, h)) f = bind-got _ _ g ∙ bind-fault _ _ (nodes-fail p a h f)
@@ -204,7 +206,7 @@ module _ (s : List ℕ) where
       inNodes {plan = plan} {c = c} f p k e =
           ⊎-elim (λ q. let h = nodes-stop s (planNumbered plan) c q in record { own = h .own; place = itsNodes f p k (h .place); fails = h .fails })
           (λ h. absurd (got-or-fault refl (h .then)))
-          (first-fault (nodesAt s (planNumbered plan) c) _ .0 e)
+          (first-fault (readNodes s (planNumbered plan) c) _ .0 e)
 
       inClock : {format a plan b : ℕ} → Passes s theFormat 0 format a → Passes s thePlan a plan b → Staged s theClock b (nodesFrom s plan) number at → Stop
       inClock f p (here h g) = record { own = theClock; place = subst (InImage s theClock) h (itsClock f p); fails = g }
@@ -332,31 +334,31 @@ module _ (s : List ℕ) where
       go (accepts e) f = absurd (not-done (ap (λ (o : Outcome). o .answer .number) (sym f ∙ e)))
 
   -- "CUT: bytes end inside or before a number"
-  pub load-cut : (at : ℕ) → (loadOutcome s ≡ refusedLoad CUT at) ↔ ((own : Own) × InImage s own at × EndsEarly moreBytes s at)
+  pub load-cut : (at : ℕ) → (loadOutcome s ≡ refusedLoad CUT at) ↔ ((own : Own) × InImage s own at × EndsEarly (narrow .more) s at)
   unfolding member
   load-cut at =
       let f = load-refusal CUT at (λ q. omega arith) in
       (λ e. there (f .0 e), λ h. f .1 (atNumber (record { own = h .0; place = h .1; fails = inl (number-cut s at .1 (h .2)) })))
     where
-      fails : (own : Own) → InImage s own at → Fails s own at CUT → (own : Own) × InImage s own at × EndsEarly moreBytes s at
+      fails : (own : Own) → InImage s own at → Fails s own at CUT → (own : Own) × InImage s own at × EndsEarly (narrow .more) s at
       fails own p (inl e) = (own, p, number-cut s at .0 e)
       fails own p (inr b) = absurd (own-not own (b .is) refl)
 
-      there : LoadStop s CUT at → (own : Own) × InImage s own at × EndsEarly moreBytes s at
+      there : LoadStop s CUT at → (own : Own) × InImage s own at × EndsEarly (narrow .more) s at
       there (atNumber h) = fails (h .own) (h .place) (h .fails)
       there (trailing h e) = absurd (omega arith)
       there (breaking h e) = absurd (omega arith)
 
   -- "NUMBER: not shortest, or above 32 bits"
   pub load-number : (at : ℕ)
-      → (loadOutcome s ≡ refusedLoad NUMBER at) ↔ ((own : Own) × InImage s own at × (EndsInZero moreBytes s at ⊎ EndsAbove lastByte moreBytes s at))
+      → (loadOutcome s ≡ refusedLoad NUMBER at) ↔ ((own : Own) × InImage s own at × (EndsInZero (narrow .more) s at ⊎ EndsAbove (narrow .last) (narrow .more) s at))
   unfolding member
   load-number at =
       let f = load-refusal NUMBER at (λ q. omega arith) in
       (λ e. there (f .0 e), λ h. f .1 (atNumber (record { own = h .0; place = h .1; fails = inl (number-malformed s at .1 (h .2)) })))
     where
       Spoilt : Type 0
-      Spoilt = (own : Own) × InImage s own at × (EndsInZero moreBytes s at ⊎ EndsAbove lastByte moreBytes s at)
+      Spoilt = (own : Own) × InImage s own at × (EndsInZero (narrow .more) s at ⊎ EndsAbove (narrow .last) (narrow .more) s at)
 
       fails : (own : Own) → InImage s own at → Fails s own at NUMBER → Spoilt
       fails own p (inl e) = (own, p, number-malformed s at .0 e)

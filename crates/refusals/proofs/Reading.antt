@@ -10,7 +10,7 @@ use native.Mathlib.Omega.{arith}
 use lib.ListN.{length}
 use Rattle.number.specs.declared.Reading.{Reading}
 use Rattle.number.specs.declared.Reading.the-variants.{Value, Cut, Malformed}
-use Rattle.number.specs.Number.{moreBytes, lastByte, readAt, EndsEarly, EndsInZero, EndsAbove}
+use Rattle.number.specs.Number.{narrow, readAt, EndsEarly, EndsInZero, EndsAbove}
 use Rattle.number.proofs.Ways.{read-cut}
 use Rattle.number.proofs.Refusals.{cut-when, malformed-when}
 use Rattle.store.specs.Answers.{CUT, NUMBER}
@@ -55,14 +55,14 @@ first-fault {A} {B} (fault n a) f {number} {at} = (λ e. inl (fault-of e), ⊎-e
 abbrev pub numberFaults : List ℕ
 numberFaults = CUT ∷ NUMBER ∷ []
 
-pub number-faults : (s : List ℕ) (at : ℕ) → Faults (λ n. member n numberFaults ≡ true) (numberAt s at)
+pub number-faults : (s : List ℕ) (at : ℕ) → Faults (λ n. member n numberFaults ≡ true) (numberAt narrow s at)
 unfolding member
-number-faults s at = faults-number s at refl refl
+number-faults s at = faults-number narrow s at refl refl
 
 -- They are given at the number's own offset.
-pub number-fault-at : (s : List ℕ) (at : ℕ) {n by : ℕ} → numberAt s at ≡ fault n by → at ≡ by
+pub number-fault-at : (s : List ℕ) (at : ℕ) {n by : ℕ} → numberAt narrow s at ≡ fault n by → at ≡ by
 unfolding numberAt numbered
-number-fault-at s at {n} {by} = go (readAt s at)
+number-fault-at s at {n} {by} = go (readAt narrow s at)
   where
     go : (r : Reading) → numbered at r ≡ fault n by → at ≡ by
     go (Value v next) e = absurd (got-or-fault refl e)
@@ -70,18 +70,18 @@ number-fault-at s at {n} {by} = go (readAt s at)
     go Malformed e = same-fault e .1
 
 -- A number that is read begins before the bytes end.
-pub number-inside : (s : List ℕ) (at : ℕ) {v next : ℕ} → numberAt s at ≡ got v next → at < length s
+pub number-inside : (s : List ℕ) (at : ℕ) {v next : ℕ} → numberAt narrow s at ≡ got v next → at < length s
 unfolding numberAt numbered readAt
 number-inside s at {v} {next} e = go (decLt at (length s))
   where
     go : Dec (at < length s) → at < length s
     go (yes h) = h
-    go (no h) = absurd (got-or-fault e (ap (numbered at) (read-cut s lastByte true at moreBytes (omega arith))))
+    go (no h) = absurd (got-or-fault e (ap (numbered at) (read-cut s (narrow .last) true at (narrow .more) (omega arith))))
 
 -- "CUT is given only if the bytes end after none to four, all with the top bit set."
-pub number-cut : (s : List ℕ) (at : ℕ) → (numberAt s at ≡ fault CUT at) ↔ EndsEarly moreBytes s at
+pub number-cut : (s : List ℕ) (at : ℕ) → (numberAt narrow s at ≡ fault CUT at) ↔ EndsEarly (narrow .more) s at
 unfolding numberAt numbered
-number-cut s at = (λ e. cut-when s at .0 (go (readAt s at) e), λ h. ap (numbered at) (cut-when s at .1 h))
+number-cut s at = (λ e. cut-when narrow s at .0 (go (readAt narrow s at) e), λ h. ap (numbered at) (cut-when narrow s at .1 h))
   where
     go : (r : Reading) → numbered at r ≡ fault CUT at → r ≡ Cut
     go (Value v next) e = absurd (got-or-fault refl e)
@@ -90,9 +90,9 @@ number-cut s at = (λ e. cut-when s at .0 (go (readAt s at) e), λ h. ap (number
 
 -- "a fifth above 0F, or a last byte 00 after others, is NUMBER"
 pub number-malformed : (s : List ℕ) (at : ℕ)
-    → (numberAt s at ≡ fault NUMBER at) ↔ (EndsInZero moreBytes s at ⊎ EndsAbove lastByte moreBytes s at)
+    → (numberAt narrow s at ≡ fault NUMBER at) ↔ (EndsInZero (narrow .more) s at ⊎ EndsAbove (narrow .last) (narrow .more) s at)
 unfolding numberAt numbered
-number-malformed s at = (λ e. malformed-when s at .0 (go (readAt s at) e), λ h. ap (numbered at) (malformed-when s at .1 h))
+number-malformed s at = (λ e. malformed-when narrow s at .0 (go (readAt narrow s at) e), λ h. ap (numbered at) (malformed-when narrow s at .1 h))
   where
     go : (r : Reading) → numbered at r ≡ fault NUMBER at → r ≡ Malformed
     go (Value v next) e = absurd (got-or-fault refl e)

@@ -14,7 +14,7 @@ use Rattle.store.specs.Answers.{DONE, BADSTORE, SMALL, answer, bare}
 use Rattle.store.specs.Copies.{member}
 use Rattle.store.specs.StoreRules.{goodStore}
 use Rattle.wire.proofs.Buffers.{small-answer, small-buffer, done-answer}
-use Rattle.image.specs.Image.{image}
+use Rattle.image_writing.specs.Image.{image}
 use Rattle.image.specs.Promises.{saveAnswer, saveBuffer}
 use Rattle.refusals.specs.Given.{Among}
 

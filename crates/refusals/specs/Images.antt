@@ -7,6 +7,7 @@ use mathlib.Core.Logic.{_≢_, _⊎_}
 use Prim.Native.Nat.{ℕ, zero, suc, _<_, _≤_}
 use lib.Dec.{ltb, eqb}
 use lib.ListN.{length}
+use Rattle.number.specs.Number.{narrow}
 use Rattle.plan.specs.Plan.{Plan}
 use Rattle.plan_table.specs.PlanTable.{planNumbered}
 use Rattle.store.specs.declared.Copy.{Copy}
@@ -15,8 +16,9 @@ use Rattle.store.specs.Answers.{PLAN, FORMAT, RULE, TRAIL}
 use Rattle.store.specs.Copies.{RESULT}
 use Rattle.store.specs.StoreRules.{planNumberTest, goodStore}
 use Rattle.wire.specs.Reading.{got, fault, numberAt}
-use Rattle.image.specs.Image.{formatNumber}
-use Rattle.image.specs.Loading.{valueAt, copyAt, nodeAt, imageAt}
+use Rattle.image_writing.specs.Image.{formatNumber}
+use Rattle.copies.specs.CopyBytes.{readValue, readCopy}
+use Rattle.image_reading.specs.ImageReading.{readNode, imageAt}
 use Rattle.refusals.specs.Given.{IsPlan}
 
 -- What a number of an image is checked for, once it is read.
@@ -48,34 +50,34 @@ refusal nothing = RULE
 
 -- A number is read, and passes its check.
 pub record Passes (s : List ℕ) (own : Own) (at value next : ℕ) : Type 0 where
-  pub read : numberAt s at ≡ got value next
+  pub read : numberAt narrow s at ≡ got value next
   pub passed : passes own value ≡ true
 
 -- A number is read, and fails its check.
 pub record Breaks (s : List ℕ) (own : Own) (at number : ℕ) : Type 0 where
   pub value : ℕ
   pub next : ℕ
-  pub read : numberAt s at ≡ got value next
+  pub read : numberAt narrow s at ≡ got value next
   pub broken : passes own value ≡ false
   pub is : refusal own ≡ number
 
 -- "For each number CUT, NUMBER, then its own check."
 abbrev pub Fails : List ℕ → Own → ℕ → ℕ → Type 0
-Fails s own at number = (numberAt s at ≡ fault number at) ⊎ Breaks s own at number
+Fails s own at number = (numberAt narrow s at ≡ fault number at) ⊎ Breaks s own at number
 
 -- The numbers of a copy that begins at an offset: each with its check, and those before it read.
 pub data InCopy (s : List ℕ) (start : ℕ) : Own → ℕ → Type 0 where
   itsKey : InCopy s start nothing start
-  itsKind : {key at : ℕ} → numberAt s start ≡ got key at → InCopy s start theKind at
-  itsValue : {key a at : ℕ} → numberAt s start ≡ got key a → numberAt s a ≡ got RESULT at → InCopy s start nothing at
-  itsStamp : {key a kind b value at : ℕ} → numberAt s start ≡ got key a → Passes s theKind a kind b → valueAt s kind b ≡ got value at
+  itsKind : {key at : ℕ} → numberAt narrow s start ≡ got key at → InCopy s start theKind at
+  itsValue : {key a at : ℕ} → numberAt narrow s start ≡ got key a → numberAt narrow s a ≡ got RESULT at → InCopy s start nothing at
+  itsStamp : {key a kind b value at : ℕ} → numberAt narrow s start ≡ got key a → Passes s theKind a kind b → readValue s kind b ≡ got value at
       → InCopy s start nothing at
 
 -- The numbers of so many copies that begin at an offset.
 abbrev pub InCopies : List ℕ → ℕ → ℕ → Own → ℕ → Type 0
 InCopies s zero start own at = ⊥
 InCopies s (suc n) start own at =
-    InCopy s start own at ⊎ ((x : Copy) × (next : ℕ) × (copyAt s start ≡ got x next) × InCopies s n next own at)
+    InCopy s start own at ⊎ ((x : Copy) × (next : ℕ) × (readCopy s start ≡ got x next) × InCopies s n next own at)
 
 -- The numbers of a node: its count, and those of its copies.
 pub data InNode (s : List ℕ) (capacity start : ℕ) : Own → ℕ → Type 0 where
@@ -87,7 +89,7 @@ abbrev pub InNodes : List ℕ → Plan → ℕ → Own → ℕ → Type 0
 InNodes s [] start own at = ⊥
 InNodes s (n ∷ p) start own at =
     InNode s (n .capacity) start own at
-    ⊎ ((xs : List Copy) × (next : ℕ) × (nodeAt s (n .capacity) start ≡ got xs next) × InNodes s p next own at)
+    ⊎ ((xs : List Copy) × (next : ℕ) × (readNode s (n .capacity) start ≡ got xs next) × InNodes s p next own at)
 
 -- The numbers of an image, each with its check, all those before it read and their checks passed.
 pub data InImage (s : List ℕ) : Own → ℕ → Type 0 where
@@ -108,22 +110,22 @@ pub record BadFormat (s : List ℕ) (at : ℕ) : Type 0 where
   pub first : at ≡ 0
   pub format : ℕ
   pub next : ℕ
-  pub read : numberAt s 0 ≡ got format next
+  pub read : numberAt narrow s 0 ≡ got format next
   pub not-one : format ≢ formatNumber
 
 -- PLAN: "plan not 1 to 3".
 pub record BadPlan (s : List ℕ) (at : ℕ) : Type 0 where
-  pub format : numberAt s 0 ≡ got formatNumber at
+  pub format : numberAt narrow s 0 ≡ got formatNumber at
   pub plan : ℕ
   pub next : ℕ
-  pub read : numberAt s at ≡ got plan next
+  pub read : numberAt narrow s at ≡ got plan next
   pub no-such-plan : IsPlan plan → ⊥
 
 -- RULE at a number: "RULE for clock 0, count above capacity, kind above 1".
 pub data RuleAt (s : List ℕ) (at : ℕ) : Type 0 where
-  clock-0 : {next : ℕ} → InImage s theClock at → numberAt s at ≡ got 0 next → RuleAt s at
-  count-above : {capacity count next : ℕ} → InImage s (theCount capacity) at → numberAt s at ≡ got count next → capacity < count → RuleAt s at
-  kind-above : {kind next : ℕ} → InImage s theKind at → numberAt s at ≡ got kind next → 1 < kind → RuleAt s at
+  clock-0 : {next : ℕ} → InImage s theClock at → numberAt narrow s at ≡ got 0 next → RuleAt s at
+  count-above : {capacity count next : ℕ} → InImage s (theCount capacity) at → numberAt narrow s at ≡ got count next → capacity < count → RuleAt s at
+  kind-above : {kind next : ℕ} → InImage s theKind at → numberAt narrow s at ≡ got kind next → 1 < kind → RuleAt s at
 
 -- TRAIL: "bytes after the image".
 pub record Trails (s : List ℕ) (at : ℕ) : Type 0 where

@@ -5,6 +5,7 @@ use mathlib.Core.Bool.{true, false}
 use mathlib.Core.List.{List, [], _∷_}
 use Prim.Native.Nat.{ℕ, zero, suc, _<_}
 use lib.ListN.{length}
+use Rattle.number.specs.Number.{narrow}
 use Rattle.store.specs.Answers.{PLAN, CUT, NUMBER, OP, MANY}
 use Rattle.wire.specs.Reading.{got, fault, numberAt}
 use Rattle.schedule.specs.declared.Step.{Step}
@@ -28,8 +29,8 @@ pub data StepsStop (s : List ℕ) (most from number at : ℕ) : Type 0 where
 -- The numbers of a step that begins at an offset, those before it read.
 pub data InStep (s : List ℕ) (start : ℕ) : ℕ → Type 0 where
   itsNumber : InStep s start start
-  itsFirst : {number at : ℕ} → numberAt s start ≡ got number at → knownStep number ≡ true → InStep s start at
-  itsSecond : {number a x at : ℕ} → numberAt s start ≡ got number a → knownStep number ≡ true → numberAt s a ≡ got x at → hasTwo number ≡ true
+  itsFirst : {number at : ℕ} → numberAt narrow s start ≡ got number at → knownStep number ≡ true → InStep s start at
+  itsSecond : {number a x at : ℕ} → numberAt narrow s start ≡ got number a → knownStep number ≡ true → numberAt narrow s a ≡ got x at → hasTwo number ≡ true
       → InStep s start at
 
 -- OP: the number at a step's start is read, and is no step's.
@@ -37,13 +38,13 @@ pub record UnknownAt (s : List ℕ) (start at : ℕ) : Type 0 where
   pub here : start ≡ at
   pub number : ℕ
   pub next : ℕ
-  pub read : numberAt s start ≡ got number next
+  pub read : numberAt narrow s start ≡ got number next
   pub unknown : knownStep number ≡ false
 
 -- The plan's number is read, and is 1 to 3.
 pub record PlanRead (s : List ℕ) (from : ℕ) : Type 0 where
   pub plan : ℕ
-  pub read : numberAt s 0 ≡ got plan from
+  pub read : numberAt narrow s 0 ≡ got plan from
   pub is-plan : IsPlan plan
 
 -- PLAN: the plan's number is read, and is not 1 to 3.
@@ -51,12 +52,12 @@ pub record BadSchedulePlan (s : List ℕ) (at : ℕ) : Type 0 where
   pub first : at ≡ 0
   pub plan : ℕ
   pub next : ℕ
-  pub read : numberAt s 0 ≡ got plan next
+  pub read : numberAt narrow s 0 ≡ got plan next
   pub no-such-plan : IsPlan plan → ⊥
 
 -- A schedule stops: its plan's number is not read, or is no plan's, or its steps stop.
 pub data ScheduleStop (s : List ℕ) (number at : ℕ) : Type 0 where
-  no-number : numberAt s 0 ≡ fault number at → ScheduleStop s number at
+  no-number : numberAt narrow s 0 ≡ fault number at → ScheduleStop s number at
   bad-plan : BadSchedulePlan s at → number ≡ PLAN → ScheduleStop s number at
   in-steps : {from : ℕ} → PlanRead s from → StepsStop s mostSteps from number at → ScheduleStop s number at
 

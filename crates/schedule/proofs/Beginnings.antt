@@ -9,7 +9,7 @@ use lib.ListN.{length, take, length-take}
 use lib.Seq.{getD-take}
 use borrow.Author.Tests.{leb-true, le-leb}
 use Rattle.lists.proofs.Truths.{same-test}
-use Rattle.number.specs.Number.{Bytes, lastByte, moreBytes, readIn, readAt}
+use Rattle.number.specs.Number.{narrow, Bytes, readIn, readAt}
 use Rattle.store.specs.Answers.{PLAN, OP}
 use Rattle.store.specs.StoreRules.{planNumberTest}
 use Rattle.wire.specs.Reading.{Got, got, fault, bind, numbered, numberAt}
@@ -51,9 +51,9 @@ module _ (s : List ℕ) (n : ℕ) where
   read-same last (suc more) first at h =
       rw (ends-same at (omega arith), getD-take n s at 0 (omega arith), read-same last more false (at + 1) (omega arith))
 
-  number-same : (at : ℕ) → at + 5 ≤ n → numberAt (take n s) at ≡ numberAt s at
+  number-same : (at : ℕ) → at + 5 ≤ n → numberAt narrow (take n s) at ≡ numberAt narrow s at
   unfolding numberAt readAt
-  number-same at h = ap (numbered at) (read-same lastByte moreBytes true at (omega arith))
+  number-same at h = ap (numbered at) (read-same (narrow .last) (narrow .more) true at (omega arith))
 
   second-same : (number at : ℕ) → at + 5 ≤ n → secondAt (take n s) number at ≡ secondAt s number at
   unfolding secondAt

@@ -10,6 +10,7 @@ use lib.ListN.{length, drop, set, length-append}
 use lib.Seq.{drop-cons, append-snoc, set-append-seam}
 use borrow.Author.Tests.{lt-ltb, le-ltb, lt-leb, le-leb, eq-eqb, ne-eqb}
 use Rattle.lists.proofs.Truths.{not-both}
+use Rattle.number.specs.Number.{narrow}
 use Rattle.store.specs.Answers.{DONE, PLAN, SMALL, OP, MANY, answer}
 use Rattle.store.specs.StoreRules.{planNumberTest}
 use Rattle.wire.specs.declared.Num.{Num}
@@ -41,7 +42,7 @@ module _ (number : ℕ) where
   two-carry e = rw (ne-eqb number ENTER e)
 
   module _ (s : List ℕ) (at : ℕ) where
-    pub second-read : {r : Num} → hasTwo number ≡ true → r ≡ numOf (numberAt s at) → r ≡ numOf (secondAt s number at)
+    pub second-read : {r : Num} → hasTwo number ≡ true → r ≡ numOf (numberAt narrow s at) → r ≡ numOf (secondAt s number at)
     unfolding secondAt
     second-read t e = rw t e
 
@@ -52,21 +53,21 @@ module _ (number : ℕ) where
 -- ---- read_step
 
 module _ (s : List ℕ) (at : ℕ) where
-  pub step-no-number : {k a : ℕ} → numberAt s at ≡ fault k a → stepReadOf (fault k a) ≡ stepReadOf (stepAt s at)
+  pub step-no-number : {k a : ℕ} → numberAt narrow s at ≡ fault k a → stepReadOf (fault k a) ≡ stepReadOf (stepAt s at)
   unfolding stepAt
   step-no-number e = ap stepReadOf (sym (bind-fault _ _ e))
 
-  module _ {number a : ℕ} (n : numberAt s at ≡ got number a) where
+  module _ {number a : ℕ} (n : numberAt narrow s at ≡ got number a) where
     pub step-unknown : knownStep number ≡ false → stepReadOf (fault OP at) ≡ stepReadOf (stepAt s at)
     unfolding stepAt
     step-unknown t = ap stepReadOf (sym (bind-got _ _ n ∙ check-fails (knownStep number) OP at _ t))
 
     module _ (t : knownStep number ≡ true) where
-      pub step-no-x : {k b : ℕ} → numberAt s a ≡ fault k b → stepReadOf (fault k b) ≡ stepReadOf (stepAt s at)
+      pub step-no-x : {k b : ℕ} → numberAt narrow s a ≡ fault k b → stepReadOf (fault k b) ≡ stepReadOf (stepAt s at)
       unfolding stepAt
       step-no-x e = ap stepReadOf (sym (bind-got _ _ n ∙ check-holds (knownStep number) OP at _ t ∙ bind-fault _ _ e))
 
-      module _ {x b : ℕ} (f : numberAt s a ≡ got x b) where
+      module _ {x b : ℕ} (f : numberAt narrow s a ≡ got x b) where
         pub step-no-y : {k c : ℕ} → secondAt s number b ≡ fault k c → stepReadOf (fault k c) ≡ stepReadOf (stepAt s at)
         unfolding stepAt
         step-no-y e =
@@ -186,11 +187,11 @@ module _ {s : List ℕ} {from : ℕ} {list : List Step} {count at : ℕ} (sofar 
 -- ---- read_schedule, decode_into
 
 module _ (s : List ℕ) where
-  pub schedule-no-plan : {k a : ℕ} → numberAt s 0 ≡ fault k a → decodedOf (fault k a) ≡ decodedOf (scheduleAt s)
+  pub schedule-no-plan : {k a : ℕ} → numberAt narrow s 0 ≡ fault k a → decodedOf (fault k a) ≡ decodedOf (scheduleAt s)
   unfolding scheduleAt
   schedule-no-plan e = ap decodedOf (sym (bind-fault _ _ e))
 
-  module _ {plan a : ℕ} (n : numberAt s 0 ≡ got plan a) where
+  module _ {plan a : ℕ} (n : numberAt narrow s 0 ≡ got plan a) where
     pub schedule-bad-plan : planNumberTest plan ≡ false → decodedOf (fault PLAN 0) ≡ decodedOf (scheduleAt s)
     unfolding scheduleAt
     schedule-bad-plan t = ap decodedOf (sym (bind-got _ _ n ∙ check-fails (planNumberTest plan) PLAN 0 _ t))

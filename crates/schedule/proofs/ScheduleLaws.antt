@@ -14,7 +14,7 @@ use Rattle.lists.proofs.Truths.{bool?, not-both, both-le}
 use Rattle.lists.proofs.Standing.{stands-fits-some}
 use Rattle.number.specs.declared.Reading.{Reading}
 use Rattle.number.specs.declared.Reading.the-variants.{Value, Cut, Malformed}
-use Rattle.number.specs.Number.{Bytes, form, moreBytes, readAt}
+use Rattle.number.specs.Number.{narrow, Bytes, form, readAt}
 use Rattle.number.proofs.Forms.{form-one, form-some, form-length}
 use Rattle.plan.specs.Sizes.{lastKey}
 use Rattle.plan_table.specs.PlanTable.{planTable, plans}
@@ -39,7 +39,7 @@ steps-few s (suc most) at =
 few-gives : (s : List ℕ) → Gives (λ d end. length (d .steps) ≤ mostSteps) (scheduleAt s)
 unfolding scheduleAt
 few-gives s =
-    gives-bind (numberAt s 0) _ (gives-any _) λ plan a u.
+    gives-bind (numberAt narrow s 0) _ (gives-any _) λ plan a u.
     gives-check (planNumberTest plan) PLAN 0 _ λ t.
     gives-bind (stepsAt s mostSteps a) _ (steps-few s mostSteps a) λ xs b h. gives-got h
 
@@ -99,7 +99,7 @@ pub record ScheduleGiven (s : List ℕ) (d : Schedule) (end : ℕ) : Type 0 wher
 -- A number below 128 has one byte.
 one-byte : (v : ℕ) → v < 128 → length (form v) ≡ 1
 unfolding form
-one-byte v h = ap length (form-one moreBytes v h)
+one-byte v h = ap length (form-one (narrow .more) v h)
 
 -- Step numbers are 1 to 6, and plans have one byte too.
 pub known-between : (number : ℕ) → knownStep number ≡ true → (ENTER ≤ number) × (number ≤ CANCEL)
@@ -113,7 +113,7 @@ plan-small plan t = let k = both-le 1 plan plan plans t in omega arith
 plan-gives : (s : List ℕ) → Gives (λ d end. d .plan < 128) (scheduleAt s)
 unfolding scheduleAt
 plan-gives s =
-    gives-bind (numberAt s 0) _ (gives-any _) λ plan a u.
+    gives-bind (numberAt narrow s 0) _ (gives-any _) λ plan a u.
     gives-check (planNumberTest plan) PLAN 0 _ λ t.
     gives-bind (stepsAt s mostSteps a) _ (gives-any _) λ xs b h. gives-got (plan-small plan t)
 
@@ -152,7 +152,7 @@ module _ (s : List ℕ) where
       each (suc i) l = h .written i (le-of-suc-le-suc l)
 
 module _ (s : List ℕ) (bytes : Bytes s) where
-  pub number-given : (at : ℕ) → Gives (NumberGiven s at) (numberAt s at)
+  pub number-given : (at : ℕ) → Gives (NumberGiven s at) (numberAt narrow s at)
   number-given at =
       record {
         each = λ v next e.
@@ -182,9 +182,9 @@ module _ (s : List ℕ) (bytes : Bytes s) where
   pub step-given : (at : ℕ) → Gives (StepGiven s at) (stepAt s at)
   unfolding stepAt
   step-given at =
-      gives-bind (numberAt s at) _ (number-given at) λ number a n.
+      gives-bind (numberAt narrow s at) _ (number-given at) λ number a n.
       gives-check (knownStep number) OP at _ λ t.
-      gives-bind (numberAt s a) _ (number-given a) λ x b m.
+      gives-bind (numberAt narrow s a) _ (number-given a) λ x b m.
       gives-bind (secondAt s number b) _ (second-given number b) λ y c q.
       let k = known-between number t in
       let o : a ≡ at + 1 = n .one (omega arith) in
@@ -213,7 +213,7 @@ module _ (s : List ℕ) (bytes : Bytes s) where
   pub schedule-given : Gives (ScheduleGiven s) (scheduleAt s)
   unfolding scheduleAt
   schedule-given =
-      gives-bind (numberAt s 0) _ (number-given 0) λ plan a n.
+      gives-bind (numberAt narrow s 0) _ (number-given 0) λ plan a n.
       gives-check (planNumberTest plan) PLAN 0 _ λ t.
       gives-bind (stepsAt s mostSteps a) _ (gives-both (steps-few s mostSteps a) (steps-given mostSteps a)) λ xs b h.
       let o : a ≡ 0 + 1 = n .one (plan-small plan t) in
@@ -250,9 +250,9 @@ pub record Refused (s : List ℕ) (number at : ℕ) : Type 0 where
   pub refusal : 2 ≤ number
   pub within : at ≤ length s
 
-number-stops : (s : List ℕ) (at : ℕ) → at ≤ length s → Stops (Refused s) (numberAt s at)
+number-stops : (s : List ℕ) (at : ℕ) → at ≤ length s → Stops (Refused s) (numberAt narrow s at)
 unfolding numberAt numbered
-number-stops s at h = go (readAt s at)
+number-stops s at h = go (readAt narrow s at)
   where
     go : (r : Reading) → Stops (Refused s) (numbered at r)
     go (Value v next) = stops-got v next
@@ -263,10 +263,10 @@ module _ (s : List ℕ) (bytes : Bytes s) where
   step-stops : (at : ℕ) → at ≤ length s → Stops (Refused s) (stepAt s at)
   unfolding stepAt secondAt
   step-stops at h =
-      stops-bind (numberAt s at) _ (number-stops s at h) (number-given s bytes at) λ number a n.
+      stops-bind (numberAt narrow s at) _ (number-stops s at h) (number-given s bytes at) λ number a n.
       stops-cond (knownStep number) _ _
       (λ t.
-      stops-bind (numberAt s a) _ (number-stops s a (n .within)) (number-given s bytes a) λ x b m.
+      stops-bind (numberAt narrow s a) _ (number-stops s a (n .within)) (number-given s bytes a) λ x b m.
       stops-bind (secondAt s number b) _
       (stops-cond (hasTwo number) _ _ (λ u. number-stops s b (m .within)) (λ u. stops-got 0 b)) (gives-any _) λ y c q. stops-got _ c)
       (λ t. stops-fault (record { refusal = omega arith; within = h }))
@@ -283,7 +283,7 @@ module _ (s : List ℕ) (bytes : Bytes s) where
   schedule-stops : Stops (Refused s) (scheduleAt s)
   unfolding scheduleAt
   schedule-stops =
-      stops-bind (numberAt s 0) _ (number-stops s 0 (omega arith)) (number-given s bytes 0) λ plan a n.
+      stops-bind (numberAt narrow s 0) _ (number-stops s 0 (omega arith)) (number-given s bytes 0) λ plan a n.
       stops-cond (planNumberTest plan) _ _
       (λ t. stops-bind (stepsAt s mostSteps a) _ (steps-stop mostSteps a (n .within)) (gives-any _) λ xs b u. stops-got _ b)
       (λ t. stops-fault (record { refusal = omega arith; within = omega arith }))

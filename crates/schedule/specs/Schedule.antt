@@ -5,6 +5,7 @@ use mathlib.Core.List.{List, [], _∷_, _++_}
 use Prim.Native.Nat.{ℕ, zero, suc}
 use lib.Dec.{leb, ltb, eqb}
 use lib.ListN.{length, drop}
+use Rattle.number.specs.Number.{narrow}
 use Rattle.store.specs.declared.Answer.{Answer}
 use Rattle.store.specs.Answers.{DONE, PLAN, SMALL, OP, MANY, answer}
 use Rattle.store.specs.StoreRules.{planNumberTest}
@@ -53,14 +54,14 @@ hasTwo number = eqb number ENTER || eqb number CARRY
 
 -- The second number, where there is one.
 unfoldable pub secondAt : List ℕ → ℕ → ℕ → Got ℕ
-secondAt s number at = cond (hasTwo number) (numberAt s at) (got 0 at)
+secondAt s number at = cond (hasTwo number) (numberAt narrow s at) (got 0 at)
 
 -- A step: its number (OP if unknown), then its own numbers.
 unfoldable pub stepAt : List ℕ → ℕ → Got Step
 stepAt s at =
-    bind (numberAt s at) λ number a.
+    bind (numberAt narrow s at) λ number a.
     cond (knownStep number)
-    (bind (numberAt s a) λ x b.
+    (bind (numberAt narrow s a) λ x b.
     bind (secondAt s number b) λ y c.
     got (stepRecord number x y) c)
     (fault OP at)
@@ -82,7 +83,7 @@ pub record Schedule : Type 0 where
 -- "Schedule: plan, then steps".
 unfoldable pub scheduleAt : List ℕ → Got Schedule
 scheduleAt s =
-    bind (numberAt s 0) λ plan a.
+    bind (numberAt narrow s 0) λ plan a.
     cond (planNumberTest plan)
     (bind (stepsAt s mostSteps a) λ xs b. got (record { plan = plan; steps = xs }) b)
     (fault PLAN 0)

@@ -15,10 +15,10 @@ use Rattle.store.specs.Layout.{freshStore}
 use Rattle.store.specs.StoreRules.{planNumberTest}
 use Rattle.store.specs.Promises.{freshOutcome}
 use Rattle.store.specs.Calls.{onStore}
-use Rattle.image.specs.Loading.{loadOutcome}
+use Rattle.image_loading.specs.Loading.{loadOutcome}
 use Rattle.schedule.specs.Schedule.{stepRecord}
 use Rattle.schedule.specs.Running.{stepOf, runOutcome}
-use Rattle.trips.proofs.LoadWays.{LoadWay, stops, trails, breaks, accepts, load-way}
+use Rattle.image_loading.proofs.LoadWays.{LoadWay, stops, trails, breaks, accepts, load-way}
 use Rattle.story.specs.PublicCalls.{Call, accepted, replaced, storeAfter, storeAfterAll}
 use Rattle.story.specs.PublicCalls.Call.{fresh, load, enter, carry, start, step, cancel, reads, run}
 use Rattle.story.specs.Following.{ownOutcome}

@@ -26,8 +26,8 @@ use Rattle.store.proofs.Lifting.{same-call, Keeps, on-bad, on-good, number-stay
 use Rattle.schedule.specs.declared.Step.{Step}
 use Rattle.schedule.specs.Schedule.{ENTER, WITHDRAW, CARRY, START, STEP, CANCEL}
 use Rattle.schedule.specs.Running.{noStep, unknownStep, stepOf, runOutcome}
-use Rattle.image.specs.Image.{Declared}
-use Rattle.image.specs.Loading.{loadOutcome}
+use Rattle.image_writing.specs.Image.{Declared}
+use Rattle.image_loading.specs.Loading.{loadOutcome}
 use Rattle.trips.proofs.RoundTrips.{load-good, fresh-idle, load-idle, load-all-idle}
 use Rattle.theory.specs.Events.{Event, effect, after, answerOf, stateAfterAll}
 use Rattle.theory.specs.Events.Event.{enters, carries, starts, steps, cancels, asks}

@@ -26,11 +26,11 @@ use Rattle.store.proofs.Laying.{state-past}
 use Rattle.store.proofs.Ruling.{good-rules}
 use Rattle.store.proofs.Lifting.{plan-good, state-good, good-back}
 use Rattle.steps.proofs.RulesOnLines.{held-line, line-held}
-use Rattle.image.specs.Image.{image, Declared}
-use Rattle.image.specs.Loading.{loadOutcome}
+use Rattle.image_writing.specs.Image.{image}
+use Rattle.trips.specs.Trips.{Declared, loadedAsItself}
+use Rattle.image_loading.specs.Loading.{loadOutcome}
 use Rattle.image.specs.Promises.{saveBuffer}
-use Rattle.trips.specs.Trips.{loadedAsItself}
-use Rattle.trips.proofs.ImageParts.{Small, small-none}
+use Rattle.copies.proofs.CopyTrips.{Small, small-none}
 use Rattle.trips.proofs.ImageReads.{nodes-writable}
 use Rattle.trips.proofs.RoundTrips.{saved-loads, buffer-loads, images-apart, stored-declared}
 use Rattle.schedule.specs.declared.Step.{Step}

@@ -11,7 +11,8 @@ use denote.Ref.{RefT}
 use borrow.Author.Tests.{le-leb}
 use Rattle.lists.proofs.Truths.{and-both}
 use Rattle.plan.specs.Plan.{Plan}
-use Rattle.image.specs.Image.{lastValue, Declared}
+use Rattle.copies.specs.CopyBytes.{lastValue}
+use Rattle.trips.specs.Trips.{Declared}
 use Rattle.plan.specs.PlanRules.{PlanRules}
 use Rattle.store.specs.declared.Copy.{Copy}
 use Rattle.store.specs.declared.Store.{Store}

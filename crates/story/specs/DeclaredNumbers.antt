@@ -5,7 +5,7 @@ use lib.ListN.{getD}
 use Rattle.number.specs.Number.{Bytes}
 use Rattle.plan.specs.Sizes.{lastKey}
 use Rattle.store.specs.Copies.{valueHeld}
-use Rattle.image.specs.Image.{lastValue}
+use Rattle.copies.specs.CopyBytes.{lastValue}
 use Rattle.schedule.specs.declared.Step.{Step}
 use Rattle.schedule.specs.Running.{noStep}
 use Rattle.story.specs.PublicCalls.{Call}

@@ -16,7 +16,7 @@ use Rattle.store.specs.Layout.{planOf, stateOf, freshStore}
 use Rattle.store.specs.Calls.{onStore}
 use Rattle.store.specs.Promises.{freshOutcome}
 use Rattle.steps.specs.Carries.{bit}
-use Rattle.image.specs.Loading.{loadOutcome}
+use Rattle.image_loading.specs.Loading.{loadOutcome}
 use Rattle.schedule.specs.declared.Step.{Step}
 use Rattle.schedule.specs.Schedule.{ENTER, WITHDRAW, CARRY, START, STEP, CANCEL}
 use Rattle.schedule.specs.Running.{noStep}

@@ -15,7 +15,7 @@ use Rattle.store.specs.Promises.{freshOutcome}
 use Rattle.steps.specs.Entries.{entryStep}
 use Rattle.steps.specs.Carries.{carryStep}
 use Rattle.steps.specs.Searches.{startStep, stepStep, cancelStep, lookAnswer}
-use Rattle.image.specs.Loading.{loadOutcome}
+use Rattle.image_loading.specs.Loading.{loadOutcome}
 use Rattle.schedule.specs.declared.Step.{Step}
 use Rattle.schedule.specs.Running.{runOutcome}
 

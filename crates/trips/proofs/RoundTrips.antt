@@ -35,12 +35,12 @@ use Rattle.copies.specs.CopyBytes.{lastValue}
 use Rattle.copies.proofs.CopyTrips.{Small, small-none}
 use Rattle.image_writing.specs.Image.{formatNumber, image}
 use Rattle.image_reading.specs.ImageReading.{readNodes, loaded, nodesFrom, clockFrom, planFrom, imageAt}
-use Rattle.image.specs.Loading.{loadOutcome}
+use Rattle.image_loading.specs.Loading.{loadOutcome}
 use Rattle.image.specs.Promises.{saveBuffer}
 use Rattle.trips.specs.Trips.{Declared, idled, loadedAsItself, AllIdle, IdleAndDeclared}
 use Rattle.trips.proofs.ImageReads.{store-read, image-gives}
-use Rattle.image.proofs.LoadEnds.{finish-accepts}
-use Rattle.image.proofs.LoadWays.{LoadWay, stops, trails, breaks, accepts, load-way, load-accepted}
+use Rattle.image_loading.proofs.LoadEnds.{finish-accepts}
+use Rattle.image_loading.proofs.LoadWays.{LoadWay, stops, trails, breaks, accepts, load-way, load-accepted}
 
 -- ---- all slots idle
 

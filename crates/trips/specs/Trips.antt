@@ -8,7 +8,7 @@ use Rattle.store.specs.declared.Store.{Store}
 use Rattle.store.specs.Answers.{DONE, answer}
 use Rattle.store.specs.State.{slotCount, idle}
 use Rattle.copies.specs.CopyBytes.{lastValue}
-use Rattle.image.specs.Loading.{copiesHeld}
+use Rattle.image_loading.specs.Loading.{copiesHeld}
 
 -- A store of the declared type: its keys and values have 32 bits. (Its other numbers have them by the store rules.)
 pub record Declared (z : Store) : Type 0 where

@@ -29,8 +29,10 @@ use Rattle.steps.specs.Carries.{carries, merge, countHeld, mergeAlong, carriedT
 use Rattle.steps.specs.Searches.{lowestIdle, startStep, withRunning, stepStep, cancelStep, visitsOn, lookAnswer}
 use Rattle.wire.specs.Reading.{bind, numbered, numberAt}
 use Rattle.wire.specs.Writing.{writtenAnswer, writtenBuffer}
-use Rattle.image.specs.Image.{valueBytes, copyBytes, copiesBytes, nodeBytes, nodesBytes, imageOf}
-use Rattle.image.specs.Loading.{imageAt, finished, loadOutcome}
+use Rattle.copies.specs.CopyBytes.{valueBytes, copyBytes}
+use Rattle.image_writing.specs.Image.{copiesBytes, nodeBytes, nodesBytes, imageOf}
+use Rattle.image_reading.specs.ImageReading.{imageAt}
+use Rattle.image_loading.specs.Loading.{finished, loadOutcome}
 use Rattle.image.specs.Promises.{saveBuffer}
 use Rattle.page.specs.Page.{linesFrom, lineBytes, linesBytes, pageBytes}
 use Rattle.page.specs.Promises.{pageAnswer, pageBuffer}

@@ -11,7 +11,7 @@ use Rattle.store.specs.Layout.{storeOf, freshStore}
 use Rattle.store.specs.Calls.{onStore, ofStore}
 use Rattle.steps.specs.Searches.{lookAnswer}
 use Rattle.wire.specs.Reading.{Got, got, fault}
-use Rattle.image.specs.Loading.{loadOutcome}
+use Rattle.image_loading.specs.Loading.{loadOutcome}
 use Rattle.image.specs.Promises.{saveBuffer}
 use Rattle.page.specs.Promises.{pageAnswer, pageBuffer}
 use Rattle.schedule.specs.declared.Step.{Step}

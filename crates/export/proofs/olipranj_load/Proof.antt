@@ -40,10 +40,11 @@ use denote.Triple.Table.{entered, cited}
 use denote.Triple.Walked.{says, Stays, stay-ref, stay-none-slice, walkOf, goes-ref, goes-none-slice, Walks, ends-at, walked, walk-meets}
 use denote.Triple.Clauses.{ensured, lasts}
 use denote.Exit.{yes}
-use Rattle.image.specs.declared.Loaded.{Loaded}
-use Rattle.image.specs.Workers.{columns, storeIn, LoadsIn}
-use Rattle.image.proofs.Loaded as Ld
-use Rattle.image.proofs.Loaded.Laws as Ld′
+use Rattle.image_loading.specs.declared.Loaded.{Loaded}
+use Rattle.image_loading.specs.Loading.{loadOutcome}
+use Rattle.image_loading.specs.Workers.{loadedIn}
+use Rattle.image_loading.proofs.Loaded as Ld
+use Rattle.image_loading.proofs.Loaded.Laws as Ld′
 use Rattle.store.specs.State.{slotCount}
 use Rattle.store.specs.declared.Store.{Store}
 use Rattle.store.specs.declared.Outcome.{Outcome}
@@ -80,7 +81,7 @@ abbrev five : Ends → Five
 five ws = (ws .1 .0, (ws .1 .1 .0, (ws .1 .1 .1 .0, (ws .1 .1 .1 .1 .0, ws .1 .1 .1 .1 .1 .0))))
 
 abbrev after : Loaded → Five → Store
-after r w = storeIn (r .plan) (r .clock) (w .0) (columns (w .1 .0) (w .1 .1 .0) (w .1 .1 .1 .0) (w .1 .1 .1 .1)) (r .slots)
+after r w = loadedIn r (w .0) (w .1 .0) (w .1 .1 .0) (w .1 .1 .1 .0) (w .1 .1 .1 .1) .store
 
 after-is : (h : Store) (w : Five) (r : Loaded) → Is S.the-row (with-columns h w) (store-val (with-columns h w) ∷ []) → Is Ld.the-row r (loaded-val r ∷ [])
     → Is S.the-row (after r w) (store-val (after r w) ∷ [])
@@ -113,7 +114,7 @@ module _ {M : Type 1} (𝓤 : URA M) (H : Heap 𝓤) (A : Atoms 𝓤) (W : Given
 
   -- what `load_lent` says
   abbrev Says : Loaded → Five → Type 0
-  Says r w = LoadsIn (now bs) r (w .0) (columns (w .1 .0) (w .1 .1 .0) (w .1 .1 .1 .0) (w .1 .1 .1 .1))
+  Says r w = loadedIn r (w .0) (w .1 .0) (w .1 .1 .0) (w .1 .1 .1 .0) (w .1 .1 .1 .1) ≡ loadOutcome (now bs)
 
   -- the call of it
   module _ (p : ℕ × Names) where

@@ -1,7 +1,7 @@
 -- `image::load_lent` meets its contract. Assumes nothing.
 use mathlib.Core.Path.{_∙_}
 use borrow.Author.Tests.{not-true, not-false}
-use Rattle.image.proofs.LoadEnds.{head-refused, head-loads}
+use Rattle.image_loading.proofs.LoadEnds.{head-refused, head-loads}
 use borrow.Author.Needs.{needs}
 use Rattle.image.proofs.load_lent.Statement.{statement}
 use Rattle.image.proofs.load_lent.Tie as tie

@@ -6,7 +6,8 @@ use borrow.Author.Tests.{not-true, not-false}
 use Rattle.store.specs.declared.Store.{Store}
 use Rattle.store.specs.StoreRules.{goodStore}
 use Rattle.store.specs.Workers.{ofParts}
-use Rattle.image.proofs.SaveWays.{save-bad, good-nodes, good-within, save-small, save-done}
+use Rattle.image_writing.proofs.ImageLengths.{good-within}
+use Rattle.image.proofs.SaveWays.{save-bad, good-nodes, save-small, save-done}
 use borrow.Author.Needs.{needs}
 use Rattle.image.proofs.save_lent.Statement.{statement}
 use Rattle.image.proofs.save_lent.Tie as tie

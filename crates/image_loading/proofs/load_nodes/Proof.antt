@@ -1,11 +1,11 @@
--- `image::load_nodes` meets its contract. Assumes nothing.
+-- `image_loading::load_nodes` meets its contract. Assumes nothing.
 use mathlib.Core.Path.{_∙_}
 use borrow.Author.Tests.{not-true, not-false}
 use Rattle.plan_table.specs.PlanTable.{planNumbered}
-use Rattle.image.proofs.LoadEnds.{plan-places, nodes-refused, nodes-loaded, nodes-sized}
+use Rattle.image_loading.proofs.LoadEnds.{plan-places, nodes-refused, nodes-loaded, nodes-sized}
 use borrow.Author.Needs.{needs}
-use Rattle.image.proofs.load_nodes.Statement.{statement}
-use Rattle.image.proofs.load_nodes.Tie as tie
+use Rattle.image_loading.proofs.load_nodes.Statement.{statement}
+use Rattle.image_loading.proofs.load_nodes.Tie as tie
 
 clear-requires : tie.Need-clear-requires
 clear-requires c κs = search needs

@@ -34,8 +34,8 @@ use Rattle.image_reading.specs.declared.Head.{Head}
 use Rattle.image_reading.specs.ImageReading.{readNodes, loaded, nodesFrom, imageAt}
 use Rattle.image_reading.specs.Workers.{Columns, columns, columnsOf, countsOf, LaysNodes, ReadsHead}
 use Rattle.image_reading.proofs.NodeWays.{capacity-here, ending-got, ending-fault}
-use Rattle.image.specs.Loading.{refusedLoad, copiesHeld, finished, loadOutcome}
-use Rattle.image.specs.Workers.{idleStore, loadedIn}
+use Rattle.image_loading.specs.Loading.{refusedLoad, copiesHeld, finished, loadOutcome}
+use Rattle.image_loading.specs.Workers.{idleStore, loadedIn}
 
 -- ---- the end of loading
 

@@ -1,4 +1,4 @@
--- `image::finish` meets its contract. Assumes nothing.
+-- `image_loading::finish` meets its contract. Assumes nothing.
 use mathlib.Core.Path.{_≡_, refl, sym, _∙_}
 use mathlib.Core.Bool.{true}
 use borrow.Author.Tests.{not-true, not-false}
@@ -6,12 +6,12 @@ use Rattle.store.specs.declared.Store.{Store}
 use Rattle.store.specs.StoreRules.{goodStore}
 use Rattle.store.proofs.Ruling.{good-rules}
 use Rattle.wire.specs.Reading.{got}
-use Rattle.image.specs.Workers.{idleStore}
-use Rattle.image.proofs.SaveWays.{good-within}
-use Rattle.image.proofs.LoadEnds.{finish-trails, finish-breaks, good-idle, finish-done}
+use Rattle.image_loading.specs.Workers.{idleStore}
+use Rattle.image_writing.proofs.ImageLengths.{good-within}
+use Rattle.image_loading.proofs.LoadEnds.{finish-trails, finish-breaks, good-idle, finish-done}
 use borrow.Author.Needs.{needs}
-use Rattle.image.proofs.finish.Statement.{statement}
-use Rattle.image.proofs.finish.Tie as tie
+use Rattle.image_loading.proofs.finish.Statement.{statement}
+use Rattle.image_loading.proofs.finish.Tie as tie
 
 -- The store of what was read; the beginning, seen from the check.
 abbrev asked : tie.Start → Store

@@ -1,23 +1,17 @@
--- What the functions below save and load hand back over lent columns.
+-- What a load into lent columns hands back.
 use mathlib.Core.Path.{_≡_}
 use mathlib.Core.List.{List}
 use Prim.Native.Nat.{ℕ}
 use lib.ListN.{replicate}
 use denote.Ref.{RefT}
-use Rattle.store.specs.declared.Answer.{Answer}
 use Rattle.store.specs.declared.Outcome.{Outcome}
 use Rattle.store.specs.declared.Store.{Store}
 use Rattle.store.specs.State.{slotCount, idle}
 use Rattle.store.specs.Workers.{ofParts}
 use Rattle.wire.specs.Reading.{got}
 use Rattle.wire.specs.Writing.{Lent}
-use Rattle.image.specs.declared.Loaded.{Loaded}
-use Rattle.image.specs.Loading.{finished}
-use Rattle.image.specs.Promises.{Saves}
-
--- Saving a store into a lent buffer: the answer, and the buffer at exit.
-abbrev pub LentSaves : Store → Lent → Answer → Type 0
-LentSaves z buffer r = Saves z (buffer .entry .now) r (buffer .exit .now)
+use Rattle.image_loading.specs.declared.Loaded.{Loaded}
+use Rattle.image_loading.specs.Loading.{finished}
 
 -- What a load into lent columns gives, with the counts and columns at its end, as one outcome.
 abbrev pub loadedIn : Loaded → List ℕ → List ℕ → List ℕ → List ℕ → List ℕ → Outcome

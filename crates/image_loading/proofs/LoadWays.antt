@@ -22,8 +22,8 @@ use Rattle.wire.proofs.Chains.{Faults, faults-got, faults-fault, faults-bind, f
 use Rattle.copies.proofs.CopyTrips.{copy-faults}
 use Rattle.image_writing.specs.Image.{formatNumber}
 use Rattle.image_reading.specs.ImageReading.{readCopies, readNode, readNodes, nodesFrom, clockFrom, planFrom, imageAt}
-use Rattle.image.specs.Loading.{refusedLoad, loadOutcome}
-use Rattle.image.proofs.LoadEnds.{acceptedLoad, finish-stops, finish-trails, finish-breaks, finish-accepts}
+use Rattle.image_loading.specs.Loading.{refusedLoad, loadOutcome}
+use Rattle.image_loading.proofs.LoadEnds.{acceptedLoad, finish-stops, finish-trails, finish-breaks, finish-accepts}
 
 -- Loading goes one of these ways.
 pub data LoadWay (s : List ℕ) : Type 0 where

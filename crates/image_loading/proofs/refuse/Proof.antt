@@ -1,8 +1,8 @@
--- `image::refuse` meets its contract. Assumes nothing.
-use Rattle.image.proofs.LoadEnds.{refused-is}
+-- `image_loading::refuse` meets its contract. Assumes nothing.
+use Rattle.image_loading.proofs.LoadEnds.{refused-is}
 use borrow.Author.Needs.{needs}
-use Rattle.image.proofs.refuse.Statement.{statement}
-use Rattle.image.proofs.refuse.Tie as tie
+use Rattle.image_loading.proofs.refuse.Statement.{statement}
+use Rattle.image_loading.proofs.refuse.Tie as tie
 
 refused-requires : tie.Need-refused-requires
 refused-requires c κs = search needs

@@ -1,4 +1,4 @@
--- `image::copies_held` meets its contract. Assumes nothing.
+-- `image_loading::copies_held` meets its contract. Assumes nothing.
 use mathlib.Core.Path.{_≡_}
 use Prim.Native.Nat.{_+_, _-_, _*_, _≤_}
 use native.Mathlib.Omega.{arith}
@@ -6,11 +6,11 @@ use native.Mathlib.Nat.{zero-add}
 use lib.ListN.{drop}
 use Rattle.plan.specs.Sizes.{mostNodes}
 use Rattle.store.specs.Layout.{width}
-use Rattle.image.specs.Loading.{copiesHeld}
-use Rattle.image.proofs.LoadEnds.{held-turn, held-end}
+use Rattle.image_loading.specs.Loading.{copiesHeld}
+use Rattle.image_loading.proofs.LoadEnds.{held-turn, held-end}
 use borrow.Author.Needs.{needs}
-use Rattle.image.proofs.copies_held.Statement.{statement}
-use Rattle.image.proofs.copies_held.Tie as tie
+use Rattle.image_loading.proofs.copies_held.Statement.{statement}
+use Rattle.image_loading.proofs.copies_held.Tie as tie
 
 abbrev Inv-loop : tie.InvT-loop
 Inv-loop counts sum₀ n₀ sum n = (n ≤ mostNodes) × (sum ≤ width * n) × (sum + copiesHeld (drop n counts) ≡ copiesHeld counts)

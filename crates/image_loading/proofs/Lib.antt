@@ -1,0 +1,2 @@
+pub mod LoadEnds
+pub mod LoadWays
