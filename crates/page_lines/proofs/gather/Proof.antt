@@ -1,10 +1,10 @@
 -- `page_lines::gather` meets its contract. The loop's invariant: the lines gathered, and those of the analytes still to come, are all.
 -- Assumes nothing.
+use mathlib.Core.Path.{sym, _∙_}
 use mathlib.Core.Logic.{⊎-elim}
 use Prim.Native.Nat.{_-_, _<_, _≤_}
 use lib.ListN.{getD}
 use borrow.Author.Needs.{needs}
-use borrow.Author.Tests.{eqb-true, eqb-false}
 use mathlib.Core.List.{[]}
 use Rattle.plan.specs.Plan.{Plan}
 use Rattle.store.specs.Layout.{stateIn}
@@ -52,11 +52,14 @@ mul-place c = search needs
 array-read-place : tie.Need-array-read-place Inv-loop μ-loop
 array-read-place c = search needs
 
-mul-if2 : tie.Need-mul-if2 Inv-loop μ-loop
-mul-if2 c = search needs
+mul-has-value : tie.Need-mul-has-value Inv-loop μ-loop
+mul-has-value c = search needs
 
-element-copy-out-if2 : tie.Need-element-copy-out-if2 Inv-loop μ-loop
-element-copy-out-if2 c = search needs
+element-copy-out-has-value : tie.Need-element-copy-out-has-value Inv-loop μ-loop
+element-copy-out-has-value c = search needs
+
+has-value-requires : tie.Need-has-value-requires Inv-loop μ-loop
+has-value-requires c κs = search needs
 
 mul-lines : tie.Need-mul-lines Inv-loop μ-loop
 mul-lines c = search needs
@@ -104,13 +107,13 @@ loop-again c =
     let a = s .args in
     let h : l .loop .analyte < analytes = search needs in
     let places = l .before .before .current-places in
-    let place = getD (places .result) (l .loop .analyte) 0 in
-    let e = λ p q. places .ensures p q (a .kinds .now) (a .values .now) (a .stamps .now) (l .loop .analyte) h in (
+    let place = getD (places .result) (l .loop .analyte) 0 in (
       search needs,
       gather-turns (asked s) (lent s) (a .sample) (a .keys .now) (a .kinds .now) (a .values .now) (a .stamps .now) (l .loop .analyte)
-          place (l .loop .lines) (c .if1 .lines) h e (l .loop .inv .1)
-          (⊎-elim (λ w. valued (w .0 .taken) (search (needs, w .2 .taken)) (w .5))
-          (λ w. ⊎-elim (λ v. other (v .0 .taken) (search (needs, v .2 .left)) (w .1)) (λ v. never (v .left) (w .1)) (w .0 .came))
+          place (l .loop .lines) (c .if1 .lines) h
+          (λ p q. places .ensures p q (a .kinds .now) (a .values .now) (a .stamps .now) (l .loop .analyte) h) (l .loop .inv .1)
+          (⊎-elim (λ w. valued (w .0 .taken) (sym (w .2 .ensures) ∙ w .3 .taken) (w .6))
+          (λ w. ⊎-elim (λ v. other (v .0 .taken) (sym (v .2 .ensures) ∙ v .3 .left) (w .1)) (λ v. never (v .left) (w .1)) (w .0 .came))
           (c .if1 .came)),
     )
 
@@ -132,8 +135,9 @@ gather-spec =
     cast-place
     mul-place
     array-read-place
-    mul-if2
-    element-copy-out-if2
+    mul-has-value
+    element-copy-out-has-value
+    has-value-requires
     mul-lines
     element-write-lines
     mul-lines-2
