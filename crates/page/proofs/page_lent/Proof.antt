@@ -8,9 +8,9 @@ use lib.Seq.{length-take-le}
 use Rattle.store.specs.declared.Store.{Store}
 use Rattle.store.specs.StoreRules.{goodStore}
 use Rattle.store.specs.Workers.{ofParts}
-use Rattle.page.specs.Page.{lastSample}
+use Rattle.page_lines.specs.PageLine.{lastSample}
+use Rattle.page_lines.proofs.NodeByNode.{good-on-paths, good-pageable}
 use Rattle.page.specs.Promises.{pageNow}
-use Rattle.page.proofs.NodeByNode.{good-pageable}
 use Rattle.page.proofs.PageWays.{Holds, page-held, page-bad-store, page-bad-sample, page-too-small, page-done}
 use Rattle.page.proofs.page_lent.Statement.{statement}
 use Rattle.page.proofs.page_lent.Tie as tie
