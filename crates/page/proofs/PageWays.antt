@@ -1,6 +1,6 @@
 -- The ways out of page, served_length and serve, and the scratch that the sample's page is written into. Assumes nothing.
 use mathlib.Core.Path.{_≡_, refl, sym, ap, ap₂, _∙_}
-use mathlib.Core.Bool.{true, false, _&&_}
+use mathlib.Core.Bool.{Bool, true, false, not, _&&_}
 use mathlib.Core.List.{List, []}
 use mathlib.Core.Logic.{⊎-elim}
 use Prim.Native.Nat.{ℕ, _<_, _≤_}
@@ -8,17 +8,19 @@ use native.Mathlib.Omega.{arith}
 use lib.Dec.{leb}
 use lib.ListN.{length, take}
 use denote.Ref.{RefT}
-use borrow.Author.Tests.{le-leb, lt-leb}
+use borrow.Author.Tests.{not-true, not-false, le-leb, lt-leb}
 use Rattle.lists.specs.Stands.{Wrote}
 use Rattle.lists.proofs.Standing.{wrote-length}
 use Rattle.lists.proofs.Truths.{bool?, and-right}
-use Rattle.plan.specs.Plan.{size}
+use Rattle.plan.specs.Plan.{Plan, size}
+use Rattle.plan_table.specs.PlanTable.{planNumbered}
 use Rattle.store.specs.declared.Answer.{Answer}
 use Rattle.store.specs.declared.Store.{Store}
 use Rattle.store.specs.Answers.{DONE, BADSTORE, SMALL, SAMPLE, answer, bare}
 use Rattle.store.specs.State.{inReach}
 use Rattle.store.specs.Layout.{planOf, stateIn, stateOf}
 use Rattle.store.specs.StoreRules.{goodStore}
+use Rattle.store.proofs.WhichPlan.{plan-numbered}
 use Rattle.wire.proofs.Buffers.{small-answer, small-buffer, done-answer, done-front, done-wrote, wrote-end}
 use Rattle.page_lines.specs.PageLine.{lastSample}
 use Rattle.page.specs.PageBytes.{mostPageBytes, pageOf, begins}
@@ -26,6 +28,20 @@ use Rattle.page.specs.Promises.{pageNow, pageAnswer, pageBuffer, Pages, 
 use Rattle.page.proofs.PageLength.{page-length, page-some}
 use Rattle.page.proofs.PageWriting.{begins-long}
 use Rattle.page.proofs.Stale.{same-page, serves-notice}
+
+-- ---- the check
+
+-- What the check says of a store,
+module _ (z : Store) (said : Bool) (e : said ≡ goodStore z) where
+  pub said-bad : not said ≡ true → goodStore z ≡ false
+  said-bad t = sym e ∙ not-true said t
+
+  pub said-good : not said ≡ false → goodStore z ≡ true
+  said-good f = sym e ∙ not-false said f
+
+-- and its plan's node count, taken by its number.
+pub nodes-known : (z : Store) (nodes : ℕ) → nodes ≡ size (planNumbered (z .plan)) → nodes ≡ size (planOf z)
+nodes-known z nodes e = e ∙ ap (λ (p : Plan). size p) (sym (plan-numbered z))
 
 -- ---- the scratch
 
