@@ -1,11 +1,7 @@
-pub mod PageBytes
-pub mod PageLines
+pub mod PagesApart
+pub mod KeptLines
 pub mod Stale
 pub mod PageLength
 pub mod LongestPage
-pub mod Lowest
-pub mod NodePlaces
-pub mod NodeByNode
-pub mod Gathering
 pub mod PageWriting
 pub mod PageWays

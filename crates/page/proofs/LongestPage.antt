@@ -12,7 +12,7 @@ use Rattle.store.specs.declared.Copy.{Copy}
 use Rattle.store.specs.declared.Store.{Store}
 use Rattle.store.specs.Copies.{hasValue, RESULT, copy, find, member, different}
 use Rattle.store.specs.State.{slotCount, lastClock, idle, firstOn, inReach}
-use Rattle.store.specs.Layout.{nodeIn, stateOf, column, storeOf}
+use Rattle.store.specs.Layout.{nodeIn, planOf, stateOf, column, storeOf}
 use Rattle.store.specs.StoreRules.{
   shapeTest,
   planNumberTest,
@@ -27,7 +27,8 @@ use Rattle.store.specs.StoreRules.{
   slotTest,
   goodStore,
 }
-use Rattle.page.specs.Page.{analytes, lastSample, keyFor, linesFrom, lineBytes, linesBytes, pageBytes, mostPageBytes}
+use Rattle.page_lines.specs.PageLine.{analytes, lastSample, keyFor, pageLinesFrom}
+use Rattle.page.specs.PageBytes.{pageLineBytes, pageLinesBytes, pageBytes, mostPageBytes}
 use Rattle.page.specs.Promises.{pageNow}
 
 -- The copies of the last sample's 32 lines, with the largest values and stamps just below the clock's last value.
@@ -43,5 +44,5 @@ pub record Longest : Type 0 where
   pub long : length (pageNow longestStore lastSample) ≡ mostPageBytes
 
 pub longest : Longest
-unfolding run allFrom formIn form holds firstEdge next walk pathFrom planTable plans planNumbered find member different firstOn inReach nodeIn stateOf column storeOf shapeTest planNumberTest clockTest hasValue kindTest copyTest placeTest allZero unusedTest nodeTest stampsFrom slotTest goodStore linesFrom lineBytes linesBytes pageBytes longestCopies longestStore
+unfolding run allFrom formIn form holds firstEdge next walk pathFrom planTable plans planNumbered find member different firstOn inReach nodeIn planOf stateOf column storeOf shapeTest planNumberTest clockTest hasValue kindTest copyTest placeTest allZero unusedTest nodeTest stampsFrom slotTest goodStore pageLinesFrom pageLineBytes pageLinesBytes pageBytes longestCopies longestStore
 longest = record { good = refl; long = refl }

@@ -1,30 +1,47 @@
 -- The ways out of page, served_length and serve, and the scratch that the sample's page is written into. Assumes nothing.
 use mathlib.Core.Path.{_≡_, refl, sym, ap, ap₂, _∙_}
-use mathlib.Core.Bool.{true, false, _&&_}
-use mathlib.Core.List.{List}
+use mathlib.Core.Bool.{Bool, true, false, not, _&&_}
+use mathlib.Core.List.{List, []}
 use mathlib.Core.Logic.{⊎-elim}
 use Prim.Native.Nat.{ℕ, _<_, _≤_}
 use native.Mathlib.Omega.{arith}
 use lib.Dec.{leb}
 use lib.ListN.{length, take}
 use denote.Ref.{RefT}
-use borrow.Author.Tests.{le-leb, lt-leb}
+use borrow.Author.Tests.{not-true, not-false, le-leb, lt-leb}
 use Rattle.lists.specs.Stands.{Wrote}
 use Rattle.lists.proofs.Standing.{wrote-length}
 use Rattle.lists.proofs.Truths.{bool?, and-right}
+use Rattle.plan.specs.Plan.{Plan, size}
+use Rattle.plan_table.specs.PlanTable.{planNumbered}
 use Rattle.store.specs.declared.Answer.{Answer}
 use Rattle.store.specs.declared.Store.{Store}
 use Rattle.store.specs.Answers.{DONE, BADSTORE, SMALL, SAMPLE, answer, bare}
 use Rattle.store.specs.State.{inReach}
-use Rattle.store.specs.Layout.{planOf, planOf, stateOf}
+use Rattle.store.specs.Layout.{planOf, stateIn, stateOf}
 use Rattle.store.specs.StoreRules.{goodStore}
-use Rattle.store.specs.Workers.{holding}
+use Rattle.store.proofs.WhichPlan.{plan-numbered}
 use Rattle.wire.proofs.Buffers.{small-answer, small-buffer, done-answer, done-front, done-wrote, wrote-end}
-use Rattle.page.specs.Page.{lastSample, mostPageBytes, pageOf, begins}
+use Rattle.page_lines.specs.PageLine.{lastSample}
+use Rattle.page.specs.PageBytes.{mostPageBytes, pageOf, begins}
 use Rattle.page.specs.Promises.{pageNow, pageAnswer, pageBuffer, Pages, stillTrue, servedLength, ServesLength, Handed, served, Serves}
 use Rattle.page.proofs.PageLength.{page-length, page-some}
 use Rattle.page.proofs.PageWriting.{begins-long}
 use Rattle.page.proofs.Stale.{same-page, serves-notice}
+
+-- ---- the check
+
+-- What the check says of a store,
+module _ (z : Store) (said : Bool) (e : said ≡ goodStore z) where
+  pub said-bad : not said ≡ true → goodStore z ≡ false
+  said-bad t = sym e ∙ not-true said t
+
+  pub said-good : not said ≡ false → goodStore z ≡ true
+  said-good f = sym e ∙ not-false said f
+
+-- and its plan's node count, taken by its number.
+pub nodes-known : (z : Store) (nodes : ℕ) → nodes ≡ size (planNumbered (z .plan)) → nodes ≡ size (planOf z)
+nodes-known z nodes e = e ∙ ap (λ (p : Plan). size p) (sym (plan-numbered z))
 
 -- ---- the scratch
 
@@ -34,21 +51,23 @@ pub record Holds (page : List ℕ) (n : ℕ) (scratch : List ℕ) : Type 0 where
   pub begin : take n scratch ≡ page
   pub room : n ≤ length scratch
 
--- The store of the lent columns has the same pages.
-lent-page : (z : Store) (sample : ℕ)
-    → pageOf (planOf z) (stateOf (holding (z .plan) 0 (z .counts) (z .keys) (z .kinds) (z .values) (z .stamps))) sample ≡ pageNow z sample
+-- A page reads neither clock nor slots.
+lent-page : (z : Store) (sample nodes : ℕ) → nodes ≡ size (planOf z)
+    → pageOf (planOf z) (stateIn nodes 0 (z .counts) (z .keys) (z .kinds) (z .values) (z .stamps) []) sample ≡ pageNow z sample
 unfolding stateOf inReach
-lent-page z sample =
-    same-page (planOf z) (stateOf z) (stateOf (holding (z .plan) 0 (z .counts) (z .keys) (z .kinds) (z .values) (z .stamps))) (λ k. refl) sample
+lent-page z sample nodes e =
+    same-page (planOf z) (stateOf z) (stateIn nodes 0 (z .counts) (z .keys) (z .kinds) (z .values) (z .stamps) []) (λ k. rw e) sample
 
 -- A page as it is now that was written into a scratch with room for the longest is held there.
-pub page-held : (z : Store) (sample : ℕ) {before : List ℕ} {n : ℕ} {after : List ℕ} → sample ≤ lastSample → mostPageBytes ≤ length before
-    → Wrote before 0 (pageOf (planOf z) (stateOf (holding (z .plan) 0 (z .counts) (z .keys) (z .kinds) (z .values) (z .stamps))) sample) n after
+pub page-held : (z : Store) (sample nodes : ℕ) {before : List ℕ} {n : ℕ} {after : List ℕ} → sample ≤ lastSample → mostPageBytes ≤ length before
+    → nodes ≡ size (planOf z)
+    → Wrote before 0 (pageOf (planOf z) (stateIn nodes 0 (z .counts) (z .keys) (z .kinds) (z .values) (z .stamps) []) sample) n after
     → Holds (pageNow z sample) n after
-page-held z sample {before} {n} {after} small room wrote = record { long = wrote-end w; begin = front; room = omega (arith, wrote-end w, wrote-length w, fits) }
+page-held z sample nodes {before} {n} {after} small room all wrote =
+    record { long = wrote-end w; begin = front; room = omega (arith, wrote-end w, wrote-length w, fits) }
   where
     w : Wrote before 0 (pageNow z sample) n after
-    w = rw (lent-page z sample) at wrote
+    w = rw (lent-page z sample nodes all) at wrote
 
     fits : length (pageNow z sample) ≤ length before
     fits = omega (arith, page-length (planOf z) (stateOf z) sample small)

@@ -17,54 +17,55 @@ use Rattle.lists.proofs.Standing.{wrote-nil, wrote-cons, wrote-join, wrote-leng
 use Rattle.number.specs.Number.{form}
 use Rattle.plan.specs.Plan.{Plan}
 use Rattle.store.specs.State.{State}
-use Rattle.page.specs.declared.lines.Lines.{Lines}
-use Rattle.page.specs.Page.{analytes, lastSample, Line, linesOf, lineBytes, linesBytes, pageBytes, mostPageBytes, begins}
-use Rattle.page.specs.Workers.{linesIn}
-use Rattle.page.proofs.PageBytes.{begins-rest}
-use Rattle.page.proofs.PageLines.{lines-few}
+use Rattle.page_lines.specs.declared.PageColumns.{PageColumns}
+use Rattle.page_lines.specs.PageLine.{analytes, lastSample, PageLine, pageLines}
+use Rattle.page_lines.specs.Workers.{pageLinesIn}
+use Rattle.page_lines.proofs.LineLaws.{lines-few}
+use Rattle.page_lines.proofs.Gathering.{lines-counted}
+use Rattle.page.specs.PageBytes.{pageLineBytes, pageLinesBytes, pageBytes, mostPageBytes, begins}
+use Rattle.page.proofs.PagesApart.{begins-rest}
 use Rattle.page.proofs.PageLength.{page-length}
-use Rattle.page.proofs.Gathering.{lines-counted}
 
 -- ---- a line
 
-pub line-long : (l : Line) → length (lineBytes l) ≡ length (form (l .analyte)) + (length (form (l .value)) + length (form (l .stamp)))
-unfolding lineBytes
+pub line-long : (l : PageLine) → length (pageLineBytes l) ≡ length (form (l .analyte)) + (length (form (l .value)) + length (form (l .stamp)))
+unfolding pageLineBytes
 line-long l = simp length-append
 
-pub line-wrote : (l : Line) {b : List ℕ} {at : ℕ} {c : List ℕ} {mid : ℕ} {d : List ℕ} {late next : ℕ} {e : List ℕ} → Wrote b at (form (l .analyte)) mid c
-    → Wrote c mid (form (l .value)) late d → Wrote d late (form (l .stamp)) next e → Wrote b at (lineBytes l) next e
-unfolding lineBytes
+pub line-wrote : (l : PageLine) {b : List ℕ} {at : ℕ} {c : List ℕ} {mid : ℕ} {d : List ℕ} {late next : ℕ} {e : List ℕ} → Wrote b at (form (l .analyte)) mid c
+    → Wrote c mid (form (l .value)) late d → Wrote d late (form (l .stamp)) next e → Wrote b at (pageLineBytes l) next e
+unfolding pageLineBytes
 line-wrote l p q r = wrote-join p (wrote-join q r)
 
 -- ---- the lines
 
 -- The bytes of the lines f i, f (i + 1), .. up to the n-th.
-abbrev pub bytesFrom : (ℕ → Line) → ℕ → ℕ → List ℕ
-bytesFrom f n i = linesBytes (run i (n - i) f)
+abbrev pub bytesFrom : (ℕ → PageLine) → ℕ → ℕ → List ℕ
+bytesFrom f n i = pageLinesBytes (run i (n - i) f)
 
 -- The bytes of the lines from i on fit at an offset, and once they are written there, those of all lines were written at the first.
-pub record WritingLines (f : ℕ → Line) (n : ℕ) (before : List ℕ) (at : ℕ) (buffer : List ℕ) (next i : ℕ) : Type 0 where
+pub record WritingLines (f : ℕ → PageLine) (n : ℕ) (before : List ℕ) (at : ℕ) (buffer : List ℕ) (next i : ℕ) : Type 0 where
   pub kept : length buffer ≡ length before
   pub fits : next + length (bytesFrom f n i) ≤ length buffer
-  pub joins : (end : ℕ) (after : List ℕ) → Wrote buffer next (bytesFrom f n i) end after → Wrote before at (linesBytes (run 0 n f)) end after
+  pub joins : (end : ℕ) (after : List ℕ) → Wrote buffer next (bytesFrom f n i) end after → Wrote before at (pageLinesBytes (run 0 n f)) end after
 
-module _ (f : ℕ → Line) (n : ℕ) where
-  pub lines-start : (before : List ℕ) (at : ℕ) → at + length (linesBytes (run 0 n f)) ≤ length before → WritingLines f n before at before at 0
+module _ (f : ℕ → PageLine) (n : ℕ) where
+  pub lines-start : (before : List ℕ) (at : ℕ) → at + length (pageLinesBytes (run 0 n f)) ≤ length before → WritingLines f n before at before at 0
   lines-start before at h = let z : n - 0 ≡ n = omega arith in record { kept = refl; fits = rw z h; joins = λ end after w. rw z at w }
 
-  bytes-on : (i : ℕ) → i < n → bytesFrom f n i ≡ lineBytes (f i) ++ bytesFrom f n (i + 1)
-  unfolding linesBytes
+  bytes-on : (i : ℕ) → i < n → bytesFrom f n i ≡ pageLineBytes (f i) ++ bytesFrom f n (i + 1)
+  unfolding pageLinesBytes
   bytes-on i h = rw (run-on f i n h, add-one)
 
-  bytes-long : (i : ℕ) → i < n → length (bytesFrom f n i) ≡ length (lineBytes (f i)) + length (bytesFrom f n (i + 1))
-  bytes-long i h = ap length (bytes-on i h) ∙ length-append (lineBytes (f i)) (bytesFrom f n (i + 1))
+  bytes-long : (i : ℕ) → i < n → length (bytesFrom f n i) ≡ length (pageLineBytes (f i)) + length (bytesFrom f n (i + 1))
+  bytes-long i h = ap length (bytes-on i h) ∙ length-append (pageLineBytes (f i)) (bytesFrom f n (i + 1))
 
   module _ {before : List ℕ} {at : ℕ} {buffer : List ℕ} {next i : ℕ} (k : WritingLines f n before at buffer next i) where
     -- A turn writes one line.
-    pub line-fits : i < n → next + length (lineBytes (f i)) ≤ length buffer
+    pub line-fits : i < n → next + length (pageLineBytes (f i)) ≤ length buffer
     line-fits h = omega (arith, k .fits, bytes-long i h)
 
-    pub lines-turn : i < n → {last : ℕ} {after : List ℕ} → Wrote buffer next (lineBytes (f i)) last after
+    pub lines-turn : i < n → {last : ℕ} {after : List ℕ} → Wrote buffer next (pageLineBytes (f i)) last after
         → WritingLines f n before at after last (i + 1)
     lines-turn h w =
         record {
@@ -73,24 +74,24 @@ module _ (f : ℕ → Line) (n : ℕ) where
           joins = λ end after v. k .joins end after (rw (bytes-on i h) (wrote-join w v));
         }
 
-    pub lines-end : n ≤ i → Wrote before at (linesBytes (run 0 n f)) next buffer
-    unfolding linesBytes
+    pub lines-end : n ≤ i → Wrote before at (pageLinesBytes (run 0 n f)) next buffer
+    unfolding pageLinesBytes
     lines-end h = k .joins next buffer (rw (run-off f i n h) (wrote-nil buffer next))
 
 -- ---- the page
 
-pub page-long : (sample : ℕ) (r : Lines) → length (pageBytes sample (linesIn r)) ≡ length (form sample) + (length (form (r .count)) + length (linesBytes (linesIn r)))
+pub page-long : (sample : ℕ) (r : PageColumns) → length (pageBytes sample (pageLinesIn r)) ≡ length (form sample) + (length (form (r .count)) + length (pageLinesBytes (pageLinesIn r)))
 unfolding pageBytes
 page-long sample r = simp (length-append, lines-counted)
 
-pub page-wrote : (sample : ℕ) (r : Lines) {b c : List ℕ} {mid : ℕ} {d : List ℕ} {late next : ℕ} {e : List ℕ} → Wrote b 0 (form sample) mid c
-    → Wrote c mid (form (r .count)) late d → Wrote d late (linesBytes (linesIn r)) next e → Wrote b 0 (pageBytes sample (linesIn r)) next e
+pub page-wrote : (sample : ℕ) (r : PageColumns) {b c : List ℕ} {mid : ℕ} {d : List ℕ} {late next : ℕ} {e : List ℕ} → Wrote b 0 (form sample) mid c
+    → Wrote c mid (form (r .count)) late d → Wrote d late (pageLinesBytes (pageLinesIn r)) next e → Wrote b 0 (pageBytes sample (pageLinesIn r)) next e
 unfolding pageBytes
 page-wrote sample r p q w = rw lines-counted (wrote-join p (wrote-join q w))
 
 -- The lines of a page of a sample that is not too large are at most 32, and its bytes at most 357.
-pub page-room : (p : Plan) (s : State) (sample : ℕ) (r : Lines) → linesIn r ≡ linesOf p s sample → sample ≤ lastSample
-    → (r .count ≤ analytes) × (length (pageBytes sample (linesIn r)) ≤ mostPageBytes)
+pub page-room : (p : Plan) (s : State) (sample : ℕ) (r : PageColumns) → pageLinesIn r ≡ pageLines p s sample → sample ≤ lastSample
+    → (r .count ≤ analytes) × (length (pageBytes sample (pageLinesIn r)) ≤ mostPageBytes)
 page-room p s sample r e h =
     (omega (arith, lines-counted r, ap length e, lines-few p s sample 0 analytes), rw e (page-length p s sample h))
 

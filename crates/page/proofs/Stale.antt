@@ -7,40 +7,43 @@ use mathlib.Core.Logic.{⊎-elim}
 use mathlib.Core.Option.{Option, none, some}
 use Prim.Native.Nat.{ℕ, zero, suc, _+_, _<_, _≤_}
 use native.Mathlib.Omega.{arith}
-use lib.Dec.{eqb, leb}
+use lib.Dec.{leb}
 use lib.ListN.{length, take}
 use lib.Seq.{take-append-seam}
 use denote.Ref.{RefT}
-use borrow.Author.Tests.{eq-eqb}
 use Rattle.lists.proofs.Truths.{bool?, and-right}
 use Rattle.plan.specs.Plan.{Plan}
 use Rattle.store.specs.declared.Copy.{Copy}
 use Rattle.store.specs.declared.Store.{Store}
-use Rattle.store.specs.Copies.{WITHDRAWN, RESULT}
+use Rattle.store.specs.Copies.{WITHDRAWN, RESULT, hasValue}
 use Rattle.store.specs.State.{State, current}
 use Rattle.store.specs.StoreRules.{goodStore}
-use Rattle.page.specs.Page.{analytes, lastSample, keyFor, Line, linesFrom, pageBytes, pageOf, begins}
+use Rattle.page_lines.specs.PageLine.{analytes, lastSample, keyFor, PageLine, pageLine, pageLinesFrom}
+use Rattle.page_lines.proofs.LineLaws.{pageLineOf, same-line}
+use Rattle.page.specs.PageBytes.{pageBytes, pageOf, begins}
 use Rattle.page.specs.Promises.{pageNow, stillTrue, served}
-use Rattle.page.proofs.PageBytes.{begins-rest}
-use Rattle.page.proofs.PageLines.{lineOf, Bounded, same-lines, same-line}
+use Rattle.page.proofs.PagesApart.{begins-rest}
+use Rattle.page.proofs.KeptLines.{Bounded, same-lines}
 
 -- A result is shown, and a withdrawn copy is not.
-shows-result : (a : ℕ) (x : Copy) → x .kind ≡ RESULT → lineOf a (some x) ≡ some (record { analyte = a; value = x .value; stamp = x .stamp })
-shows-result a x e = rw (eq-eqb (x .kind) RESULT e)
+shows-result : (a : ℕ) (x : Copy) → x .kind ≡ RESULT → pageLineOf a (some x) ≡ some (pageLine a (x .value) (x .stamp))
+unfolding hasValue
+shows-result a x e = rw e
 
-hides-withdrawn : (a : ℕ) (x : Copy) → x .kind ≡ WITHDRAWN → lineOf a (some x) ≡ none
+hides-withdrawn : (a : ℕ) (x : Copy) → x .kind ≡ WITHDRAWN → pageLineOf a (some x) ≡ none
+unfolding hasValue
 hides-withdrawn a x e = rw e
 
 -- The stamp that a shown line has is its copy's.
-shown-stamp : (a : ℕ) (o : Option Copy) (l : Line) → lineOf a o ≡ some l → (y : Copy) × (o ≡ some y) × (y .stamp ≡ l .stamp)
+shown-stamp : (a : ℕ) (o : Option Copy) (l : PageLine) → pageLineOf a o ≡ some l → (y : Copy) × (o ≡ some y) × (y .stamp ≡ l .stamp)
 shown-stamp a none l e = absurd (let z : _≡_ {A = ℕ} 0 1 = cc in omega arith)
-shown-stamp a (some y) l e = go (eqb (y .kind) RESULT) e
+shown-stamp a (some y) l e = go (hasValue (y .kind)) e
   where
-    go : (r : Bool) → cond r (some (record { analyte = a; value = y .value; stamp = y .stamp })) none ≡ some l
+    go : (r : Bool) → cond r (some (pageLine a (y .value) (y .stamp))) none ≡ some l
         → (z : Copy) × (some y ≡ some z) × (z .stamp ≡ l .stamp)
-    go true e = (y, refl, ap (λ (m : Option Line). stampIn m) e)
+    go true e = (y, refl, ap (λ (m : Option PageLine). stampIn m) e)
       where
-        stampIn : Option Line → ℕ
+        stampIn : Option PageLine → ℕ
         stampIn none = 0
         stampIn (some m) = m .stamp
     go false e = absurd (let z : _≡_ {A = ℕ} 0 1 = cc in omega arith)
@@ -53,7 +56,7 @@ module _ (p : Plan) (s t : State) (sample a : ℕ) (h : sample ≤ lastSample) (
   stale-by-result x e r late rest =
       ⊎-elim (λ (b : begins (pageOf p s sample ++ rest) (pageOf p t sample) ≡ true).
       let lines = same-line p s t sample (same-lines p s t sample h before now rest b) a g in
-      let w = shown-stamp a (current p s (keyFor sample a)) _ (lines ∙ ap (lineOf a) e ∙ shows-result a x r) in
+      let w = shown-stamp a (current p s (keyFor sample a)) _ (lines ∙ ap (pageLineOf a) e ∙ shows-result a x r) in
       absurd (omega (arith, w .2, before .stamps (keyFor sample a) (w .0) (w .1))))
       (λ (b : begins (pageOf p s sample ++ rest) (pageOf p t sample) ≡ false). b)
       (bool? (begins (pageOf p s sample ++ rest) (pageOf p t sample)))
@@ -65,8 +68,8 @@ module _ (p : Plan) (s t : State) (sample a : ℕ) (h : sample ≤ lastSample) (
   stale-by-withdrawal x y e w d r rest =
       ⊎-elim (λ (b : begins (pageOf p s sample ++ rest) (pageOf p t sample) ≡ true).
       let lines = same-line p s t sample (same-lines p s t sample h before now rest b) a g in
-      let n : some (record { analyte = a; value = y .value; stamp = y .stamp }) ≡ none =
-      sym (ap (lineOf a) d ∙ shows-result a y r) ∙ lines ∙ ap (lineOf a) e ∙ hides-withdrawn a x w
+      let n : some (pageLine a (y .value) (y .stamp)) ≡ none =
+      sym (ap (pageLineOf a) d ∙ shows-result a y r) ∙ lines ∙ ap (pageLineOf a) e ∙ hides-withdrawn a x w
       in
       absurd (let z : _≡_ {A = ℕ} 0 1 = cc in omega arith))
       (λ (b : begins (pageOf p s sample ++ rest) (pageOf p t sample) ≡ false). b)
@@ -74,8 +77,8 @@ module _ (p : Plan) (s t : State) (sample a : ℕ) (h : sample ≤ lastSample) (
 
 -- Where every line's current result is the same, every page is.
 module _ (p : Plan) (s t : State) (same : (k : ℕ) → current p t k ≡ current p s k) (sample : ℕ) where
-  same-lines-from : (b n : ℕ) → linesFrom p t sample b n ≡ linesFrom p s sample b n
-  unfolding linesFrom
+  same-lines-from : (b n : ℕ) → pageLinesFrom p t sample b n ≡ pageLinesFrom p s sample b n
+  unfolding pageLinesFrom
   same-lines-from b zero = refl
   same-lines-from b (suc n) = rw (same (keyFor sample b), same-lines-from (suc b) n)
 

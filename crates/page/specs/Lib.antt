@@ -1,3 +1,3 @@
-pub mod Page
+pub mod PageBytes
 pub mod Promises
 pub mod Workers

@@ -9,10 +9,11 @@ use denote.Ref.{RefT}
 use Rattle.store.specs.declared.Answer.{Answer}
 use Rattle.store.specs.declared.Store.{Store}
 use Rattle.store.specs.Answers.{BADSTORE, SAMPLE, bare}
-use Rattle.store.specs.Layout.{planOf, planOf, stateOf}
+use Rattle.store.specs.Layout.{planOf, stateOf}
 use Rattle.store.specs.StoreRules.{goodStore}
 use Rattle.wire.specs.Writing.{writtenAnswer, writtenBuffer}
-use Rattle.page.specs.Page.{lastSample, pageOf, begins}
+use Rattle.page_lines.specs.PageLine.{lastSample}
+use Rattle.page.specs.PageBytes.{pageOf, begins}
 
 -- The sample's page as the store is now.
 abbrev pub pageNow : Store → ℕ → List ℕ

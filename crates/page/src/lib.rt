@@ -1,18 +1,14 @@
 // The household's bytes: page and serve. Document 01, "Bytes".
 ghost use Prim.Native.Nat.{_≤_};
-ghost use lib.ListN.{length};
-ghost use Rattle.lists.specs.Stands.{Wrote};
-ghost use Rattle.plan_table.specs.PlanTable.{planNumbered};
-ghost use Rattle.store.specs.Layout.{stateOf};
-ghost use Rattle.store.specs.Workers.{holding, LentSized, lentStore};
-ghost use Rattle.page.specs.Page.{lastSample, mostPageBytes, pageOf};
+ghost use Rattle.store.specs.Workers.{LentSized, storeAtEntry};
+ghost use Rattle.page_lines.specs.PageLine.{lastSample};
+ghost use Rattle.page_lines.specs.Workers.{LentPageable};
 ghost use Rattle.page.specs.Promises.{Pages, ServesLength, Serves};
-ghost use Rattle.page.specs.Workers.{Pageable};
+ghost use Rattle.page.specs.Workers.{RoomForAny, PutsPage};
 use store::Answer;
 use store::Slot;
 use store::Store;
 
-mod lines; // lines.rt: the lines of a page
 mod writing; // writing.rt: the bytes of a page
 
 // "sample 0 to 134,217,727"
@@ -24,7 +20,7 @@ const LONGEST: usize = 357;
 // The sample's page as it is now, into a scratch that has room for the longest. Gives its length.
 fn write_now<'a>(
     scratch: &mut [u8],
-    plan: u32,
+    nodes: u32,
     counts: &'a [u32; Store::NODES],
     keys: &'a [u32; Store::PLACES],
     kinds: &'a [u32; Store::PLACES],
@@ -32,10 +28,10 @@ fn write_now<'a>(
     stamps: &'a [u32; Store::PLACES],
     sample: u32,
 ) -> usize
-    requires { ⌜ Pageable plan (now counts) (now keys) × (sample ≤ lastSample) × (mostPageBytes ≤ length (now scratch)) ⌝ }
-    ensures { λ r. ⌜ Wrote (now (scratch .entry)) 0 (pageOf (planNumbered plan) (stateOf (holding plan 0 (now (counts .entry)) (now (keys .entry)) (now (kinds .entry)) (now (values .entry)) (now (stamps .entry)))) sample) r (now (scratch .exit)) ⌝ }
+    requires { ⌜ LentPageable nodes counts keys × (sample ≤ lastSample) × RoomForAny scratch ⌝ }
+    ensures { λ r. ⌜ PutsPage scratch nodes counts keys kinds values stamps sample r ⌝ }
 {
-    let lines = lines::gather(plan, counts, keys, kinds, values, stamps, sample);
+    let lines = page_lines::gather(nodes, counts, keys, kinds, values, stamps, sample);
     writing::write_page(scratch, sample, lines)
 }
 
@@ -54,7 +50,7 @@ pub fn page_lent<'a>(
     buffer: &mut [u8],
 ) -> Answer
     requires { ⌜ LentSized counts keys kinds values stamps ⌝ }
-    ensures { λ r. ⌜ Pages (lentStore plan clock (counts .entry) (keys .entry) (kinds .entry) (values .entry) (stamps .entry) slots) sample (now (buffer .entry)) r (now (buffer .exit)) ⌝ }
+    ensures { λ r. ⌜ Pages (storeAtEntry plan clock counts keys kinds values stamps slots) sample (now (buffer .entry)) r (now (buffer .exit)) ⌝ }
 {
     if !rules::good(plan, clock, counts, keys, kinds, values, stamps, slots) {
         return Answer::bare(Answer::BADSTORE);
@@ -62,10 +58,11 @@ pub fn page_lent<'a>(
     if LAST_SAMPLE < sample {
         return Answer::bare(Answer::SAMPLE);
     }
+    let nodes = plan_table::nodes(plan);
     let mut scratch = [0; LONGEST];
     let n = write_now(
         &mut scratch,
-        plan,
+        nodes,
         counts,
         keys,
         kinds,
@@ -114,7 +111,7 @@ pub fn served_length_lent<'a>(
     kept: &[u8],
 ) -> usize
     requires { ⌜ LentSized counts keys kinds values stamps ⌝ }
-    ensures { λ r. ⌜ ServesLength (lentStore plan clock (counts .entry) (keys .entry) (kinds .entry) (values .entry) (stamps .entry) slots) sample (now (kept .entry)) r ⌝ }
+    ensures { λ r. ⌜ ServesLength (storeAtEntry plan clock counts keys kinds values stamps slots) sample (now (kept .entry)) r ⌝ }
 {
     if !rules::good(plan, clock, counts, keys, kinds, values, stamps, slots) {
         return 0; // a bad store
@@ -122,10 +119,11 @@ pub fn served_length_lent<'a>(
     if LAST_SAMPLE < sample {
         return 0; // a sample too large
     }
+    let nodes = plan_table::nodes(plan);
     let mut scratch = [0; LONGEST];
     let n = write_now(
         &mut scratch,
-        plan,
+        nodes,
         counts,
         keys,
         kinds,

@@ -1,26 +1,28 @@
 // The bytes of a page: written, laid into a buffer, and compared with kept ones.
 ghost use mathlib.Core.Path.{_≡_};
-ghost use Prim.Native.Nat.{_+_, _≤_};
+ghost use Prim.Native.Nat.{_≤_};
 ghost use lib.ListN.{length};
-ghost use Rattle.lists.specs.Stands.{Wrote};
-ghost use Rattle.page.specs.Page.{analytes, lineBytes, linesBytes, pageBytes, begins};
-ghost use Rattle.page.specs.Workers.{line, linesIn};
-use crate::lines::Lines;
+ghost use Rattle.wire.specs.Writing.{HasRoom, Puts};
+ghost use Rattle.page_lines.specs.PageLine.{analytes, pageLine};
+ghost use Rattle.page_lines.specs.Workers.{pageLinesIn};
+ghost use Rattle.page.specs.PageBytes.{pageLineBytes, pageLinesBytes, pageBytes, begins};
+ghost use Rattle.page.specs.Workers.{RoomForPage};
+use page_lines::PageColumns;
 
-// A line: "analyte, value, stamp".
+// A page's line: "analyte, value, stamp".
 fn write_line(buffer: &mut [u8], at: usize, analyte: u32, value: u32, stamp: u32) -> usize
-    requires { ⌜ at + length (lineBytes (line analyte value stamp)) ≤ length (now buffer) ⌝ }
-    ensures { λ r. ⌜ Wrote (now (buffer .entry)) at (lineBytes (line analyte value stamp)) r (now (buffer .exit)) ⌝ }
+    requires { ⌜ HasRoom buffer at (pageLineBytes (pageLine analyte value stamp)) ⌝ }
+    ensures { λ r. ⌜ Puts buffer at (pageLineBytes (pageLine analyte value stamp)) r ⌝ }
 {
     let after_analyte = number::write_at(buffer, at, analyte);
     let after_value = number::write_at(buffer, after_analyte, value);
     number::write_at(buffer, after_value, stamp)
 }
 
-// The lines, one after another.
-fn write_lines(buffer: &mut [u8], at: usize, lines: Lines) -> usize
-    requires { ⌜ (lines .count ≤ analytes) × (at + length (linesBytes (linesIn lines)) ≤ length (now buffer)) ⌝ }
-    ensures { λ r. ⌜ Wrote (now (buffer .entry)) at (linesBytes (linesIn lines)) r (now (buffer .exit)) ⌝ }
+// A page's lines, one after another.
+fn write_lines(buffer: &mut [u8], at: usize, lines: PageColumns) -> usize
+    requires { ⌜ (lines .count ≤ analytes) × HasRoom buffer at (pageLinesBytes (pageLinesIn lines)) ⌝ }
+    ensures { λ r. ⌜ Puts buffer at (pageLinesBytes (pageLinesIn lines)) r ⌝ }
 {
     let count = lines.count;
     let mut next = at;
@@ -39,9 +41,9 @@ fn write_lines(buffer: &mut [u8], at: usize, lines: Lines) -> usize
 }
 
 // A page: "sample, line count", then the lines.
-pub fn write_page(buffer: &mut [u8], sample: u32, lines: Lines) -> usize
-    requires { ⌜ (lines .count ≤ analytes) × (length (pageBytes sample (linesIn lines)) ≤ length (now buffer)) ⌝ }
-    ensures { λ r. ⌜ Wrote (now (buffer .entry)) 0 (pageBytes sample (linesIn lines)) r (now (buffer .exit)) ⌝ }
+pub fn write_page(buffer: &mut [u8], sample: u32, lines: PageColumns) -> usize
+    requires { ⌜ RoomForPage buffer sample lines ⌝ }
+    ensures { λ r. ⌜ Puts buffer 0 (pageBytes sample (pageLinesIn lines)) r ⌝ }
 {
     let after_sample = number::write_at(buffer, 0, sample);
     let after_count = number::write_at(buffer, after_sample, lines.count as u32);
@@ -51,7 +53,7 @@ pub fn write_page(buffer: &mut [u8], sample: u32, lines: Lines) -> usize
 // The page laid over the beginning of the buffer.
 pub fn lay(buffer: &mut [u8], page: &[u8])
     requires { ⌜ length (now page) ≤ length (now buffer) ⌝ }
-    ensures { λ _. ⌜ Wrote (now (buffer .entry)) 0 (now (page .entry)) (length (now (page .entry))) (now (buffer .exit)) ⌝ }
+    ensures { λ _. ⌜ Puts buffer 0 (now (page .entry)) (length (now (page .entry))) ⌝ }
 {
     let mut i = 0;
     while i < page.len() {

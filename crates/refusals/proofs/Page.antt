@@ -20,9 +20,10 @@ use Rattle.store.specs.Copies.{member}
 use Rattle.store.specs.Layout.{planOf, stateOf}
 use Rattle.store.specs.StoreRules.{goodStore}
 use Rattle.wire.proofs.Buffers.{small-answer, small-buffer, done-answer}
-use Rattle.page.specs.Page.{lastSample, linesOf, linesBytes, pageBytes, begins}
+use Rattle.page_lines.specs.PageLine.{lastSample, pageLines}
+use Rattle.page.specs.PageBytes.{pageLinesBytes, pageBytes, begins}
 use Rattle.page.specs.Promises.{pageNow, pageAnswer, pageBuffer, stillTrue, servedLength, served}
-use Rattle.page.proofs.PageBytes.{begins-rest, rest-begins}
+use Rattle.page.proofs.PagesApart.{begins-rest, rest-begins}
 use Rattle.page.proofs.Stale.{serves-kept, serves-notice}
 use Rattle.refusals.specs.Given.{Among, StillTrue}
 
@@ -163,8 +164,8 @@ module _ (z : Store) (sample : ℕ) where
   some-bytes : 1 ≤ length (pageNow z sample)
   unfolding pageBytes
   some-bytes =
-      let ls = linesOf (planOf z) (stateOf z) sample in
-      omega (arith, form-some sample, length-append (form sample) (form (length ls) ++ linesBytes ls))
+      let ls = pageLines (planOf z) (stateOf z) sample in
+      omega (arith, form-some sample, length-append (form sample) (form (length ls) ++ pageLinesBytes ls))
 
   -- so the length 0 says exactly that the notice is due.
   pub serve-length-0 : (kept : List ℕ) → (servedLength z sample kept ≡ 0) ↔ (StillTrue z sample kept → ⊥)

@@ -17,7 +17,7 @@ use Rattle.store.specs.State.{State, lastClock, nodeAt}
 use Rattle.store.specs.Layout.{planOf, stateOf}
 use Rattle.store.specs.StoreRules.{goodStore}
 use Rattle.store.specs.Calls.{Effect}
-use Rattle.page.specs.Page.{lastSample}
+use Rattle.page_lines.specs.PageLine.{lastSample}
 use Rattle.page.specs.Promises.{pageNow}
 use Rattle.schedule.specs.declared.Step.{Step}
 use Rattle.schedule.specs.Schedule.{knownStep}

@@ -22,10 +22,11 @@ use Rattle.store.specs.StateRules.{StateRules}
 use Rattle.store.specs.Layout.{planOf, stateOf}
 use Rattle.store.specs.StoreRules.{goodStore}
 use Rattle.store.proofs.Lifting.{plan-good, state-good}
-use Rattle.page.specs.Page.{analytes, lastSample, keyFor, pageOf, begins}
+use Rattle.page_lines.specs.PageLine.{analytes, lastSample, keyFor}
+use Rattle.page.specs.PageBytes.{pageOf, begins}
 use Rattle.page.specs.Promises.{pageNow, stillTrue, served}
-use Rattle.page.proofs.PageBytes.{rest-begins}
-use Rattle.page.proofs.PageLines.{Bounded}
+use Rattle.page.proofs.PagesApart.{rest-begins}
+use Rattle.page.proofs.KeptLines.{Bounded}
 use Rattle.page.proofs.Stale.{stale-by-result, stale-by-withdrawal, same-page, serves-kept, serves-notice}
 use Rattle.theory.specs.Events.{stateAfterAll, enteredCopies, held}
 use Rattle.theory.specs.Paper.{History, Multicopy}

@@ -34,7 +34,8 @@ use Rattle.image_writing.specs.Image.{copiesBytes, nodeBytes, nodesBytes, image
 use Rattle.image_reading.specs.ImageReading.{imageAt}
 use Rattle.image_loading.specs.Loading.{finished, loadOutcome}
 use Rattle.image.specs.Promises.{saveBuffer}
-use Rattle.page.specs.Page.{linesFrom, lineBytes, linesBytes, pageBytes}
+use Rattle.page_lines.specs.PageLine.{pageLinesFrom}
+use Rattle.page.specs.PageBytes.{pageLineBytes, pageLinesBytes, pageBytes}
 use Rattle.page.specs.Promises.{pageAnswer, pageBuffer}
 use Rattle.schedule.specs.Schedule.{knownStep, hasTwo, secondAt, stepAt, stepsAt, scheduleAt}
 use Rattle.schedule.specs.Running.{stepOf, printedSteps, printedSchedule}
@@ -42,7 +43,7 @@ use Rattle.worked.specs.Worked.{answersOf, storeAfterSteps, storeAfterIn
 
 -- Whoever unfolds this unfolds all definitions that the table is about.
 opened : Bool
-unfolding run allFrom formIn form readLast putBelow readIn readAt holds firstEdge next walk pathFrom planTable plans planNumbered find member different fresh firstOn inReach nodeIn planOf stateOf column storeOf freshStore shapeTest planNumberTest clockTest hasValue kindTest copyTest placeTest allZero unusedTest nodeTest stampsFrom standsAt slotTest goodStore onStore ofStore put room entered entry carries merge countHeld mergeAlong carriedTo carriedOut carryStep lowestIdle startStep withRunning stepStep cancelStep visitsOn lookAnswer bind numbered numberAt writtenAnswer writtenBuffer valueBytes copyBytes copiesBytes nodeBytes nodesBytes imageOf imageAt finished loadOutcome saveBuffer linesFrom lineBytes linesBytes pageBytes pageAnswer pageBuffer knownStep hasTwo secondAt stepAt stepsAt scheduleAt stepOf printedSteps printedSchedule answersOf storeAfterSteps storeAfterInput
+unfolding run allFrom formIn form readLast putBelow readIn readAt holds firstEdge next walk pathFrom planTable plans planNumbered find member different fresh firstOn inReach nodeIn planOf stateOf column storeOf freshStore shapeTest planNumberTest clockTest hasValue kindTest copyTest placeTest allZero unusedTest nodeTest stampsFrom standsAt slotTest goodStore onStore ofStore put room entered entry carries merge countHeld mergeAlong carriedTo carriedOut carryStep lowestIdle startStep withRunning stepStep cancelStep visitsOn lookAnswer bind numbered numberAt writtenAnswer writtenBuffer valueBytes copyBytes copiesBytes nodeBytes nodesBytes imageOf imageAt finished loadOutcome saveBuffer pageLinesFrom pageLineBytes pageLinesBytes pageBytes pageAnswer pageBuffer knownStep hasTwo secondAt stepAt stepsAt scheduleAt stepOf printedSteps printedSchedule answersOf storeAfterSteps storeAfterInput
 opened = true
 
 pub worked : Worked

@@ -3,7 +3,7 @@ use mathlib.Core.Path.{_≡_, refl}
 use Prim.Native.Nat.{_-_, _≤_}
 use borrow.Author.Needs.{needs}
 use lib.ListN.{length, drop}
-use Rattle.page.specs.Page.{begins}
+use Rattle.page.specs.PageBytes.{begins}
 use Rattle.page.proofs.PageWriting.{begins-short, begins-turn, begins-differs, begins-ends}
 use Rattle.page.proofs.writing.starts_with.Statement.{statement}
 use Rattle.page.proofs.writing.starts_with.Tie as tie

@@ -2,25 +2,25 @@
 -- Assumes nothing.
 use Prim.Native.Nat.{ℕ, _-_, _≤_}
 use borrow.Author.Needs.{needs}
-use Rattle.page.specs.Page.{Line}
-use Rattle.page.specs.Workers.{lineIn, linesIn}
+use Rattle.page_lines.specs.PageLine.{PageLine}
+use Rattle.page_lines.specs.Workers.{pageLineIn, pageLinesIn}
 use Rattle.page.proofs.PageWriting.{WritingLines, lines-start, line-fits, lines-turn, lines-end}
 use Rattle.page.proofs.writing.write_lines.Statement.{statement}
 use Rattle.page.proofs.writing.write_lines.Tie as tie
 
 abbrev Inv-loop : tie.InvT-loop
 Inv-loop buffer₀ at lines count next₀ i₀ buffer next i =
-    (i ≤ lines .count) × WritingLines (lineIn (lines .analytes) (lines .values) (lines .stamps)) (lines .count) buffer₀ at buffer next i
+    (i ≤ lines .count) × WritingLines (pageLineIn (lines .analytes) (lines .values) (lines .stamps)) (lines .count) buffer₀ at buffer next i
 
 abbrev μ-loop : tie.MeasureT-loop
 μ-loop buffer₀ at lines count next₀ i₀ buffer next i = lines .count - i
 
 -- The lines by number.
-abbrev lent : tie.Start Inv-loop μ-loop → ℕ → Line
-lent s = lineIn (s .args .t3 .analytes) (s .args .t3 .values) (s .args .t3 .stamps)
+abbrev lent : tie.Start Inv-loop μ-loop → ℕ → PageLine
+lent s = pageLineIn (s .args .t3 .analytes) (s .args .t3 .values) (s .args .t3 .stamps)
 
 loop-holds : tie.Need-loop-holds Inv-loop μ-loop
-unfolding linesIn
+unfolding pageLinesIn
 loop-holds c =
     let s = c .before in
     (search needs, lines-start (lent s) (s .args .t3 .count) (s .args .buffer .now) (s .args .at) (s .pre .1))
@@ -65,7 +65,7 @@ same-length : tie.Need-same-length Inv-loop μ-loop
 same-length c = c .before .loop .inv .1 .kept
 
 returns : tie.Need-returns Inv-loop μ-loop
-unfolding linesIn
+unfolding pageLinesIn
 returns c =
     let l = c .before in
     let s = l .before .before in

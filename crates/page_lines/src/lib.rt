@@ -4,11 +4,9 @@ ghost use mathlib.Core.List.{[]};
 ghost use Prim.Native.Nat.{_<_, _≤_};
 ghost use lib.ListN.{length};
 ghost use Rattle.plan.specs.Sizes.{mostNodes};
-ghost use Rattle.plan_table.specs.PlanTable.{planNumbered};
-ghost use Rattle.store.specs.Layout.{stateOf};
-ghost use Rattle.store.specs.Workers.{Ordered, holding};
-ghost use Rattle.page.specs.Page.{analytes, lastSample, linesOf};
-ghost use Rattle.page.specs.Workers.{linesIn, Pageable, laidOver, CurrentAt};
+ghost use Rattle.store.specs.Workers.{Ordered};
+ghost use Rattle.page_lines.specs.PageLine.{analytes, lastSample};
+ghost use Rattle.page_lines.specs.Workers.{LentPageable, laidOver, FindsCurrent, pageLinesIn, Gathers};
 use store::Copy;
 use store::Store;
 use store::columns;
@@ -20,7 +18,7 @@ const ANALYTES: u32 = 32;
 const MOST_LINES: usize = ANALYTES as usize;
 
 // The lines of a page in three columns, by rising analyte: the first, as many as the count says.
-pub struct Lines {
+pub struct PageColumns {
     pub count: usize,
     pub analytes: [u32; MOST_LINES],
     pub values: [u32; MOST_LINES],
@@ -28,11 +26,11 @@ pub struct Lines {
 }
 
 // No lines.
-fn no_lines() -> Lines
-    ensures { λ r. ⌜ linesIn r ≡ [] ⌝ }
+fn no_lines() -> PageColumns
+    ensures { λ r. ⌜ pageLinesIn r ≡ [] ⌝ }
 {
     let zeros = [0; MOST_LINES];
-    Lines {
+    PageColumns {
         count: 0,
         analytes: zeros,
         values: zeros,
@@ -69,43 +67,43 @@ fn lay_node(
 // The place of each line's current copy; past the last place for a line that was never entered. Node numbers rise down a path, so a
 // line's current copy is the one in the lowest node: nodes are laid over one another from the last to the root.
 fn current_places(
-    plan: u32,
+    nodes: u32,
     counts: &[u32; Store::NODES],
     keys: &[u32; Store::PLACES],
     sample: u32,
 ) -> [usize; MOST_LINES]
-    requires { ⌜ Pageable plan (now counts) (now keys) × (sample ≤ lastSample) ⌝ }
-    ensures { λ r. ⌜ CurrentAt plan (now (counts .entry)) (now (keys .entry)) sample r ⌝ }
+    requires { ⌜ LentPageable nodes counts keys × (sample ≤ lastSample) ⌝ }
+    ensures { λ r. ⌜ FindsCurrent nodes counts keys sample r ⌝ }
 {
-    let nodes = plan_table::nodes(plan) as usize;
+    let all = nodes as usize;
     let mut current = [Store::PLACES; MOST_LINES];
     let mut laid = 0;
-    while laid < nodes {
+    while laid < all {
         laid += 1;
-        lay_node(&mut current, counts, keys, nodes - laid, sample);
+        lay_node(&mut current, counts, keys, all - laid, sample);
     }
     current
 }
 
 // "for each analyte, rising, whose look gives a result": "Withdrawn and never-entered lines are left out."
 pub fn gather<'a>(
-    plan: u32,
+    nodes: u32,
     counts: &'a [u32; Store::NODES],
     keys: &'a [u32; Store::PLACES],
     kinds: &'a [u32; Store::PLACES],
     values: &'a [u32; Store::PLACES],
     stamps: &'a [u32; Store::PLACES],
     sample: u32,
-) -> Lines
-    requires { ⌜ Pageable plan (now counts) (now keys) × (sample ≤ lastSample) ⌝ }
-    ensures { λ r. ⌜ linesIn r ≡ linesOf (planNumbered plan) (stateOf (holding plan 0 (now (counts .entry)) (now (keys .entry)) (now (kinds .entry)) (now (values .entry)) (now (stamps .entry)))) sample ⌝ }
+) -> PageColumns
+    requires { ⌜ LentPageable nodes counts keys × (sample ≤ lastSample) ⌝ }
+    ensures { λ r. ⌜ Gathers nodes counts keys kinds values stamps sample r ⌝ }
 {
-    let current = current_places(plan, counts, keys, sample);
+    let current = current_places(nodes, counts, keys, sample);
     let mut lines = no_lines();
     let mut analyte = 0;
     while analyte < ANALYTES {
         let place = current[analyte as usize];
-        if place < Store::PLACES && kinds[place] == Copy::RESULT {
+        if place < Store::PLACES && Copy::has_value(kinds[place]) {
             let at = lines.count;
             lines.analytes[at] = analyte;
             lines.values[at] = values[place];

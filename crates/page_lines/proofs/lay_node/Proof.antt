@@ -1,4 +1,4 @@
--- `page::lines::lay_node` meets its contract. The loop's invariant: what is laid over, with what is still to come, is the whole node's.
+-- `page_lines::lay_node` meets its contract. The loop's invariant: what is laid over, with what is still to come, is the whole node's.
 -- Assumes nothing.
 use mathlib.Core.Path.{_∙_}
 use Prim.Native.Nat.{ℕ, _+_, _-_, _*_, _≤_}
@@ -7,10 +7,10 @@ use lib.ListN.{getD}
 use borrow.Author.Needs.{needs}
 use Rattle.store.specs.Layout.{width}
 use Rattle.store.specs.Workers.{numberIn}
-use Rattle.page.specs.Page.{analytes}
-use Rattle.page.proofs.NodePlaces.{Laying, lay-starts, lay-low, lay-ends, lay-stops, lay-turns, node-laid}
-use Rattle.page.proofs.lines.lay_node.Statement.{statement}
-use Rattle.page.proofs.lines.lay_node.Tie as tie
+use Rattle.page_lines.specs.PageLine.{analytes}
+use Rattle.page_lines.proofs.NodePlaces.{Laying, lay-starts, lay-low, lay-ends, lay-stops, lay-turns, node-laid}
+use Rattle.page_lines.proofs.lay_node.Statement.{statement}
+use Rattle.page_lines.proofs.lay_node.Tie as tie
 
 abbrev Inv-loop : tie.InvT-loop
 Inv-loop current₀ counts keys node sample from end first last at₀ current at = Laying keys from end sample current₀ at current

@@ -11,21 +11,22 @@ use borrow.Author.Tests.{eqb-true, eq-eqb}
 use Rattle.lists.proofs.Truths.{and-left, and-right, not-both}
 use Rattle.number.specs.Number.{form}
 use Rattle.number.proofs.Readings.{form-apart, form-rest}
-use Rattle.page.specs.Page.{Line, lineBytes, linesBytes, pageBytes, begins}
+use Rattle.page_lines.specs.PageLine.{PageLine}
+use Rattle.page.specs.PageBytes.{pageLineBytes, pageLinesBytes, pageBytes, begins}
 
 -- A line whose numbers have 32 bits.
-pub record Small (l : Line) : Type 0 where
+pub record Small (l : PageLine) : Type 0 where
   pub analyte : l .analyte ≤ 4294967295
   pub value : l .value ≤ 4294967295
   pub stamp : l .stamp ≤ 4294967295
 
-abbrev pub AllSmall : List Line → Type 0
+abbrev pub AllSmall : List PageLine → Type 0
 AllSmall [] = Unit {0}
 AllSmall (l ∷ ls) = Small l × AllSmall ls
 
 -- Two lines that begin one byte string are equal, and so is what follows them.
-line-apart : (l m : Line) → Small l → Small m → (a b : List ℕ) → lineBytes l ++ a ≡ lineBytes m ++ b → (l ≡ m) × (a ≡ b)
-unfolding lineBytes
+line-apart : (l m : PageLine) → Small l → Small m → (a b : List ℕ) → pageLineBytes l ++ a ≡ pageLineBytes m ++ b → (l ≡ m) × (a ≡ b)
+unfolding pageLineBytes
 line-apart l m p q a b e = (λ i. record { analyte = e1 i; value = e3 i; stamp = e5 i }, e6)
   where
     e0 : form (l .analyte) ++ (form (l .value) ++ (form (l .stamp) ++ a)) ≡ form (m .analyte) ++ (form (m .value) ++ (form (m .stamp) ++ b))
@@ -49,31 +50,31 @@ line-apart l m p q a b e = (λ i. record { analyte = e1 i; value = e3 i; stamp =
     e6 : a ≡ b
     e6 = form-rest _ _ (p .stamp) (q .stamp) e4
 
-lines-apart : (ls ms : List Line) → length ls ≡ length ms → AllSmall ls → AllSmall ms → (a b : List ℕ)
-    → linesBytes ls ++ a ≡ linesBytes ms ++ b → ls ≡ ms
-unfolding linesBytes
+lines-apart : (ls ms : List PageLine) → length ls ≡ length ms → AllSmall ls → AllSmall ms → (a b : List ℕ)
+    → pageLinesBytes ls ++ a ≡ pageLinesBytes ms ++ b → ls ≡ ms
+unfolding pageLinesBytes
 lines-apart [] [] n p q a b e = refl
 lines-apart [] (m ∷ ms) n p q a b e = absurd (omega arith)
 lines-apart (l ∷ ls) [] n p q a b e = absurd (omega arith)
 lines-apart (l ∷ ls) (m ∷ ms) n p q a b e =
     let w =
-    line-apart l m (p .0) (q .0) (linesBytes ls ++ a) (linesBytes ms ++ b)
-    (sym (append-assoc (lineBytes l) (linesBytes ls) a) ∙ e ∙ append-assoc (lineBytes m) (linesBytes ms) b)
+    line-apart l m (p .0) (q .0) (pageLinesBytes ls ++ a) (pageLinesBytes ms ++ b)
+    (sym (append-assoc (pageLineBytes l) (pageLinesBytes ls) a) ∙ e ∙ append-assoc (pageLineBytes m) (pageLinesBytes ms) b)
     in
     let r : ls ≡ ms = lines-apart ls ms (omega arith) (p .1) (q .1) a b (w .1) in
     λ i. w .0 i ∷ r i
 
 -- Two pages that begin one byte string are of one sample and have the same lines.
-pub page-apart : (sample other : ℕ) (ls ms : List Line) → sample ≤ 4294967295 → other ≤ 4294967295
+pub page-apart : (sample other : ℕ) (ls ms : List PageLine) → sample ≤ 4294967295 → other ≤ 4294967295
     → length ls ≤ 4294967295 → length ms ≤ 4294967295 → AllSmall ls → AllSmall ms → (a b : List ℕ)
     → pageBytes sample ls ++ a ≡ pageBytes other ms ++ b → (sample ≡ other) × (ls ≡ ms)
 unfolding pageBytes
 page-apart sample other ls ms h g hl gl p q a b e = (form-apart _ _ h g e0, lines-apart ls ms (form-apart _ _ hl gl e1) p q a b (form-rest _ _ hl gl e1))
   where
-    e0 : form sample ++ (form (length ls) ++ (linesBytes ls ++ a)) ≡ form other ++ (form (length ms) ++ (linesBytes ms ++ b))
+    e0 : form sample ++ (form (length ls) ++ (pageLinesBytes ls ++ a)) ≡ form other ++ (form (length ms) ++ (pageLinesBytes ms ++ b))
     e0 = simp append-assoc at e
 
-    e1 : form (length ls) ++ (linesBytes ls ++ a) ≡ form (length ms) ++ (linesBytes ms ++ b)
+    e1 : form (length ls) ++ (pageLinesBytes ls ++ a) ≡ form (length ms) ++ (pageLinesBytes ms ++ b)
     e1 = form-rest _ _ h g e0
 
 -- Bytes that begin with others are these and a rest.

@@ -16,8 +16,8 @@ use Rattle.store.specs.Layout.{width}
 use Rattle.store.specs.Workers.{numberIn, itself, placeIn, RisesIn}
 use Rattle.store.proofs.Halving.{place-bounds, half-up, half-down}
 use Rattle.store.proofs.Seeking.{rises-run, place-hit, place-before}
-use Rattle.page.specs.Page.{analytes, keyFor}
-use Rattle.page.specs.Workers.{placeOver, laidOver}
+use Rattle.page_lines.specs.PageLine.{analytes, keyFor}
+use Rattle.page_lines.specs.Workers.{placeOver, laidOver}
 
 -- Places that do not have the key are passed over,
 pass : (f : ℕ → ℕ) (k end m from at : ℕ) → from + m ≡ at → at ≤ end → ((i : ℕ) → from ≤ i → i < at → f i ≡ k → ⊥)

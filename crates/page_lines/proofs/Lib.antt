@@ -1,0 +1,5 @@
+pub mod LineLaws
+pub mod Lowest
+pub mod NodePlaces
+pub mod NodeByNode
+pub mod Gathering

@@ -1,0 +1,2 @@
+pub mod PageLine
+pub mod Workers
