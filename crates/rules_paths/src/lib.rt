@@ -7,7 +7,7 @@ use store::Slot;
 use store::Store;
 
 mod paths; // paths.rt: the paths of copies
-mod slots; // slots.rt: the search slots
+mod slot_rules; // slot_rules.rt: the search slots
 
 // The searches and the copies stand on their keys' paths.
 pub fn on_their_paths<'a>(
@@ -24,7 +24,7 @@ pub fn on_their_paths<'a>(
     requires { ⌜ LentLookable nodes edges lows highs targets counts keys ⌝ }
     ensures { λ r. ⌜ EachPlan nodes edges lows highs targets (λ p. r ≡ lentOnPaths p nodes counts keys stamps slots) ⌝ }
 {
-    if !slots::slots_good(nodes, edges, lows, highs, targets, slots) {
+    if !slot_rules::slots_good(nodes, edges, lows, highs, targets, slots) {
         return false;
     }
     paths::nodes_placed(nodes, edges, lows, highs, targets, counts, keys, stamps)

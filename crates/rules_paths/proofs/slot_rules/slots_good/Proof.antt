@@ -1,4 +1,4 @@
--- `rules_paths::slots::slots_good` meets its contract. The loop's invariant: all slots pass if those from i on do. The measure is their number.
+-- `rules_paths::slot_rules::slots_good` meets its contract. The loop's invariant: all slots pass if those from i on do. The measure is their number.
 -- Assumes nothing.
 use mathlib.Core.Path.{_≡_, refl, sym, _∙_}
 use mathlib.Core.Bool.{Bool}
@@ -15,8 +15,8 @@ use Rattle.plan.specs.PlanArrays.{RowsOf}
 use Rattle.store.specs.declared.Slot.{Slot}
 use Rattle.store.specs.State.{slotCount, idle}
 use Rattle.store.specs.StoreRules.{slotTest}
-use Rattle.rules_paths.proofs.slots.slots_good.Statement.{statement}
-use Rattle.rules_paths.proofs.slots.slots_good.Tie as tie
+use Rattle.rules_paths.proofs.slot_rules.slots_good.Statement.{statement}
+use Rattle.rules_paths.proofs.slot_rules.slots_good.Tie as tie
 
 -- The test of each slot.
 abbrev eachSlot : Plan → List Slot → ℕ → Bool

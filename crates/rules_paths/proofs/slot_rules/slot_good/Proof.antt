@@ -1,10 +1,10 @@
--- `rules_paths::slots::slot_good` meets its contract. Assumes nothing.
+-- `rules_paths::slot_rules::slot_good` meets its contract. Assumes nothing.
 use mathlib.Core.Path.{sym, _∙_}
 use native.Mathlib.Omega.{arith}
 use Rattle.rules_paths.proofs.Resting.{slot-rests, slot-strange, slot-runs}
 use borrow.Author.Needs.{needs}
-use Rattle.rules_paths.proofs.slots.slot_good.Statement.{statement}
-use Rattle.rules_paths.proofs.slots.slot_good.Tie as tie
+use Rattle.rules_paths.proofs.slot_rules.slot_good.Statement.{statement}
+use Rattle.rules_paths.proofs.slot_rules.slot_good.Tie as tie
 
 rests-requires : tie.Need-rests-requires
 rests-requires c κs = search needs

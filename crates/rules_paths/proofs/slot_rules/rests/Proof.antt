@@ -1,8 +1,8 @@
--- `rules_paths::slots::rests` meets its contract. Assumes nothing.
+-- `rules_paths::slot_rules::rests` meets its contract. Assumes nothing.
 use native.Mathlib.Omega.{arith}
 use Rattle.rules_paths.proofs.Resting.{first-is-not, second-is-not, third-decides}
-use Rattle.rules_paths.proofs.slots.rests.Statement.{statement}
-use Rattle.rules_paths.proofs.slots.rests.Tie as tie
+use Rattle.rules_paths.proofs.slot_rules.rests.Statement.{statement}
+use Rattle.rules_paths.proofs.slot_rules.rests.Tie as tie
 
 returns : tie.Need-returns
 returns c =
