@@ -22,7 +22,7 @@ use Rattle.page_lines.specs.PageLine.{analytes, lastSample, PageLine, pageLines
 use Rattle.page_lines.specs.Workers.{pageLinesIn}
 use Rattle.page_lines.proofs.LineLaws.{lines-few}
 use Rattle.page_lines.proofs.Gathering.{lines-counted}
-use Rattle.page.specs.PageBytes.{pageLineBytes, pageLinesBytes, pageBytes, mostPageBytes, begins}
+use Rattle.page.specs.PageBytes.{pageLineBytes, pageLinesBytes, pageBytes, mostPageBytes, pageOf, begins}
 use Rattle.page.proofs.PagesApart.{begins-rest}
 use Rattle.page.proofs.PageLength.{page-length}
 
@@ -94,6 +94,11 @@ pub page-room : (p : Plan) (s : State) (sample : ℕ) (r : PageColumns) → page
     → (r .count ≤ analytes) × (length (pageBytes sample (pageLinesIn r)) ≤ mostPageBytes)
 page-room p s sample r e h =
     (omega (arith, lines-counted r, ap length e, lines-few p s sample 0 analytes), rw e (page-length p s sample h))
+
+-- Where they were written, the sample's page was.
+pub put-now : (p : Plan) (s : State) (sample : ℕ) (r : PageColumns) → pageLinesIn r ≡ pageLines p s sample → {b : List ℕ} {n : ℕ} {c : List ℕ}
+    → Wrote b 0 (pageBytes sample (pageLinesIn r)) n c → Wrote b 0 (pageOf p s sample) n c
+put-now p s sample r e w = rw e at w
 
 -- ---- the page laid into a buffer
 

@@ -142,16 +142,16 @@ module _ (asked : Plan → Type 0) (s : State) (sample : ℕ) where
       (e : (p : Plan) → asked p → copyThere keys kinds values stamps place ≡ current p s (keyFor sample analyte))
       (g : Gathered asked s sample analyte r)
     where
-    pub gather-turns : Turn kinds values stamps analyte place r q → Gathered asked s sample (analyte + 1) q
-    gather-turns (never past d) =
-        turns analyte r q h (λ p w. rw (le-ltb place places past) at (e p w)) (rw (d, append-nil)) (rw d (g .room)) g
-    gather-turns (other within kind d) =
-        turns analyte r q h (λ p w. rw (lt-ltb place places within) at (e p w)) (rw (d, kind, append-nil)) (rw d (g .room)) g
-    gather-turns (valued within kind d) =
-        let v = getD values place 0 in
-        let t = getD stamps place 0 in
-        turns analyte r q h (λ p w. rw (lt-ltb place places within) at (e p w))
-        (ap pageLinesIn d ∙ rw kind (line-added r analyte v t (g .room) (omega (arith, g .few)))) (rw d (room-added r analyte v t (g .room))) g
+      pub gather-turns : Turn kinds values stamps analyte place r q → Gathered asked s sample (analyte + 1) q
+      gather-turns (never past d) =
+          turns analyte r q h (λ p w. rw (le-ltb place places past) at (e p w)) (rw (d, append-nil)) (rw d (g .room)) g
+      gather-turns (other within kind d) =
+          turns analyte r q h (λ p w. rw (lt-ltb place places within) at (e p w)) (rw (d, kind, append-nil)) (rw d (g .room)) g
+      gather-turns (valued within kind d) =
+          let v = getD values place 0 in
+          let t = getD stamps place 0 in
+          turns analyte r q h (λ p w. rw (lt-ltb place places within) at (e p w))
+          (ap pageLinesIn d ∙ rw kind (line-added r analyte v t (g .room) (omega (arith, g .few)))) (rw d (room-added r analyte v t (g .room))) g
 
   pub gather-ends : (analyte : ℕ) (r : PageColumns) → analytes ≤ analyte → Gathered asked s sample analyte r
       → (p : Plan) → asked p → pageLinesIn r ≡ pageLines p s sample

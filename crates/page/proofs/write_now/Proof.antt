@@ -1,12 +1,10 @@
 -- `page::write_now` meets its contract. Assumes nothing.
-use mathlib.Core.Path.{ap}
 use mathlib.Core.List.{[]}
 use native.Mathlib.Omega.{arith}
 use borrow.Author.Needs.{needs}
 use Rattle.store.specs.Layout.{stateIn}
 use Rattle.store.specs.State.{State}
-use Rattle.page.specs.PageBytes.{pageBytes}
-use Rattle.page.proofs.PageWriting.{page-room}
+use Rattle.page.proofs.PageWriting.{page-room, put-now}
 use Rattle.page.proofs.write_now.Statement.{statement}
 use Rattle.page.proofs.write_now.Tie as tie
 
@@ -32,7 +30,7 @@ returns : tie.Need-returns
 returns c p paths =
     let g = c .before .before .before .before in
     let s = g .before .before in
-    rw (ap (pageBytes (s .args .sample)) (g .gather .ensures p paths)) at (c .before .before .write-page .ensures)
+    put-now p (lent s) (s .args .sample) (g .gather .result) (g .gather .ensures p paths) (c .before .before .write-page .ensures)
 
 pub write-now-spec : {M : Type 1} → statement M
 write-now-spec = tie.close (tie.spec gather-requires write-page-requires same-length returns)
