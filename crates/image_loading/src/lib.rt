@@ -140,8 +140,8 @@ pub fn load_nodes<'a>(
     ensures { λ r. ⌜ lentLoaded r counts keys kinds values stamps ≡ finished (now (bytes .entry)) (nodesFrom (now (bytes .entry)) plan clock at) ⌝ }
 {
     clear(counts, keys, kinds, values, stamps);
-    let nodes = plan::nodes(plan);
-    let capacities = plan::capacities_of(plan);
+    let nodes = plan_table::nodes(plan);
+    let capacities = plan_table::capacities_of(plan);
     let end = image_reading::read_nodes(
         bytes,
         nodes,
