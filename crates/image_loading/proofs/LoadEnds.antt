@@ -10,10 +10,12 @@ use lib.ListN.{length, getD, drop, replicate, drop-of-length-le, List·getD-eq-d
 use lib.Seq.{drop-cons}
 use borrow.Author.Tests.{lt-ltb, le-ltb}
 use Rattle.lists.proofs.Running.{length-run}
+use Rattle.lists.proofs.Truths.{both-le}
 use Rattle.plan.specs.Sizes.{mostNodes}
 use Rattle.plan.specs.Plan.{Node, Plan, noNode, size, capacityOf}
 use Rattle.plan.specs.PlanRules.{PlanRules}
-use Rattle.plan_table.specs.PlanTable.{planNumbered}
+use Rattle.plan_table.specs.PlanTable.{planNumbered, plans}
+use Rattle.plan_table.proofs.TableLaws.{table-rules}
 use Rattle.plan.specs.PlanArrays.{atNode, capacitiesRow}
 use Rattle.store.specs.declared.Answer.{Answer}
 use Rattle.store.specs.declared.Copy.{Copy}
@@ -25,7 +27,6 @@ use Rattle.store.specs.State.{slotCount, idle}
 use Rattle.store.specs.Layout.{width, places, refusedStore}
 use Rattle.store.specs.StoreRules.{planNumberTest, goodStore}
 use Rattle.store.specs.Workers.{Sized, ofParts}
-use Rattle.store.proofs.Freshening.{number-rules}
 use Rattle.store.proofs.Laying.{store-is, length-column, blank-column, blank-counts}
 use Rattle.wire.specs.declared.Num.{Num}
 use Rattle.wire.specs.Reading.{Got, got, fault}
@@ -125,13 +126,14 @@ empty-columns =
 -- The nodes and the capacities of a plan have places in a store.
 pub plan-places : (plan : ℕ) {nodes : ℕ} {capacities : List ℕ} → planNumberTest plan ≡ true → nodes ≡ size (planNumbered plan)
     → capacities ≡ capacitiesRow (planNumbered plan) → (nodes ≤ mostNodes) × ((n : ℕ) → atNode capacities n ≤ width)
+unfolding planNumberTest
 plan-places plan {nodes} {capacities} t e f = (omega (arith, few), λ n. room n (decLt n (size p)))
   where
     p : Plan
     p = planNumbered plan
 
     rules : PlanRules p
-    rules = number-rules plan t
+    rules = let w = both-le 1 plan plan plans t in table-rules plan (w .0) (w .1)
 
     few : size p ≤ mostNodes
     few = rules .nodes-within .1
