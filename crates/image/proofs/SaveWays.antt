@@ -7,13 +7,14 @@ use native.Mathlib.Omega.{arith}
 use lib.ListN.{length}
 use Rattle.lists.specs.Stands.{Wrote}
 use Rattle.plan.specs.Sizes.{mostNodes}
-use Rattle.plan.specs.Plan.{size}
+use Rattle.plan.specs.Plan.{Plan, size}
 use Rattle.plan_table.specs.PlanTable.{planNumbered}
 use Rattle.store.specs.declared.Answer.{Answer}
 use Rattle.store.specs.declared.Store.{Store}
 use Rattle.store.specs.Answers.{DONE, BADSTORE, SMALL, answer, bare}
 use Rattle.store.specs.Layout.{planOf, stateIn, stateOf}
 use Rattle.store.specs.StoreRules.{goodStore}
+use Rattle.store.proofs.WhichPlan.{plan-numbered}
 use Rattle.store.proofs.Lifting.{plan-good}
 use Rattle.wire.proofs.Buffers.{small-answer, small-buffer, done-answer, done-wrote, wrote-end}
 use Rattle.image_writing.specs.Image.{imageOf, image}
@@ -26,7 +27,7 @@ save-bad z before bad e = (rw bad e, rw bad)
 
 -- The nodes that a store has by its plan's number are those of its plan.
 nodes-of : (z : Store) {nodes : ℕ} → nodes ≡ size (planNumbered (z .plan)) → nodes ≡ size (planOf z)
-nodes-of z e = e
+nodes-of z e = e ∙ ap (λ (p : Plan). size p) (sym (plan-numbered z))
 
 -- The image of a store, from so many nodes in its columns.
 abbrev imageIn : Store → ℕ → List ℕ
