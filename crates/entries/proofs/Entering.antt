@@ -133,7 +133,7 @@ module _ (z : Store) (good : goodStore z ≡ true) where
         found : find keyOf root k ≡ some (getD root at noCopy)
         found = find-rising keyOf noCopy root (state-good z good .keys-strictly-rise 0) k at (omega (arith, root-count)) its-key
 
-        pub entry-replaced : acceptance (record { accepted = true; at = at; end = at; count = countOf z 0 }) z kind k v ≡ onStore (entry kind k v) z
+        entry-replaced : acceptance (record { accepted = true; at = at; end = at; count = countOf z 0 }) z kind k v ≡ onStore (entry kind k v) z
         entry-replaced =
             done at (countOf z 0) (room-has keyOf (capacityOf p 0) root k (getD root at noCopy) found)
             (sym (ap length over ∙ length-set root at x ∙ root-count)) over-column

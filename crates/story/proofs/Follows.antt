@@ -26,7 +26,7 @@ use Rattle.store.proofs.Lifting.{same-call, Keeps, on-bad, on-good, number-stay
 use Rattle.schedule.specs.declared.Step.{Step}
 use Rattle.schedule.specs.Schedule.{ENTER, WITHDRAW, CARRY, START, STEP, CANCEL}
 use Rattle.schedule.specs.Running.{noStep, unknownStep, stepOf, runOutcome}
-use Rattle.image_writing.specs.Image.{Declared}
+use Rattle.trips.specs.Trips.{Declared}
 use Rattle.image_loading.specs.Loading.{loadOutcome}
 use Rattle.trips.proofs.RoundTrips.{load-good, fresh-idle, load-idle, load-all-idle}
 use Rattle.theory.specs.Events.{Event, effect, after, answerOf, stateAfterAll}
