@@ -4,6 +4,7 @@ use mathlib.Core.Bool.{true}
 use mathlib.Core.List.{List}
 use Prim.Native.Nat.{ℕ, _<_, _≤_}
 use lib.ListN.{length, set, take}
+use Rattle.lists.specs.Lending.{LentList}
 use Rattle.plan.specs.declared.Edge.{Edge}
 use Rattle.plan.specs.Sizes.{mostNodes}
 use Rattle.plan.specs.Plan.{capacityOf, edgeOf}
@@ -15,7 +16,7 @@ use Rattle.store.specs.Answers.{bare}
 use Rattle.store.specs.Layout.{planOf, width}
 use Rattle.store.specs.StoreRules.{goodStore}
 use Rattle.store.specs.Calls.{onStore}
-use Rattle.store.specs.Workers.{Lent, storeAtEntry, storeAtExit}
+use Rattle.store.specs.Workers.{storeAtEntry, storeAtExit}
 use Rattle.steps.specs.Carries.{carryStep}
 use Rattle.steps.specs.Promises.{Carries}
 use Rattle.moves.specs.Writings.{Movable, carriedColumn}
@@ -64,7 +65,7 @@ pub record Settles (z : Store) (n i : ℕ) (stay target : List ℕ) (r : Settled
   pub outcome : record { answer = r .answer; store = settledStore stay target r z } ≡ onStore (carryStep n i) z
 
 -- The same over lent columns.
-abbrev pub SettlesLent : ℕ → ℕ → Lent → Lent → Lent → Lent → Lent → List Slot → Lent → Lent → ℕ → ℕ → Settled → Type 0
+abbrev pub SettlesLent : ℕ → ℕ → LentList → LentList → LentList → LentList → LentList → List Slot → LentList → LentList → ℕ → ℕ → Settled → Type 0
 SettlesLent plan clock counts keys kinds values stamps slots stay target n i r =
     Settles (storeAtEntry plan clock counts keys kinds values stamps slots) n i (stay .exit .now) (target .exit .now) r
 
@@ -87,7 +88,7 @@ SettlesIn counts keys n e capacity stay target r =
     (z : Store) (i : ℕ) → Carriable counts keys n i e capacity z → Settles z n i stay target r
 
 -- The promise of a carry, over lent columns: the answer, and the store that they then are.
-abbrev pub CarriesLent : ℕ → ℕ → Lent → Lent → Lent → Lent → Lent → List Slot → ℕ → ℕ → Answer → Type 0
+abbrev pub CarriesLent : ℕ → ℕ → LentList → LentList → LentList → LentList → LentList → List Slot → ℕ → ℕ → Answer → Type 0
 CarriesLent plan clock counts keys kinds values stamps slots n i r =
     Carries (storeAtEntry plan clock counts keys kinds values stamps slots) n i
     (record { answer = r; store = storeAtExit plan clock counts keys kinds values stamps slots })

@@ -4,6 +4,7 @@ use mathlib.Core.Bool.{true, false}
 use mathlib.Core.List.{List}
 use Prim.Native.Nat.{ℕ, _+_, _<_, _≤_}
 use lib.ListN.{set}
+use Rattle.lists.specs.Lending.{LentList}
 use Rattle.plan.specs.Plan.{capacityOf}
 use Rattle.store.specs.declared.Outcome.{Outcome}
 use Rattle.store.specs.declared.Slot.{Slot}
@@ -13,7 +14,7 @@ use Rattle.store.specs.Calls.{onStore}
 use Rattle.store.specs.Layout.{planOf, width}
 use Rattle.store.specs.State.{lastClock}
 use Rattle.store.specs.StoreRules.{goodStore}
-use Rattle.store.specs.Workers.{Lent, opened, storeAtEntry, storeAtExit}
+use Rattle.store.specs.Workers.{opened, storeAtEntry, storeAtExit}
 use Rattle.steps.specs.Entries.{entry}
 use Rattle.steps.specs.Promises.{Enters, Withdraws}
 use Rattle.entries.specs.declared.Entered.{Entered}
@@ -55,19 +56,19 @@ abbrev pub Decides : List ℕ → List ℕ → ℕ → ℕ → Decision → Type
 Decides counts keys capacity key d = (z : Store) → Enterable counts keys capacity z → DecidesFor z key d
 
 -- An entry of this kind over lent columns: the answer, and the store that they then are.
-abbrev pub EntryLent : ℕ → ℕ → Lent → Lent → Lent → Lent → Lent → List Slot → ℕ → ℕ → ℕ → Entered → Type 0
+abbrev pub EntryLent : ℕ → ℕ → LentList → LentList → LentList → LentList → LentList → List Slot → ℕ → ℕ → ℕ → Entered → Type 0
 EntryLent plan clock counts keys kinds values stamps slots kind key value r =
     record { answer = r .answer; store = storeAtExit plan (r .clock) counts keys kinds values stamps slots }
     ≡ onStore (entry kind key value) (storeAtEntry plan clock counts keys kinds values stamps slots)
 
 -- The promise of entering a result, over lent columns.
-abbrev pub EntersLent : ℕ → ℕ → Lent → Lent → Lent → Lent → Lent → List Slot → ℕ → ℕ → Entered → Type 0
+abbrev pub EntersLent : ℕ → ℕ → LentList → LentList → LentList → LentList → LentList → List Slot → ℕ → ℕ → Entered → Type 0
 EntersLent plan clock counts keys kinds values stamps slots key value r =
     Enters (storeAtEntry plan clock counts keys kinds values stamps slots) key value
     (record { answer = r .answer; store = storeAtExit plan (r .clock) counts keys kinds values stamps slots })
 
 -- The promise of a withdrawal, over lent columns.
-abbrev pub WithdrawsLent : ℕ → ℕ → Lent → Lent → Lent → Lent → Lent → List Slot → ℕ → Entered → Type 0
+abbrev pub WithdrawsLent : ℕ → ℕ → LentList → LentList → LentList → LentList → LentList → List Slot → ℕ → Entered → Type 0
 WithdrawsLent plan clock counts keys kinds values stamps slots key r =
     Withdraws (storeAtEntry plan clock counts keys kinds values stamps slots) key
     (record { answer = r .answer; store = storeAtExit plan (r .clock) counts keys kinds values stamps slots })

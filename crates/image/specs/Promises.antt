@@ -3,12 +3,13 @@ use mathlib.Core.Path.{_≡_}
 use mathlib.Core.Bool.{cond}
 use mathlib.Core.List.{List}
 use Prim.Native.Nat.{ℕ}
+use Rattle.lists.specs.Lending.{LentList}
 use Rattle.store.specs.declared.Answer.{Answer}
 use Rattle.store.specs.declared.Outcome.{Outcome}
 use Rattle.store.specs.declared.Store.{Store}
 use Rattle.store.specs.Answers.{BADSTORE, bare}
 use Rattle.store.specs.StoreRules.{goodStore}
-use Rattle.wire.specs.Writing.{writtenAnswer, writtenBuffer, Lent}
+use Rattle.wire.specs.Writing.{writtenAnswer, writtenBuffer}
 use Rattle.image_writing.specs.Image.{image}
 use Rattle.image_loading.specs.Loading.{loadOutcome}
 
@@ -25,7 +26,7 @@ abbrev pub Saves : Store → List ℕ → Answer → List ℕ → Type 0
 Saves store before r after = (r ≡ saveAnswer store before) × (after ≡ saveBuffer store before)
 
 -- The same of a lent buffer.
-abbrev pub LentSaves : Store → Lent → Answer → Type 0
+abbrev pub LentSaves : Store → LentList → Answer → Type 0
 LentSaves store buffer r = Saves store (buffer .entry .now) r (buffer .exit .now)
 
 -- The outcome of a load: it is given no store.

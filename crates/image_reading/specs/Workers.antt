@@ -7,6 +7,7 @@ use lib.ListN.{length, getD}
 use lib.Seq.{sets}
 use denote.Ref.{RefT}
 use Rattle.lists.specs.Runs.{run}
+use Rattle.lists.specs.Lending.{LentList}
 use Rattle.plan.specs.Sizes.{mostNodes}
 use Rattle.plan.specs.Plan.{Plan, size}
 use Rattle.plan.specs.PlanArrays.{atNode, capacitiesRow}
@@ -15,7 +16,6 @@ use Rattle.store.specs.Layout.{width, column}
 use Rattle.store.specs.StoreRules.{planNumberTest}
 use Rattle.wire.specs.declared.Num.{Num}
 use Rattle.wire.specs.Reading.{Got, got, fault, bind, numOf}
-use Rattle.wire.specs.Writing.{Lent}
 use Rattle.image_reading.specs.declared.Head.{Head}
 use Rattle.image_reading.specs.ImageReading.{readNodes, nodesFrom, imageAt}
 
@@ -76,7 +76,7 @@ pub record Lays (g : Got (List Copy)) (value : List Copy → ℕ) (before : Colu
   pub lays : (xs : List Copy) (next : ℕ) → g ≡ got xs next → after ≡ laid before from xs
 
 -- The same of lent columns, from a function's entry to its exit.
-abbrev pub LentLays : Got (List Copy) → (List Copy → ℕ) → Lent → Lent → Lent → Lent → ℕ → Num → Type 0
+abbrev pub LentLays : Got (List Copy) → (List Copy → ℕ) → LentList → LentList → LentList → LentList → ℕ → Num → Type 0
 LentLays g value keys kinds values stamps from r =
     Lays g value (lentColumns (keys .entry) (kinds .entry) (values .entry) (stamps .entry)) from r
     (lentColumns (keys .exit) (kinds .exit) (values .exit) (stamps .exit))
@@ -88,7 +88,7 @@ pub record LaysNodes (g : Got (List (List Copy))) (r : Num) (counts : List ℕ) 
   pub columns-are : (ns : List (List Copy)) (next : ℕ) → g ≡ got ns next → after ≡ columnsOf ns
 
 -- Of every plan that has so many nodes and these capacities all nodes were read, into lent columns and counts.
-abbrev pub ReadsNodes : RefT (List ℕ) → ℕ → RefT (List ℕ) → ℕ → Lent → Lent → Lent → Lent → Lent → Num → Type 0
+abbrev pub ReadsNodes : RefT (List ℕ) → ℕ → RefT (List ℕ) → ℕ → LentList → LentList → LentList → LentList → LentList → Num → Type 0
 ReadsNodes bytes nodes capacities at counts keys kinds values stamps r =
     (p : Plan) → nodes ≡ size p → capacities .now ≡ capacitiesRow p
     → LaysNodes (readNodes (bytes .now) p at) r (counts .exit .now) (lentColumns (keys .exit) (kinds .exit) (values .exit) (stamps .exit))

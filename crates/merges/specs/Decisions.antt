@@ -4,9 +4,10 @@ use mathlib.Core.List.{List, _++_}
 use Prim.Native.Nat.{ℕ, _+_, _-_, _<_, _≤_}
 use lib.ListN.{length, take}
 use Rattle.lists.specs.Runs.{run}
+use Rattle.lists.specs.Lending.{LentList}
 use Rattle.plan.specs.declared.Edge.{Edge}
 use Rattle.store.specs.Layout.{width, places}
-use Rattle.store.specs.Workers.{Lent, numberIn, itself, RisesIn}
+use Rattle.store.specs.Workers.{numberIn, itself, RisesIn}
 use Rattle.steps.specs.Carries.{Merged, merge}
 use Rattle.merges.specs.declared.Merge.{Merge}
 
@@ -63,7 +64,7 @@ pub record Turned (keys : List ℕ) (capacity : ℕ) (e : Edge) (to end : ℕ) (
   pub less : (to - r .place) + (end - r .next) < (to - m .place) + (end - m .next)
 
 -- The same over references.
-abbrev pub LentTurned : Lent → ℕ → Edge → ℕ → ℕ → Lent → Lent → Merge → Merge → Type 0
+abbrev pub LentTurned : LentList → ℕ → Edge → ℕ → ℕ → LentList → LentList → Merge → Merge → Type 0
 LentTurned keys capacity e to end stay target m r =
     Turned (keys .entry .now) capacity e to end (stay .entry .now) (target .entry .now) m (stay .exit .now) (target .exit .now) r
 

@@ -3,7 +3,8 @@ use mathlib.Core.List.{List}
 use Prim.Native.Nat.{ℕ, _≤_}
 use lib.ListN.{length}
 use denote.Ref.{RefT}
-use Rattle.store.specs.Workers.{Lent, lentState}
+use Rattle.lists.specs.Lending.{LentList}
+use Rattle.store.specs.Workers.{lentState}
 use Rattle.wire.specs.Writing.{HasRoom, Puts}
 use Rattle.page_lines.specs.declared.PageColumns.{PageColumns}
 use Rattle.page_lines.specs.PageLine.{analytes}
@@ -19,7 +20,7 @@ abbrev pub RoomForPage : RefT (List ℕ) → ℕ → PageColumns → Type 0
 RoomForPage scratch sample lines = (lines .count ≤ analytes) × HasRoom scratch 0 (pageBytes sample (pageLinesIn lines))
 
 -- The sample's page as it is now is put into the scratch, by each plan on whose paths the copies stand.
-abbrev pub PutsPage : Lent → ℕ → Lent → Lent → Lent → Lent → Lent → ℕ → ℕ → Type 0
+abbrev pub PutsPage : LentList → ℕ → LentList → LentList → LentList → LentList → LentList → ℕ → ℕ → Type 0
 PutsPage scratch nodes counts keys kinds values stamps sample r =
     EachPlanOf nodes counts keys
     (λ p. Puts scratch 0 (pageOf p (lentState nodes (counts .entry) (keys .entry) (kinds .entry) (values .entry) (stamps .entry)) sample) r)

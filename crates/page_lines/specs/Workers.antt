@@ -8,6 +8,7 @@ use lib.Dec.{ltb}
 use lib.ListN.{getD}
 use denote.Ref.{RefT}
 use Rattle.lists.specs.Runs.{run}
+use Rattle.lists.specs.Lending.{LentList}
 use Rattle.plan.specs.Plan.{Plan, size}
 use Rattle.plan.specs.PlanRules.{PlanRules}
 use Rattle.store.specs.declared.Copy.{Copy}
@@ -15,7 +16,7 @@ use Rattle.store.specs.Copies.{find}
 use Rattle.store.specs.State.{current}
 use Rattle.store.specs.StateRules.{OnPath}
 use Rattle.store.specs.Layout.{width, places, copyIn, stateIn}
-use Rattle.store.specs.Workers.{Lent, numberIn, itself, AllOrdered, lentState}
+use Rattle.store.specs.Workers.{numberIn, itself, AllOrdered, lentState}
 use Rattle.page_lines.specs.declared.PageColumns.{PageColumns}
 use Rattle.page_lines.specs.PageLine.{analytes, keyFor, PageLine, pageLine, pageLines}
 
@@ -36,7 +37,7 @@ abbrev pub LentPageable : ℕ → RefT (List ℕ) → RefT (List ℕ) → Type 0
 LentPageable nodes counts keys = Pageable nodes (counts .now) (keys .now)
 
 -- A fact of each plan on whose paths the lent copies stand.
-abbrev pub EachPlanOf : ℕ → Lent → Lent → (Plan → Type 0) → Type 0
+abbrev pub EachPlanOf : ℕ → LentList → LentList → (Plan → Type 0) → Type 0
 EachPlanOf nodes counts keys fact = (p : Plan) → OnPaths p nodes (counts .entry .now) (keys .entry .now) → fact p
 
 -- The second place, if there is one, else the first.
@@ -60,7 +61,7 @@ CurrentAt nodes counts keys sample at p =
     → copyThere keys kinds values stamps (getD at a 0) ≡ current p (stateIn nodes 0 counts keys kinds values stamps []) (keyFor sample a)
 
 -- The places of the current copies, in each plan.
-abbrev pub FindsCurrent : ℕ → Lent → Lent → ℕ → List ℕ → Type 0
+abbrev pub FindsCurrent : ℕ → LentList → LentList → ℕ → List ℕ → Type 0
 FindsCurrent nodes counts keys sample at = EachPlanOf nodes counts keys (CurrentAt nodes (counts .entry .now) (keys .entry .now) sample at)
 
 -- The page's line that three columns hold at a place.
@@ -72,7 +73,7 @@ unfoldable pub pageLinesIn : PageColumns → List PageLine
 pageLinesIn r = run 0 (r .count) (pageLineIn (r .analytes) (r .values) (r .stamps))
 
 -- The lines of the sample's page, by each plan.
-abbrev pub Gathers : ℕ → Lent → Lent → Lent → Lent → Lent → ℕ → PageColumns → Type 0
+abbrev pub Gathers : ℕ → LentList → LentList → LentList → LentList → LentList → ℕ → PageColumns → Type 0
 Gathers nodes counts keys kinds values stamps sample r =
     EachPlanOf nodes counts keys
     (λ p. pageLinesIn r ≡ pageLines p (lentState nodes (counts .entry) (keys .entry) (kinds .entry) (values .entry) (stamps .entry)) sample)

@@ -7,8 +7,8 @@ use Prim.Native.Nat.{ℕ, min}
 use lib.Dec.{ltb}
 use lib.ListN.{length, getD}
 use denote.Ref.{RefT}
-use denote.Triple.Both.{Both}
 use Rattle.lists.specs.Runs.{run}
+use Rattle.lists.specs.Lending.{Lent, LentList}
 use Rattle.plan.specs.declared.Edge.{Edge}
 use Rattle.plan.specs.Sizes.{mostNodes, mostEdges}
 use Rattle.plan.specs.Plan.{Plan, size, capacityOf, edgesOf, edgeOf}
@@ -63,11 +63,7 @@ pub record RowsOf (p : Plan) (nodes : ℕ) (edges : List ℕ) (lows highs target
 abbrev pub LentRowsOf : Plan → ℕ → RefT (List ℕ) → RefT Grid → RefT Grid → RefT Grid → Type 0
 LentRowsOf p nodes edges lows highs targets = RowsOf p nodes (edges .now) (lows .now) (highs .now) (targets .now)
 
--- What is lent to be read, as an `ensures` sees it: on entry and on exit.
-abbrev pub Lent : Type 0 → Type 0
-Lent A = Both (RefT A) (RefT A)
-
 -- A fact of each plan that has these rows.
-abbrev pub EachPlan : ℕ → Lent (List ℕ) → Lent Grid → Lent Grid → Lent Grid → (Plan → Type 0) → Type 0
+abbrev pub EachPlan : ℕ → LentList → Lent Grid → Lent Grid → Lent Grid → (Plan → Type 0) → Type 0
 EachPlan nodes edges lows highs targets fact =
     (p : Plan) → LentRowsOf p nodes (edges .entry) (lows .entry) (highs .entry) (targets .entry) → fact p

@@ -5,9 +5,9 @@ use Prim.Native.Nat.{ℕ, _*_}
 use lib.Dec.{ltb}
 use lib.ListN.{getD}
 use Rattle.lists.specs.Runs.{allFrom, allBelow}
+use Rattle.lists.specs.Lending.{LentList}
 use Rattle.plan.specs.Sizes.{mostNodes}
 use Rattle.plan.specs.Plan.{Plan, next, path}
-use Rattle.plan.specs.PlanArrays.{Lent}
 use Rattle.store.specs.declared.Slot.{Slot}
 use Rattle.store.specs.Copies.{stampOf, member}
 use Rattle.store.specs.State.{State, slotCount, idle, inReach}
@@ -34,22 +34,22 @@ abbrev pub slotsTest : Plan → List Slot → Bool
 slotsTest p slots = allBelow slotCount (λ i. slotTest p (getD slots i idle))
 
 -- The state of columns that are lent.
-abbrev pub lentKeyed : ℕ → Lent (List ℕ) → Lent (List ℕ) → Lent (List ℕ) → State
+abbrev pub lentKeyed : ℕ → LentList → LentList → LentList → State
 lentKeyed nodes counts keys stamps = keyed nodes (counts .entry .now) (keys .entry .now) (stamps .entry .now)
 
 -- The test of a copy,
-abbrev pub lentPlaced : Plan → ℕ → Lent (List ℕ) → Lent (List ℕ) → Lent (List ℕ) → ℕ → ℕ → Bool
+abbrev pub lentPlaced : Plan → ℕ → LentList → LentList → LentList → ℕ → ℕ → Bool
 lentPlaced p nodes counts keys stamps = placedTest p (lentKeyed nodes counts keys stamps) (keys .entry .now) (stamps .entry .now)
 
 -- and of a node.
-abbrev pub lentPaths : Plan → ℕ → Lent (List ℕ) → Lent (List ℕ) → Lent (List ℕ) → ℕ → Bool
+abbrev pub lentPaths : Plan → ℕ → LentList → LentList → LentList → ℕ → Bool
 lentPaths p nodes counts keys stamps =
     pathsTest p (lentKeyed nodes counts keys stamps) (counts .entry .now) (keys .entry .now) (stamps .entry .now)
 
 -- The test of the searches and of all copies.
-abbrev pub lentOnPaths : Plan → ℕ → Lent (List ℕ) → Lent (List ℕ) → Lent (List ℕ) → List Slot → Bool
+abbrev pub lentOnPaths : Plan → ℕ → LentList → LentList → LentList → List Slot → Bool
 lentOnPaths p nodes counts keys stamps slots = slotsTest p slots && allBelow mostNodes (lentPaths p nodes counts keys stamps)
 
 -- The stamp of the key's first copy below a node, down its path.
-abbrev pub lentBelow : Plan → ℕ → Lent (List ℕ) → Lent (List ℕ) → Lent (List ℕ) → ℕ → ℕ → ℕ
+abbrev pub lentBelow : Plan → ℕ → LentList → LentList → LentList → ℕ → ℕ → ℕ
 lentBelow p nodes counts keys stamps node key = stampOf (inReach p (lentKeyed nodes counts keys stamps) key (next p node key))

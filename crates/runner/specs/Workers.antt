@@ -2,8 +2,7 @@
 use mathlib.Core.Path.{_≡_}
 use mathlib.Core.List.{List}
 use Prim.Native.Nat.{ℕ}
-use denote.Ref.{RefT}
-use denote.Triple.Both.{Both}
+use Rattle.lists.specs.Lending.{LentList}
 use Rattle.store.specs.declared.Slot.{Slot}
 use Rattle.store.specs.declared.Store.{Store}
 use Rattle.store.specs.Calls.{onStore}
@@ -12,17 +11,13 @@ use Rattle.schedule.specs.Schedule.{stepRecord}
 use Rattle.schedule.specs.Running.{stepOf}
 use Rattle.runner.specs.declared.Done.{Done}
 
--- A column that is lent to be written, at entry and at exit.
-abbrev pub Written : Type 0
-Written = Both (RefT (List ℕ)) (RefT (List ℕ))
-
 -- What was done, with the store after it, is the outcome of the step of a record on the store before it.
 abbrev pub Does : ℕ → ℕ → ℕ → ℕ → Store → Done → Store → Type 0
 Does number x y place before r after =
     record { answer = r .answer; store = after } ≡ onStore (stepOf (stepRecord number x y) place) before
 
 -- The same over the parts of a store: its columns are lent to be written, its clock and its slots are given back.
-abbrev pub DoesLent : ℕ → ℕ → Written → Written → Written → Written → Written → List Slot → ℕ → ℕ → ℕ → ℕ → Done → Type 0
+abbrev pub DoesLent : ℕ → ℕ → LentList → LentList → LentList → LentList → LentList → List Slot → ℕ → ℕ → ℕ → ℕ → Done → Type 0
 DoesLent plan clock counts keys kinds values stamps slots number x y place r =
     Does number x y place
     (lentStore plan clock (counts .entry) (keys .entry) (kinds .entry) (values .entry) (stamps .entry) slots)

@@ -5,9 +5,10 @@ use mathlib.Core.List.{List}
 use Prim.Native.Nat.{ℕ, _<_}
 use lib.ListN.{getD, set}
 use denote.Ref.{RefT}
+use Rattle.lists.specs.Lending.{Lent, LentList}
 use Rattle.plan.specs.Sizes.{mostNodes}
 use Rattle.plan.specs.Plan.{Plan, size}
-use Rattle.plan.specs.PlanArrays.{Grid, Lent, RowsOf}
+use Rattle.plan.specs.PlanArrays.{Grid, RowsOf}
 use Rattle.store.specs.declared.Copy.{Copy}
 use Rattle.store.specs.declared.Slot.{Slot}
 use Rattle.store.specs.Answers.{bare}
@@ -72,8 +73,8 @@ LentSteppable counts keys slots = Steppable (counts .now) (keys .now) slots
 abbrev pub LentRunning : RefT (List ℕ) → RefT (List ℕ) → List Slot → ℕ → Type 0
 LentRunning counts keys slots i = Running (counts .now) (keys .now) slots i
 
-abbrev pub LentStepsBy : Lent (List ℕ) → Lent Grid → Lent Grid → Lent Grid
-    → Lent (List ℕ) → Lent (List ℕ) → Lent (List ℕ) → Lent (List ℕ) → Lent (List ℕ) → List Slot → ℕ → Change → Type 0
+abbrev pub LentStepsBy : LentList → Lent Grid → Lent Grid → Lent Grid
+    → LentList → LentList → LentList → LentList → LentList → List Slot → ℕ → Change → Type 0
 LentStepsBy edges lows highs targets counts keys kinds values stamps slots slot r =
     StepsBy (edges .entry .now) (lows .entry .now) (highs .entry .now) (targets .entry .now) (counts .entry .now)
     (keys .entry .now) (kinds .entry .now) (values .entry .now) (stamps .entry .now) slots slot r

@@ -7,8 +7,8 @@ use lib.Dec.{ltb}
 use lib.ListN.{length, getD, take, drop}
 use lib.Seq.{slice}
 use Rattle.lists.specs.Runs.{run}
+use Rattle.lists.specs.Lending.{LentList}
 use denote.Ref.{RefT}
-use denote.Triple.Both.{Both}
 use Rattle.plan.specs.Sizes.{mostNodes}
 use Rattle.plan.specs.Plan.{Plan}
 use Rattle.plan.specs.PlanArrays.{Grid, RowsOf}
@@ -74,22 +74,18 @@ ofParts plan clock counts keys kinds values stamps slots =
 abbrev pub holding : ℕ → ℕ → List ℕ → List ℕ → List ℕ → List ℕ → List ℕ → Store
 holding plan clock counts keys kinds values stamps = ofParts plan clock counts keys kinds values stamps []
 
--- A column lent to a call: as it is when the call begins, and when it ends.
-abbrev pub Lent : Type 0
-Lent = Both (RefT (List ℕ)) (RefT (List ℕ))
-
 -- The store whose columns are lent.
 abbrev pub lentStore : ℕ → ℕ → RefT (List ℕ) → RefT (List ℕ) → RefT (List ℕ) → RefT (List ℕ) → RefT (List ℕ) → List Slot → Store
 lentStore plan clock counts keys kinds values stamps slots =
     ofParts plan clock (counts .now) (keys .now) (kinds .now) (values .now) (stamps .now) slots
 
 -- The store that is lent to a call, as the call begins,
-abbrev pub storeAtEntry : ℕ → ℕ → Lent → Lent → Lent → Lent → Lent → List Slot → Store
+abbrev pub storeAtEntry : ℕ → ℕ → LentList → LentList → LentList → LentList → LentList → List Slot → Store
 storeAtEntry plan clock counts keys kinds values stamps slots =
     lentStore plan clock (counts .entry) (keys .entry) (kinds .entry) (values .entry) (stamps .entry) slots
 
 -- and as it ends.
-abbrev pub storeAtExit : ℕ → ℕ → Lent → Lent → Lent → Lent → Lent → List Slot → Store
+abbrev pub storeAtExit : ℕ → ℕ → LentList → LentList → LentList → LentList → LentList → List Slot → Store
 storeAtExit plan clock counts keys kinds values stamps slots =
     lentStore plan clock (counts .exit) (keys .exit) (kinds .exit) (values .exit) (stamps .exit) slots
 

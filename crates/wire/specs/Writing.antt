@@ -5,8 +5,8 @@ use Prim.Native.Nat.{ℕ, _+_, _≤_}
 use lib.Dec.{ltb}
 use lib.ListN.{length, drop}
 use denote.Ref.{RefT}
-use denote.Triple.Both.{Both}
 use Rattle.lists.specs.Stands.{Wrote}
+use Rattle.lists.specs.Lending.{LentList}
 use Rattle.store.specs.declared.Answer.{Answer}
 use Rattle.store.specs.Answers.{DONE, SMALL, answer}
 
@@ -19,14 +19,10 @@ writtenAnswer bytes before =
 unfoldable pub writtenBuffer : List ℕ → List ℕ → List ℕ
 writtenBuffer bytes before = cond (ltb (length before) (length bytes)) before (bytes ++ drop (length bytes) before)
 
--- A list that is lent: as it is at a function's entry, and at its exit.
-abbrev pub Lent : Type 0
-Lent = Both (RefT (List ℕ)) (RefT (List ℕ))
-
 -- A lent buffer has room for the bytes at an offset.
 abbrev pub HasRoom : RefT (List ℕ) → ℕ → List ℕ → Type 0
 HasRoom buffer at bytes = at + length bytes ≤ length (buffer .now)
 
 -- A function that is lent the buffer puts the bytes there, and goes on at `next`.
-abbrev pub Puts : Lent → ℕ → List ℕ → ℕ → Type 0
+abbrev pub Puts : LentList → ℕ → List ℕ → ℕ → Type 0
 Puts buffer at bytes next = Wrote (buffer .entry .now) at bytes next (buffer .exit .now)

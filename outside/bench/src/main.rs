@@ -1,6 +1,6 @@
 //! Measures the proved library's calls beside the model's, and a portal's day beside SQLite and LevelDB.
 //!
-//!     bench [calls | day]
+//!     bench [calls | stamps | day]
 
 mod calls;
 mod databases;
@@ -8,18 +8,21 @@ mod day;
 mod dynamic;
 mod leveldb;
 mod measure;
-mod orders;
 mod portals;
 mod sqlite;
+mod stamps;
 mod stores;
 
 fn main() {
     let part = std::env::args().nth(1);
-    if part.as_deref() != Some("day") {
+    let wanted = |name| part.as_deref().is_none_or(|part| part == name);
+    if wanted("calls") {
         calls::print();
-        orders::print();
     }
-    if part.as_deref() != Some("calls") {
+    if wanted("stamps") {
+        stamps::print();
+    }
+    if wanted("day") {
         day::print();
     }
 }
