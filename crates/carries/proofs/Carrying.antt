@@ -7,8 +7,8 @@ use native.Mathlib.Omega.{arith}
 use lib.ListN.{length, getD, set, take, replicate, length-map, length-set}
 use lib.Seq.{sets, set-comm, set-getD, length-take-le, getD-set-other}
 use borrow.Author.Tests.{lt-ltb, le-ltb}
-use Rattle.lists.specs.Runs.{run}
-use Rattle.lists.proofs.Running.{map-run}
+use Rattle.lists.specs.Indexed.{tabulate}
+use Rattle.lists.proofs.Tabulating.{map-tabulate}
 use Rattle.plan.specs.declared.Edge.{Edge}
 use Rattle.plan.specs.Sizes.{mostNodes}
 use Rattle.plan.specs.Plan.{Plan, noEdge, size, capacityOf, edgesOf, edgeOf}
@@ -47,7 +47,7 @@ at-places : (z : Store) (n : ℕ) → nodeOf z n ≡ map (copyOf z) (span (width
 unfolding nodeIn
 at-places z n =
     let c : width * n + countOf z n - width * n ≡ countOf z n = omega arith in
-    rw c (sym (map-run (copyOf z) itself (width * n) (countOf z n)))
+    rw c (sym (map-tabulate (copyOf z) itself (width * n) (countOf z n)))
 
 -- The numbers of a column at some places are those of the copies there.
 gathered : (part : Copy → ℕ) (copies : ℕ → Copy) (c : List ℕ) → ((j : ℕ) → numberIn c j ≡ part (copies j)) → (list : List ℕ)
@@ -70,8 +70,8 @@ module _ (ns : List (List Copy)) (n t : ℕ) (xs ys : List Copy) (n-there : n < 
       ap₂ (λ (c : List ℕ) (x : ℕ). sets c (width * n) (map part xs ++ replicate k x)) (node-grown first part fewer grows room) (sym zero)
       ∙ node-laid second part k few (rw (getD-set-other ns t n ys [] apart) over) fits
 
-  both-counts : run 0 mostNodes (λ m. length (getD (set (set ns n xs) t ys) m []))
-      ≡ set (set (run 0 mostNodes (λ m. length (getD ns m []))) n (length xs)) t (length ys)
+  both-counts : tabulate 0 mostNodes (λ m. length (getD (set (set ns n xs) t ys) m []))
+      ≡ set (set (tabulate 0 mostNodes (λ m. length (getD ns m []))) n (length xs)) t (length ys)
   both-counts =
       counts-written (set-one (set ns n xs) t ys (rw length-set t-there))
       ∙ ap (λ (l : List ℕ). set l t (length ys)) (counts-written (set-one ns n xs n-there))
@@ -264,13 +264,13 @@ module _ (z : Store) (good : goodStore z ≡ true) (n i : ℕ) (d : IsEdge (plan
           counted : countHeld keyOf e xs ≡ left
           counted = count-map keyOf (copyOf z) e (places-merged .stay) ∙ sym (left-is ∙ ap (countHeld (numberIn (z .keys)) e) (decided .stays .listed))
 
-          counts : set (set (z .counts) n (m .kept)) t (m .got) ≡ run 0 mostNodes (λ k. length (getD (set (set (s .nodes) n xs) t ys) k []))
+          counts : set (set (z .counts) n (m .kept)) t (m .got) ≡ tabulate 0 mostNodes (λ k. length (getD (set (set (s .nodes) n xs) t ys) k []))
           counts =
               let l = length-nodes z in
               let there = target-there in
               let here = node-there in
               ap (λ (l : List ℕ). set (set l n (m .kept)) t (m .got)) (counts-are z good)
-              ∙ ap₂ (λ (j k : ℕ). set (set (run 0 mostNodes (λ l. length (nodeAt s l))) n j) t k) (sym stay-count) (sym target-count)
+              ∙ ap₂ (λ (j k : ℕ). set (set (tabulate 0 mostNodes (λ l. length (nodeAt s l))) n j) t k) (sym stay-count) (sym target-count)
               ∙ sym (both-counts (s .nodes) n t xs ys (omega arith) (omega arith) node-apart)
 
       -- What is settled along the edge.

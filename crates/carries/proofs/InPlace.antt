@@ -4,8 +4,8 @@ use Prim.Native.Nat.{ℕ, zero, suc, _+_, _-_, _≤_}
 use native.Mathlib.Omega.{arith}
 use native.Mathlib.Nat.{le-refl, le-step, le-of-suc-le-suc, not-suc-le-zero}
 use lib.ListN.{length}
-use Rattle.lists.specs.Runs.{run}
-use Rattle.lists.proofs.Running.{getD-run}
+use Rattle.lists.specs.Indexed.{tabulate}
+use Rattle.lists.proofs.Tabulating.{getD-tabulate}
 use Rattle.lists.proofs.Orders.{Order, order?}
 use Rattle.lists.proofs.Orders.Order.{less, equal, more}
 use Rattle.lists.proofs.RisingKeys.{Rising, rising-from}
@@ -43,20 +43,20 @@ rising-over (above g r) zero h = omega arith
 rising-over (above g r) (suc i) h = omega (arith, rising-over r i (le-of-suc-le-suc h))
 
 -- Places in a row do both.
-run-climbs : (s n : ℕ) → Climbing s (run s n itself)
-unfolding run
+run-climbs : (s n : ℕ) → Climbing s (tabulate s n itself)
+unfolding tabulate
 run-climbs s zero = done
 run-climbs s (suc n) = next (le-refl s) (run-climbs (suc s) n)
 
-run-rises : (s n : ℕ) → Rising itself s (run s n itself)
-unfolding run
+run-rises : (s n : ℕ) → Rising itself s (tabulate s n itself)
+unfolding tabulate
 run-rises s zero = end
 run-rises s (suc n) = above (le-refl s) (run-rises (suc s) n)
 
 span-within : (a e b : ℕ) → e ≤ b → Within (span a e) b
 span-within a e b h i g =
     let l = span-length a e in
-    rw (getD-run itself a (e - a) i 0 (omega arith)) (omega arith)
+    rw (getD-tabulate itself a (e - a) i 0 (omega arith)) (omega arith)
 
 module _ (key : ℕ → ℕ) (capacity : ℕ) (e : Edge) where
   put-climbs : (x : ℕ) {s : ℕ} {ys : List ℕ} → x ≤ s → Climbing s ys → Climbing s (put key x ys)

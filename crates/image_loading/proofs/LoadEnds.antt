@@ -9,7 +9,7 @@ use native.Mathlib.Decide.{decLt}
 use lib.ListN.{length, getD, drop, replicate, drop-of-length-le, List·getD-eq-default}
 use lib.Seq.{drop-cons}
 use borrow.Author.Tests.{lt-ltb, le-ltb}
-use Rattle.lists.proofs.Running.{length-run}
+use Rattle.lists.proofs.Tabulating.{length-tabulate}
 use Rattle.lists.proofs.Truths.{both-le}
 use Rattle.plan.specs.Sizes.{mostNodes}
 use Rattle.plan.specs.Plan.{Node, Plan, noNode, size, capacityOf}
@@ -176,7 +176,7 @@ module _ (s : List ℕ) (plan clock at : ℕ) {r : Num} {counts keys kinds value
     pub nodes-sized : Sized counts keys kinds values stamps
     nodes-sized =
         record {
-          counts-long = ap length (l .counts-are (read .0) (r .at) (read .1)) ∙ length-run _ 0 mostNodes;
+          counts-long = ap length (l .counts-are (read .0) (r .at) (read .1)) ∙ length-tabulate _ 0 mostNodes;
           keys-long = ap (λ (d : Columns). length (d .keys)) columns-are ∙ length-column (λ (x : Copy). x .key) (read .0);
           kinds-long = ap (λ (d : Columns). length (d .kinds)) columns-are ∙ length-column (λ (x : Copy). x .kind) (read .0);
           values-long = ap (λ (d : Columns). length (d .values)) columns-are ∙ length-column (λ (x : Copy). x .value) (read .0);

@@ -6,7 +6,7 @@ use Prim.Native.Nat.{ℕ, _≤_}
 use lib.ListN.{length, getD}
 use lib.Seq.{sets}
 use denote.Ref.{RefT}
-use Rattle.lists.specs.Runs.{run}
+use Rattle.lists.specs.Indexed.{tabulate}
 use Rattle.lists.specs.Lending.{LentList}
 use Rattle.plan.specs.Sizes.{mostNodes}
 use Rattle.plan.specs.Plan.{Plan, size}
@@ -52,7 +52,7 @@ columnsOf ns =
 
 -- The counts of such a store.
 abbrev pub countsOf : List (List Copy) → List ℕ
-countsOf ns = run 0 mostNodes (λ n. length (getD ns n []))
+countsOf ns = tabulate 0 mostNodes (λ n. length (getD ns n []))
 
 -- Lent counts and columns hold nothing.
 abbrev pub LentEmpty : RefT (List ℕ) → RefT (List ℕ) → RefT (List ℕ) → RefT (List ℕ) → RefT (List ℕ) → Type 0

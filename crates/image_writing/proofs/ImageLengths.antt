@@ -7,8 +7,8 @@ use native.Mathlib.Omega.{arith}
 use native.Mathlib.Decide.{decLt}
 use lib.Dec.{lit≤}
 use lib.ListN.{length, getD, length-append, List·getD-eq-default}
-use Rattle.lists.specs.Runs.{run}
-use Rattle.lists.proofs.Running.{length-run, getD-run-0}
+use Rattle.lists.specs.Indexed.{tabulate}
+use Rattle.lists.proofs.Tabulating.{length-tabulate, getD-tabulate-0}
 use Rattle.number.specs.Number.{form}
 use Rattle.number.proofs.Forms.{form-length}
 use Rattle.plan.specs.Sizes.{mostNodes}
@@ -55,15 +55,15 @@ pub node-short : (xs : List Copy) → length xs ≤ width → length (nodeBytes 
 node-short xs h = omega (arith, node-length xs, form-length (length xs), copies-short xs)
 
 -- A node in the places of columns: its count's bytes and its copies'.
-module _ (f : ℕ → Copy) (from count : ℕ) {a b : ℕ} (p : a ≡ length (form count)) (q : b ≡ length (copiesBytes (run from (from + count - from) f))) where
-  pub node-adds : a + b ≡ length (nodeBytes (run from count f))
+module _ (f : ℕ → Copy) (from count : ℕ) {a b : ℕ} (p : a ≡ length (form count)) (q : b ≡ length (copiesBytes (tabulate from (from + count - from) f))) where
+  pub node-adds : a + b ≡ length (nodeBytes (tabulate from count f))
   node-adds =
       let m : from + count - from ≡ count = omega arith in
-      let r : b ≡ length (copiesBytes (run from count f)) = rw m at q in
-      omega (arith, node-length (run from count f), ap (λ (n : ℕ). length (form n)) (length-run f from count))
+      let r : b ≡ length (copiesBytes (tabulate from count f)) = rw m at q in
+      omega (arith, node-length (tabulate from count f), ap (λ (n : ℕ). length (form n)) (length-tabulate f from count))
 
   pub node-adds-few : count ≤ width → a + b ≤ longestNode
-  node-adds-few h = let e = node-adds in omega (arith, node-short (run from count f) (omega (arith, length-run f from count)))
+  node-adds-few h = let e = node-adds in omega (arith, node-short (tabulate from count f) (omega (arith, length-tabulate f from count)))
 
 pub no-nodes : nodesBytes [] ≡ []
 unfolding nodesBytes
@@ -80,11 +80,11 @@ nodes-short (xs ∷ ns) h =
     (omega (arith, length-append (nodeBytes xs) (nodesBytes ns), node-short xs (h 0 (omega arith)), nodes-short ns (λ n g. h (suc n) (omega arith))))
 
 pub nodes-in-short : (size : ℕ) (counts keys kinds values stamps : List ℕ) → WithinPlaces counts
-    → length (nodesBytes (run 0 size (nodeIn counts keys kinds values stamps))) ≤ longestNode * size
+    → length (nodesBytes (tabulate 0 size (nodeIn counts keys kinds values stamps))) ≤ longestNode * size
 nodes-in-short size counts keys kinds values stamps within =
-    let ns = run 0 size f in
-    let long : length ns ≡ size = length-run f 0 size in
-    omega (arith, nodes-short ns (λ n h. rw (getD-run-0 f size n [] (omega arith)) (few n)))
+    let ns = tabulate 0 size f in
+    let long : length ns ≡ size = length-tabulate f 0 size in
+    omega (arith, nodes-short ns (λ n h. rw (getD-tabulate-0 f size n [] (omega arith)) (few n)))
   where
     f : ℕ → List Copy
     f n = nodeIn counts keys kinds values stamps n
@@ -129,15 +129,15 @@ module _ (plan : ℕ) (s : State) {a b c d : ℕ} (f : a ≡ length (form format
 
 -- ---- a loop that counts the bytes of copies, and one of nodes
 
-module _ (f : ℕ → Copy) (end sum i : ℕ) {total : ℕ} (e : sum + length (copiesBytes (run i (end - i) f)) ≡ total) where
-  pub copies-count : {r : ℕ} → i < end → r ≡ length (copyBytes (f i)) → sum + r + length (copiesBytes (run (i + 1) (end - (i + 1)) f)) ≡ total
+module _ (f : ℕ → Copy) (end sum i : ℕ) {total : ℕ} (e : sum + length (copiesBytes (tabulate i (end - i) f)) ≡ total) where
+  pub copies-count : {r : ℕ} → i < end → r ≡ length (copyBytes (f i)) → sum + r + length (copiesBytes (tabulate (i + 1) (end - (i + 1)) f)) ≡ total
   copies-count h k = rw k (count-on copyBytes copiesBytes no-copies more-copies f end sum i h e)
 
   pub copies-counted-all : end ≤ i → sum ≡ total
   copies-counted-all h = count-off copyBytes copiesBytes no-copies more-copies f end sum i h e
 
-module _ (f : ℕ → List Copy) (end sum i : ℕ) {total : ℕ} (e : sum + length (nodesBytes (run i (end - i) f)) ≡ total) where
-  pub nodes-count : {r : ℕ} → i < end → r ≡ length (nodeBytes (f i)) → sum + r + length (nodesBytes (run (i + 1) (end - (i + 1)) f)) ≡ total
+module _ (f : ℕ → List Copy) (end sum i : ℕ) {total : ℕ} (e : sum + length (nodesBytes (tabulate i (end - i) f)) ≡ total) where
+  pub nodes-count : {r : ℕ} → i < end → r ≡ length (nodeBytes (f i)) → sum + r + length (nodesBytes (tabulate (i + 1) (end - (i + 1)) f)) ≡ total
   nodes-count h k = rw k (count-on nodeBytes nodesBytes no-nodes more-nodes f end sum i h e)
 
   pub nodes-counted-all : end ≤ i → sum ≡ total

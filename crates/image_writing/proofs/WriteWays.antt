@@ -5,9 +5,9 @@ use Prim.Native.Nat.{ℕ, _+_, _-_, _≤_}
 use native.Mathlib.Omega.{arith}
 use native.Mathlib.Nat.{sub-zero}
 use lib.ListN.{length}
-use Rattle.lists.specs.Runs.{run}
+use Rattle.lists.specs.Indexed.{tabulate}
 use Rattle.lists.specs.Stands.{Wrote}
-use Rattle.lists.proofs.Running.{length-run}
+use Rattle.lists.proofs.Tabulating.{length-tabulate}
 use Rattle.lists.proofs.Standing.{wrote-join, fits-left, fits-right}
 use Rattle.number.specs.Number.{form}
 use Rattle.store.specs.declared.Copy.{Copy}
@@ -26,25 +26,25 @@ WritesCopies f end before start whole i at buffer = Writes copyBytes copiesBytes
 abbrev pub WritesNodes : (ℕ → List Copy) → ℕ → List ℕ → ℕ → List ℕ → ℕ → ℕ → List ℕ → Type 0
 WritesNodes f end before start whole i at buffer = Writes nodeBytes nodesBytes no-nodes more-nodes f end before start whole i at buffer
 
-pub copies-begin : (f : ℕ → Copy) (from end : ℕ) (before : List ℕ) (at : ℕ) → at + length (copiesBytes (run from (end - from) f)) ≤ length before
-    → WritesCopies f end before at (copiesBytes (run from (end - from) f)) from at before
+pub copies-begin : (f : ℕ → Copy) (from end : ℕ) (before : List ℕ) (at : ℕ) → at + length (copiesBytes (tabulate from (end - from) f)) ≤ length before
+    → WritesCopies f end before at (copiesBytes (tabulate from (end - from) f)) from at before
 copies-begin f from end before at h = write-begins copyBytes copiesBytes no-copies more-copies f end before from at h
 
-pub nodes-begin : (f : ℕ → List Copy) (end : ℕ) (before : List ℕ) (at : ℕ) → at + length (nodesBytes (run 0 end f)) ≤ length before
-    → WritesNodes f end before at (nodesBytes (run 0 end f)) 0 at before
+pub nodes-begin : (f : ℕ → List Copy) (end : ℕ) (before : List ℕ) (at : ℕ) → at + length (nodesBytes (tabulate 0 end f)) ≤ length before
+    → WritesNodes f end before at (nodesBytes (tabulate 0 end f)) 0 at before
 nodes-begin f end before at h = rw sub-zero at (write-begins nodeBytes nodesBytes no-nodes more-nodes f end before 0 at (rw sub-zero h))
 
 -- ---- write_node
 
-module _ (f : ℕ → Copy) (from count : ℕ) (before : List ℕ) (at : ℕ) (h : at + length (nodeBytes (run from count f)) ≤ length before) where
+module _ (f : ℕ → Copy) (from count : ℕ) (before : List ℕ) (at : ℕ) (h : at + length (nodeBytes (tabulate from count f)) ≤ length before) where
   abbrev rest : List ℕ
-  rest = copiesBytes (run from (from + count - from) f)
+  rest = copiesBytes (tabulate from (from + count - from) f)
 
-  node-is : nodeBytes (run from count f) ≡ form count ++ rest
+  node-is : nodeBytes (tabulate from count f) ≡ form count ++ rest
   unfolding nodeBytes
   node-is =
       let m : count ≡ from + count - from = omega arith in
-      ap (λ (n : ℕ). form n ++ copiesBytes (run from count f)) (length-run f from count) ∙ ap (λ (n : ℕ). form count ++ copiesBytes (run from n f)) m
+      ap (λ (n : ℕ). form n ++ copiesBytes (tabulate from count f)) (length-tabulate f from count) ∙ ap (λ (n : ℕ). form count ++ copiesBytes (tabulate from n f)) m
 
   fits : at + length (form count ++ rest) ≤ length before
   fits = rw node-is at h
@@ -53,11 +53,11 @@ module _ (f : ℕ → Copy) (from count : ℕ) (before : List ℕ) (at : ℕ) (h
   count-fits = fits-left at (form count) rest fits
 
   module _ {next : ℕ} {b1 : List ℕ} (w : Wrote before at (form count) next b1) where
-    pub copies-fit : next + length (copiesBytes (run from (from + count - from) f)) ≤ length b1
+    pub copies-fit : next + length (copiesBytes (tabulate from (from + count - from) f)) ≤ length b1
     copies-fit = fits-right (form count) rest fits w
 
-    pub wrote-node : {end : ℕ} {after : List ℕ} → Wrote b1 next (copiesBytes (run from (from + count - from) f)) end after
-        → Wrote before at (nodeBytes (run from count f)) end after
+    pub wrote-node : {end : ℕ} {after : List ℕ} → Wrote b1 next (copiesBytes (tabulate from (from + count - from) f)) end after
+        → Wrote before at (nodeBytes (tabulate from count f)) end after
     wrote-node v = rw node-is (wrote-join w v)
 
 -- ---- write_image

@@ -3,7 +3,7 @@ use mathlib.Core.List.{List, []}
 use Prim.Native.Nat.{ℕ, _-_, _*_, _≤_}
 use lib.ListN.{getD}
 use denote.Ref.{RefT}
-use Rattle.lists.specs.Runs.{run}
+use Rattle.lists.specs.Indexed.{tabulate}
 use Rattle.plan.specs.Sizes.{mostNodes}
 use Rattle.store.specs.declared.Copy.{Copy}
 use Rattle.store.specs.Layout.{width, copyIn, stateIn}
@@ -20,11 +20,11 @@ LentWithinPlaces nodes counts = (nodes ≤ mostNodes) × WithinPlaces (counts .n
 
 -- The copies that lent columns hold at the places from one up to another.
 abbrev pub lentCopies : RefT (List ℕ) → RefT (List ℕ) → RefT (List ℕ) → RefT (List ℕ) → ℕ → ℕ → List Copy
-lentCopies keys kinds values stamps from end = run from (end - from) (copyIn (keys .now) (kinds .now) (values .now) (stamps .now))
+lentCopies keys kinds values stamps from end = tabulate from (end - from) (copyIn (keys .now) (kinds .now) (values .now) (stamps .now))
 
 -- The copies of a node that holds so many.
 abbrev pub lentNode : RefT (List ℕ) → RefT (List ℕ) → RefT (List ℕ) → RefT (List ℕ) → ℕ → ℕ → List Copy
-lentNode keys kinds values stamps node count = run (width * node) count (copyIn (keys .now) (kinds .now) (values .now) (stamps .now))
+lentNode keys kinds values stamps node count = tabulate (width * node) count (copyIn (keys .now) (kinds .now) (values .now) (stamps .now))
 
 -- The copies of the first nodes, so many of them.
 abbrev pub lentNodes : ℕ → RefT (List ℕ) → RefT (List ℕ) → RefT (List ℕ) → RefT (List ℕ) → RefT (List ℕ) → List (List Copy)

@@ -1,4 +1,4 @@
-pub mod Running
+pub mod Tabulating
 pub mod Standing
 pub mod Truths
 pub mod Storing

@@ -7,8 +7,8 @@ use native.Mathlib.Nat.{add-suc, suc-add, add-zero, zero-add}
 use native.Mathlib.Decide.{ℕ-discrete}
 use lib.ListN.{length, getD, set, replicate, length-set}
 use lib.Seq.{sets, set-comm, getD-set-same, getD-set-other}
-use Rattle.lists.specs.Runs.{run}
-use Rattle.lists.proofs.Running.{length-run, getD-run-0, as-run}
+use Rattle.lists.specs.Indexed.{tabulate}
+use Rattle.lists.proofs.Tabulating.{length-tabulate, getD-tabulate-0, as-tabulate}
 
 -- A run of stores leaves what stands before it and after it, and puts its elements in between.
 module _ {A : Type 0} where
@@ -42,13 +42,13 @@ module _ {A : Type 0} where
       rw k (sets-snoc vs (set l i v) (suc i) x)
 
   -- A store into a run is the run that differs there.
-  pub set-run : (f g : ℕ → A) (n k : ℕ) (v : A) → g k ≡ v → ((j : ℕ) → (j ≡ k → ⊥) → g j ≡ f j) → set (run 0 n f) k v ≡ run 0 n g
+  pub set-run : (f g : ℕ → A) (n k : ℕ) (v : A) → g k ≡ v → ((j : ℕ) → (j ≡ k → ⊥) → g j ≡ f j) → set (tabulate 0 n f) k v ≡ tabulate 0 n g
   set-run f g n k v here others =
-      as-run g (set (run 0 n f) k v) 0 n v (length-set (run 0 n f) k v ∙ length-run f 0 n) (λ j h. rw zero-add (go j h (ℕ-discrete j k)))
+      as-tabulate g (set (tabulate 0 n f) k v) 0 n v (length-set (tabulate 0 n f) k v ∙ length-tabulate f 0 n) (λ j h. rw zero-add (go j h (ℕ-discrete j k)))
     where
-      go : (j : ℕ) → j < n → Dec (j ≡ k) → getD (set (run 0 n f) k v) j v ≡ g j
-      go j h (yes e) = rw e (getD-set-same (run 0 n f) k v v (omega (arith, length-run f 0 n)) ∙ sym here)
-      go j h (no e) = getD-set-other (run 0 n f) k j v v e ∙ getD-run-0 f n j v h ∙ sym (others j e)
+      go : (j : ℕ) → j < n → Dec (j ≡ k) → getD (set (tabulate 0 n f) k v) j v ≡ g j
+      go j h (yes e) = rw e (getD-set-same (tabulate 0 n f) k v v (omega (arith, length-tabulate f 0 n)) ∙ sym here)
+      go j h (no e) = getD-set-other (tabulate 0 n f) k j v v e ∙ getD-tabulate-0 f n j v h ∙ sym (others j e)
 
   -- One element over and over, read with that element as what stands past the end.
   pub getD-same : (n i : ℕ) (d : A) → getD (replicate n d) i d ≡ d

@@ -7,7 +7,7 @@ use native.Mathlib.Omega.{arith}
 use native.Mathlib.Numerals.{add-one}
 use lib.ListN.{length, set, take, length-set, length-take, drop-of-length-le}
 use lib.Seq.{slice, slice-cons, getD-take, length-take-le}
-use Rattle.lists.proofs.Running.{run-off}
+use Rattle.lists.proofs.Tabulating.{tabulate-off}
 use Rattle.plan.specs.declared.Edge.{Edge}
 use Rattle.plan.specs.Plan.{holds}
 use Rattle.store.specs.Layout.{width}
@@ -37,7 +37,7 @@ pub rest-end : (target : List ℕ) (end : ℕ) (m : Merge) → end ≤ m .next �
     → Lists target (m .got) (standing target end m)
 unfolding standing
 rest-end target end m h long few =
-    record { long = long; counted = few; listed = rw (run-off itself (m .next) end h) (sym (append-nil (take (m .got) target))) }
+    record { long = long; counted = few; listed = rw (tabulate-off itself (m .next) end h) (sym (append-nil (take (m .got) target))) }
 
 -- The start of the walk,
 module _ (keys : List ℕ) (capacity : ℕ) (e : Edge) (from had start held : ℕ) (stay target : List ℕ) where
@@ -68,7 +68,7 @@ pub decided : {keys : List ℕ} {capacity : ℕ} (e : Edge) {to end : ℕ} {stay
     → Lists target′ (r .got) (standing target end m) → Decided l stay target′ r
 unfolding outcome merge
 decided {keys} {capacity} e {to} {end} {stay} {target} {m} g h l l-is r target′ kept gets =
-    rw (← l-is, run-off itself (m .place) to h)
+    rw (← l-is, tabulate-off itself (m .place) to h)
     (record {
       stays =
           record {

@@ -9,7 +9,7 @@ use native.Mathlib.Decide.{decLt, ℕ-discrete}
 use native.Mathlib.Numerals.{add-one}
 use lib.ListN.{length, getD, set, take, length-set, length-append}
 use lib.Seq.{length-take-le, take-suc-set, getD-take, getD-set-same, getD-set-other}
-use Rattle.lists.proofs.Running.{run-on, run-off}
+use Rattle.lists.proofs.Tabulating.{tabulate-on, tabulate-off}
 use Rattle.plan.specs.declared.Edge.{Edge}
 use Rattle.plan.specs.Plan.{holds}
 use Rattle.store.specs.Copies.{find}
@@ -35,7 +35,7 @@ module _ (target : List ℕ) (end : ℕ) (m : Merge) where
   -- and its own next place: it stands as before.
   pub own-stands : m .next < end → take (m .got) target ++ m .next ∷ span (m .next + 1) end ≡ standing target end m
   unfolding standing
-  own-stands h = rw (add-one, run-on itself (m .next) end h)
+  own-stands h = rw (add-one, tabulate-on itself (m .next) end h)
 
 -- A merge under way.
 module _ (e : Edge) {keys : List ℕ} {capacity to end : ℕ} {stay target : List ℕ} {m : Merge}
@@ -83,14 +83,14 @@ module _ (e : Edge) {keys : List ℕ} {capacity to end : ℕ} {stay target : Lis
   carry-turn : (kept : List ℕ) → carries key capacity e (m .place) stands ≡ true
       → from-here kept (span (m .place + 1) to) (put key (m .place) stands) ≡ from-here kept (span (m .place) to) stands
   carry-turn kept t =
-      rw (add-one, run-on itself (m .place) to more, merge-carry key capacity e (m .place) (span (suc (m .place)) to) stands t)
+      rw (add-one, tabulate-on itself (m .place) to more, merge-carry key capacity e (m .place) (span (suc (m .place)) to) stands t)
 
   keep-turn : (kept : List ℕ) → carries key capacity e (m .place) stands ≡ false
       → from-here (kept ++ m .place ∷ []) (span (m .place + 1) to) stands ≡ from-here kept (span (m .place) to) stands
   keep-turn kept t =
       rw (
         add-one,
-        run-on itself (m .place) to more,
+        tabulate-on itself (m .place) to more,
         merge-keep key capacity e (m .place) (span (suc (m .place)) to) stands t,
         append-assoc kept (m .place ∷ []) (merge key capacity e (span (suc (m .place)) to) stands .stay),
       )
@@ -175,10 +175,10 @@ module _ (e : Edge) {keys : List ℕ} {capacity to end : ℕ} {stay target : Lis
       (held-carries held (room-has key capacity stands (key (m .place)) (m .next) (stands-find ∙ found)))
     where
       puts : had ++ m .place ∷ span (m .next + 1) end ≡ put key (m .place) stands
-      puts = rw (stands-put, add-one, run-on itself (m .next) end h, put-over key (m .place) (m .next) (span (suc (m .next)) end) (sym same))
+      puts = rw (stands-put, add-one, tabulate-on itself (m .next) end h, put-over key (m .place) (m .next) (span (suc (m .next)) end) (sym same))
 
       found : find key (span (m .next) end) (key (m .place)) ≡ some (m .next)
-      found = rw (run-on itself (m .next) end h) (find-same key (m .next) (span (suc (m .next)) end) (key (m .place)) same)
+      found = rw (tabulate-on itself (m .next) end h) (find-same key (m .next) (span (suc (m .next)) end) (key (m .place)) same)
 
   -- The target lacks the key: its next key is greater, or it has none.
   module _ (above : m .next < end → key (m .place) ≤ key (m .next)) (other : m .next < end → key (m .next) ≡ key (m .place) → ⊥) where
@@ -200,8 +200,8 @@ module _ (e : Edge) {keys : List ℕ} {capacity to end : ℕ} {stay target : Lis
       where
         puts : Dec (m .next < end) → had ++ m .place ∷ span (m .next) end ≡ put key (m .place) stands
         puts (yes h) =
-            rw (stands-put, run-on itself (m .next) end h, put-before key (m .place) (m .next) (span (suc (m .next)) end) (greater h))
-        puts (no h) = let q : end ≤ m .next = omega arith in rw (stands-put, run-off itself (m .next) end q)
+            rw (stands-put, tabulate-on itself (m .next) end h, put-before key (m .place) (m .next) (span (suc (m .next)) end) (greater h))
+        puts (no h) = let q : end ≤ m .next = omega arith in rw (stands-put, tabulate-off itself (m .next) end q)
 
     full : capacity ≤ m .got + (end - m .next) → room key capacity stands (key (m .place)) ≡ false
     full f =

@@ -3,7 +3,7 @@ use mathlib.Core.Path.{_≡_}
 use mathlib.Core.List.{List, _++_}
 use Prim.Native.Nat.{ℕ, _+_, _-_, _<_, _≤_}
 use lib.ListN.{length, take}
-use Rattle.lists.specs.Runs.{run}
+use Rattle.lists.specs.Indexed.{tabulate}
 use Rattle.lists.specs.Lending.{LentList}
 use Rattle.plan.specs.declared.Edge.{Edge}
 use Rattle.store.specs.Layout.{width, places}
@@ -13,7 +13,7 @@ use Rattle.merges.specs.declared.Merge.{Merge}
 
 -- The places from one up to another.
 abbrev pub span : ℕ → ℕ → List ℕ
-span from end = run from (end - from) itself
+span from end = tabulate from (end - from) itself
 
 -- The merge of a node's places, `had` of them from one on, into the target's, `held` of them.
 abbrev pub placesMerged : List ℕ → ℕ → Edge → ℕ → ℕ → ℕ → ℕ → Merged ℕ

@@ -4,7 +4,7 @@ use mathlib.Core.Bool.{true}
 use mathlib.Core.List.{List, [], _∷_}
 use Prim.Native.Nat.{_+_}
 use lib.ListN.{length, replicate}
-use Rattle.lists.specs.Runs.{run, allFrom}
+use Rattle.lists.specs.Indexed.{tabulate, allFrom}
 use Rattle.number.specs.Number.{formIn, form}
 use Rattle.plan.specs.Plan.{holds, firstEdge, next, walk, pathFrom}
 use Rattle.plan_table.specs.PlanTable.{planTable, plans, planNumbered}
@@ -33,7 +33,7 @@ use Rattle.page.specs.Promises.{pageNow}
 
 -- The copies of the last sample's 32 lines, with the largest values and stamps just below the clock's last value.
 unfoldable pub longestCopies : List Copy
-longestCopies = run 0 analytes (λ a. copy (keyFor lastSample a) RESULT 4294967295 (4294967200 + a))
+longestCopies = tabulate 0 analytes (λ a. copy (keyFor lastSample a) RESULT 4294967295 (4294967200 + a))
 
 unfoldable pub longestStore : Store
 longestStore =
@@ -44,5 +44,5 @@ pub record Longest : Type 0 where
   pub long : length (pageNow longestStore lastSample) ≡ mostPageBytes
 
 pub longest : Longest
-unfolding run allFrom formIn form holds firstEdge next walk pathFrom planTable plans planNumbered find member different firstOn inReach nodeIn planOf stateOf column storeOf shapeTest planNumberTest clockTest hasValue kindTest copyTest placeTest allZero unusedTest nodeTest stampsFrom slotTest goodStore pageLinesFrom pageLineBytes pageLinesBytes pageBytes longestCopies longestStore
+unfolding tabulate allFrom formIn form holds firstEdge next walk pathFrom planTable plans planNumbered find member different firstOn inReach nodeIn planOf stateOf column storeOf shapeTest planNumberTest clockTest hasValue kindTest copyTest placeTest allZero unusedTest nodeTest stampsFrom slotTest goodStore pageLinesFrom pageLineBytes pageLinesBytes pageBytes longestCopies longestStore
 longest = record { good = refl; long = refl }

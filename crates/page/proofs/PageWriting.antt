@@ -9,10 +9,10 @@ use native.Mathlib.Numerals.{add-one}
 use lib.ListN.{length, getD, set, take, drop, length-append, drop-of-length-le}
 use lib.Seq.{take-suc, take-all, drop-cons}
 use borrow.Author.Tests.{eq-eqb, ne-eqb}
-use Rattle.lists.specs.Runs.{run}
+use Rattle.lists.specs.Indexed.{tabulate}
 use Rattle.lists.specs.Stands.{Wrote}
 use Rattle.lists.proofs.Truths.{bool?}
-use Rattle.lists.proofs.Running.{run-on, run-off}
+use Rattle.lists.proofs.Tabulating.{tabulate-on, tabulate-off}
 use Rattle.lists.proofs.Standing.{wrote-nil, wrote-cons, wrote-join, wrote-length}
 use Rattle.number.specs.Number.{form}
 use Rattle.plan.specs.Plan.{Plan}
@@ -41,21 +41,21 @@ line-wrote l p q r = wrote-join p (wrote-join q r)
 
 -- The bytes of the lines f i, f (i + 1), .. up to the n-th.
 abbrev pub bytesFrom : (ℕ → PageLine) → ℕ → ℕ → List ℕ
-bytesFrom f n i = pageLinesBytes (run i (n - i) f)
+bytesFrom f n i = pageLinesBytes (tabulate i (n - i) f)
 
 -- The bytes of the lines from i on fit at an offset, and once they are written there, those of all lines were written at the first.
 pub record WritingLines (f : ℕ → PageLine) (n : ℕ) (before : List ℕ) (at : ℕ) (buffer : List ℕ) (next i : ℕ) : Type 0 where
   pub kept : length buffer ≡ length before
   pub fits : next + length (bytesFrom f n i) ≤ length buffer
-  pub joins : (end : ℕ) (after : List ℕ) → Wrote buffer next (bytesFrom f n i) end after → Wrote before at (pageLinesBytes (run 0 n f)) end after
+  pub joins : (end : ℕ) (after : List ℕ) → Wrote buffer next (bytesFrom f n i) end after → Wrote before at (pageLinesBytes (tabulate 0 n f)) end after
 
 module _ (f : ℕ → PageLine) (n : ℕ) where
-  pub lines-start : (before : List ℕ) (at : ℕ) → at + length (pageLinesBytes (run 0 n f)) ≤ length before → WritingLines f n before at before at 0
+  pub lines-start : (before : List ℕ) (at : ℕ) → at + length (pageLinesBytes (tabulate 0 n f)) ≤ length before → WritingLines f n before at before at 0
   lines-start before at h = let z : n - 0 ≡ n = omega arith in record { kept = refl; fits = rw z h; joins = λ end after w. rw z at w }
 
   bytes-on : (i : ℕ) → i < n → bytesFrom f n i ≡ pageLineBytes (f i) ++ bytesFrom f n (i + 1)
   unfolding pageLinesBytes
-  bytes-on i h = rw (run-on f i n h, add-one)
+  bytes-on i h = rw (tabulate-on f i n h, add-one)
 
   bytes-long : (i : ℕ) → i < n → length (bytesFrom f n i) ≡ length (pageLineBytes (f i)) + length (bytesFrom f n (i + 1))
   bytes-long i h = ap length (bytes-on i h) ∙ length-append (pageLineBytes (f i)) (bytesFrom f n (i + 1))
@@ -74,9 +74,9 @@ module _ (f : ℕ → PageLine) (n : ℕ) where
           joins = λ end after v. k .joins end after (rw (bytes-on i h) (wrote-join w v));
         }
 
-    pub lines-end : n ≤ i → Wrote before at (pageLinesBytes (run 0 n f)) next buffer
+    pub lines-end : n ≤ i → Wrote before at (pageLinesBytes (tabulate 0 n f)) next buffer
     unfolding pageLinesBytes
-    lines-end h = k .joins next buffer (rw (run-off f i n h) (wrote-nil buffer next))
+    lines-end h = k .joins next buffer (rw (tabulate-off f i n h) (wrote-nil buffer next))
 
 -- ---- the page
 

@@ -10,8 +10,8 @@ use native.Mathlib.Numerals.{add-one}
 use lib.ListN.{length, getD, set, length-set, length-append}
 use lib.Seq.{getD-set-same, getD-set-other}
 use borrow.Author.Tests.{lt-ltb, le-ltb}
-use Rattle.lists.specs.Runs.{run}
-use Rattle.lists.proofs.Running.{length-run, same-run, run-split}
+use Rattle.lists.specs.Indexed.{tabulate}
+use Rattle.lists.proofs.Tabulating.{length-tabulate, same-tabulate, tabulate-split}
 use Rattle.plan.specs.Plan.{Plan}
 use Rattle.store.specs.declared.Copy.{Copy}
 use Rattle.store.specs.Copies.{hasValue}
@@ -24,7 +24,7 @@ use Rattle.page_lines.specs.Workers.{pageLineIn, pageLinesIn, copyThere}
 -- There are as many lines as the count says.
 pub lines-counted : (r : PageColumns) → length (pageLinesIn r) ≡ r .count
 unfolding pageLinesIn
-lines-counted r = length-run (pageLineIn (r .analytes) (r .values) (r .stamps)) 0 (r .count)
+lines-counted r = length-tabulate (pageLineIn (r .analytes) (r .values) (r .stamps)) 0 (r .count)
 
 -- ---- one line
 
@@ -54,7 +54,7 @@ module _ (r : PageColumns) (analyte value stamp : ℕ) (room : Roomy r) where
       }
 
   line-added : r .count < analytes → pageLinesIn (added r analyte value stamp) ≡ pageLinesIn r ++ pageLine analyte value stamp ∷ []
-  unfolding pageLinesIn run
+  unfolding pageLinesIn tabulate
   line-added free =
       let n = r .count in
       let new = pageLineIn (set (r .analytes) n analyte) (set (r .values) n value) (set (r .stamps) n stamp) in
@@ -66,8 +66,8 @@ module _ (r : PageColumns) (analyte value stamp : ℕ) (room : Roomy r) where
         getD-set-same (r .stamps) n stamp 0 (omega (arith, room .stamps-fit)),
       )
       in
-      let before : run 0 n new ≡ run 0 n old =
-      same-run new old 0 n
+      let before : tabulate 0 n new ≡ tabulate 0 n old =
+      same-tabulate new old 0 n
       (λ j g h.
       rw (
         getD-set-other (r .analytes) n j analyte 0 (λ e. omega arith),
@@ -75,7 +75,7 @@ module _ (r : PageColumns) (analyte value stamp : ℕ) (room : Roomy r) where
         getD-set-other (r .stamps) n j stamp 0 (λ e. omega arith),
       ))
       in
-      rw (run-split new 0 n 1, zero-add, here, before)
+      rw (tabulate-split new 0 n 1, zero-add, here, before)
 
 -- What is shown of a line stands in front of the lines after it,
 shown-front : (analyte : ℕ) (o : Option Copy) (ls : List PageLine) → shown analyte o ls ≡ shown analyte o [] ++ ls

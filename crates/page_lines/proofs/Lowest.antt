@@ -8,7 +8,7 @@ use native.Mathlib.Omega.{arith}
 use native.Mathlib.Nat.{le-of-suc-le-suc, not-suc-le-zero}
 use native.Mathlib.Decide.{decLt}
 use lib.ListN.{length, getD}
-use Rattle.lists.specs.Runs.{run}
+use Rattle.lists.specs.Indexed.{tabulate}
 use Rattle.lists.proofs.RisingKeys.{Rising, rising-from, rising-least, neighbours-rising}
 use Rattle.lists.proofs.RisingKeys.Rising.{end, above}
 use Rattle.plan.specs.Plan.{Plan, size, pathFrom, path}
@@ -32,10 +32,10 @@ absent {o = some x} h = absurd (h x refl)
 abbrev pub FirstRising : (ℕ → Option Copy) → ℕ → ℕ → List ℕ → Type 0
 FirstRising l n from ns =
     Rising itself from ns → ((i : ℕ) → i < length ns → getD ns i 0 < from + n)
-    → ((m : ℕ) (x : Copy) → from ≤ m → l m ≡ some x → Among m ns) → firstOn l (run from n itself) ≡ firstOn l ns
+    → ((m : ℕ) (x : Copy) → from ≤ m → l m ≡ some x → Among m ns) → firstOn l (tabulate from n itself) ≡ firstOn l ns
 
 pub first-rising : (l : ℕ → Option Copy) (n from : ℕ) (ns : List ℕ) → FirstRising l n from ns
-unfolding firstOn run
+unfolding firstOn tabulate
 first-rising l zero from [] r h among = refl
 first-rising l zero from (x ∷ xs) (above g r) h among = absurd (omega (arith, h 0 (omega arith)))
 first-rising l (suc n) from [] r h among =
@@ -48,7 +48,7 @@ first-rising l (suc n) from (x ∷ xs) (above g r) h among = go (decLt from x) (
     later m (suc i) p a b = (i, le-of-suc-le-suc a, b)
 
     go : Dec (from < x) → ((ms : List ℕ) → FirstRising l n (suc from) ms)
-        → orElse (l from) (firstOn l (run (suc from) n itself)) ≡ orElse (l x) (firstOn l xs)
+        → orElse (l from) (firstOn l (tabulate (suc from) n itself)) ≡ orElse (l x) (firstOn l xs)
     go (yes q) again =
         let s : Rising itself (suc from) (x ∷ xs) = above q r in
         let e : l from ≡ none =
@@ -65,7 +65,7 @@ first-rising l (suc n) from (x ∷ xs) (above g r) h among = go (decLt from x) (
 -- So of a line's copies, each on its key's path, the current one is the one in the lowest node.
 module _ (p : Plan) (rules : PlanRules p) (s : State) (k : ℕ) where
   pub current-lowest : ((n : ℕ) (x : Copy) → line s k n ≡ some x → (above : ℕ) × OnPath p k n above)
-      → firstOn (line s k) (run 0 (size p) itself) ≡ current p s k
+      → firstOn (line s k) (tabulate 0 (size p) itself) ≡ current p s k
   unfolding inReach pathFrom
   current-lowest on =
       first-rising (line s k) (size p) 0 (path p k)

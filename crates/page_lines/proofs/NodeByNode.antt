@@ -11,9 +11,9 @@ use native.Mathlib.Decide.{decLt}
 use lib.Dec.{eqb}
 use lib.ListN.{length, getD, replicate, length-replicate, getD-replicate}
 use borrow.Author.Tests.{lt-ltb, eqb-true}
-use Rattle.lists.specs.Runs.{run}
+use Rattle.lists.specs.Indexed.{tabulate}
 use Rattle.lists.proofs.Options.{one-some, not-none-and-some}
-use Rattle.lists.proofs.Running.{length-run, getD-run-0, run-on, run-off}
+use Rattle.lists.proofs.Tabulating.{length-tabulate, getD-tabulate-0, tabulate-on, tabulate-off}
 use Rattle.lists.proofs.Truths.{bool?}
 use Rattle.plan.specs.Sizes.{mostNodes}
 use Rattle.plan.specs.Plan.{Plan, size}
@@ -38,12 +38,12 @@ pub record FoundAt (f : ℕ → ℕ) (from n k j : ℕ) : Type 0 where
   pub high : j < from + n
   pub key : f j ≡ k
 
-find-place : (f : ℕ → ℕ) (n from k j : ℕ) → find f (run from n itself) k ≡ some j → FoundAt f from n k j
-unfolding find run
+find-place : (f : ℕ → ℕ) (n from k j : ℕ) → find f (tabulate from n itself) k ≡ some j → FoundAt f from n k j
+unfolding find tabulate
 find-place f zero from k j e = absurd (not-none-and-some refl e)
 find-place f (suc n) from k j e = go (bool? (eqb (f from) k)) (find-place f n (suc from) k j)
   where
-    go : (eqb (f from) k ≡ true) ⊎ (eqb (f from) k ≡ false) → (find f (run (suc from) n itself) k ≡ some j → FoundAt f (suc from) n k j)
+    go : (eqb (f from) k ≡ true) ⊎ (eqb (f from) k ≡ false) → (find f (tabulate (suc from) n itself) k ≡ some j → FoundAt f (suc from) n k j)
         → FoundAt f from (suc n) k j
     go (inl t) again =
         let q : from ≡ j = one-some refl (rw t at e) in
@@ -56,18 +56,18 @@ find-place f (suc n) from k j e = go (bool? (eqb (f from) k)) (find-place f n (s
 laid-long : (counts keys : List ℕ) (node sample : ℕ) (at : List ℕ) → length (laidOver counts keys node sample at) ≡ analytes
 unfolding laidOver
 laid-long counts keys node sample at =
-    length-run
-    (λ a. placeOver (getD at a 0) (find (numberIn keys) (run (width * node) (getD counts node 0) itself) (keyFor sample a)))
+    length-tabulate
+    (λ a. placeOver (getD at a 0) (find (numberIn keys) (tabulate (width * node) (getD counts node 0) itself) (keyFor sample a)))
     0 analytes
 
 -- that of its copy in the node over the one that stood.
 laid-at : (counts keys : List ℕ) (node sample : ℕ) (at : List ℕ) (a : ℕ) → a < analytes
     → getD (laidOver counts keys node sample at) a 0
-    ≡ placeOver (getD at a 0) (find (numberIn keys) (run (width * node) (getD counts node 0) itself) (keyFor sample a))
+    ≡ placeOver (getD at a 0) (find (numberIn keys) (tabulate (width * node) (getD counts node 0) itself) (keyFor sample a))
 unfolding laidOver
 laid-at counts keys node sample at a h =
-    getD-run-0
-    (λ b. placeOver (getD at b 0) (find (numberIn keys) (run (width * node) (getD counts node 0) itself) (keyFor sample b)))
+    getD-tabulate-0
+    (λ b. placeOver (getD at b 0) (find (numberIn keys) (tabulate (width * node) (getD counts node 0) itself) (keyFor sample b)))
     analytes a 0 h
 
 module _ (nodes : ℕ) (counts keys : List ℕ) where
@@ -77,7 +77,7 @@ module _ (nodes : ℕ) (counts keys : List ℕ) where
 
   -- What is found of a key among a node's places.
   abbrev foundIn : ℕ → ℕ → Option ℕ
-  foundIn k n = find (numberIn keys) (run (width * n) (getD counts n 0) itself) k
+  foundIn k n = find (numberIn keys) (tabulate (width * n) (getD counts n 0) itself) k
 
   -- A node's line is the copy at the place that is found,
   node-line : (kinds values stamps : List ℕ) (k n : ℕ) → n < nodes
@@ -98,7 +98,7 @@ module _ (nodes : ℕ) (counts keys : List ℕ) where
       pub long : length at ≡ analytes
       pub lowest : (kinds values stamps : List ℕ) (a : ℕ) → a < analytes
           → copyThere keys kinds values stamps (getD at a 0)
-          ≡ firstOn (line (held kinds values stamps) (keyFor sample a)) (run node (nodes - node) itself)
+          ≡ firstOn (line (held kinds values stamps) (keyFor sample a)) (tabulate node (nodes - node) itself)
 
     -- At first no node is,
     pub nodes-start : (node : ℕ) → node ≡ nodes → LaidFrom node (replicate analytes places)
@@ -107,7 +107,7 @@ module _ (nodes : ℕ) (counts keys : List ℕ) where
         record {
           long = length-replicate analytes places;
           lowest = λ kinds values stamps a h.
-              ap (copyThere keys kinds values stamps) (getD-replicate analytes a places 0 h) ∙ rw (run-off itself node nodes (omega arith));
+              ap (copyThere keys kinds values stamps) (getD-replicate analytes a places 0 h) ∙ rw (tabulate-off itself node nodes (omega arith));
         }
 
     -- a turn lays one more,
@@ -119,10 +119,10 @@ module _ (nodes : ℕ) (counts keys : List ℕ) where
       where
         turn : (kinds values stamps : List ℕ) (a : ℕ) → a < analytes
             → copyThere keys kinds values stamps (getD now a 0)
-            ≡ firstOn (line (held kinds values stamps) (keyFor sample a)) (run node (nodes - node) itself)
+            ≡ firstOn (line (held kinds values stamps) (keyFor sample a)) (tabulate node (nodes - node) itself)
         turn kinds values stamps a q =
             rw (
-              run-on itself node nodes h,
+              tabulate-on itself node nodes h,
               e,
               laid-at counts keys node sample at a q,
               node-line kinds values stamps (keyFor sample a) node h,
@@ -132,7 +132,7 @@ module _ (nodes : ℕ) (counts keys : List ℕ) where
             go : (o : Option ℕ) → foundIn (keyFor sample a) node ≡ o
                 → copyThere keys kinds values stamps (placeOver (getD at a 0) o)
                 ≡ orElse (Option·map (copyIn keys kinds values stamps) o)
-                (firstOn (line (held kinds values stamps) (keyFor sample a)) (run (suc node) (nodes - suc node) itself))
+                (firstOn (line (held kinds values stamps) (keyFor sample a)) (tabulate (suc node) (nodes - suc node) itself))
             go none d = rw l at (g .lowest kinds values stamps a q)
             go (some j) d =
                 let w = find-place (numberIn keys) (getD counts node 0) (width * node) (keyFor sample a) j d in

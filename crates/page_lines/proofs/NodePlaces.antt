@@ -8,9 +8,9 @@ use native.Mathlib.Decide.{decLt, ℕ-discrete}
 use lib.ListN.{length, getD, set, length-set}
 use lib.Seq.{getD-set-same, getD-set-other}
 use borrow.Author.Tests.{eq-eqb, ne-eqb}
-use Rattle.lists.specs.Runs.{run}
+use Rattle.lists.specs.Indexed.{tabulate}
 use Rattle.lists.proofs.Options.{one-some}
-use Rattle.lists.proofs.Running.{run-on, run-off, as-run-0}
+use Rattle.lists.proofs.Tabulating.{tabulate-on, tabulate-off, as-tabulate-0}
 use Rattle.store.specs.Copies.{find}
 use Rattle.store.specs.Layout.{width}
 use Rattle.store.specs.Workers.{numberIn, itself, placeIn, RisesIn}
@@ -21,27 +21,27 @@ use Rattle.page_lines.specs.Workers.{placeOver, laidOver}
 
 -- Places that do not have the key are passed over,
 pass : (f : ℕ → ℕ) (k end m from at : ℕ) → from + m ≡ at → at ≤ end → ((i : ℕ) → from ≤ i → i < at → f i ≡ k → ⊥)
-    → find f (run from (end - from) itself) k ≡ find f (run at (end - at) itself) k
+    → find f (tabulate from (end - from) itself) k ≡ find f (tabulate at (end - at) itself) k
 unfolding find
 pass f k end zero from at e h miss = let q : from ≡ at = omega arith in rw q
 pass f k end (suc m) from at e h miss =
-    rw (run-on itself from end (omega arith), ne-eqb (f from) k (miss from (omega arith) (omega arith)))
+    rw (tabulate-on itself from end (omega arith), ne-eqb (f from) k (miss from (omega arith) (omega arith)))
     (pass f k end m (suc from) at (omega arith) h (λ i g. miss i (omega arith)))
 
 -- and nothing is found where all are.
 find-nowhere : (f : ℕ → ℕ) (k end at : ℕ) → at ≤ end → ((i : ℕ) → at ≤ i → i < end → f i ≡ k → ⊥)
-    → find f (run at (end - at) itself) k ≡ none
+    → find f (tabulate at (end - at) itself) k ≡ none
 unfolding find
-find-nowhere f k end at h miss = pass f k end (end - at) at end (omega arith) (omega arith) miss ∙ rw (run-off itself end end (omega arith))
+find-nowhere f k end at h miss = pass f k end (end - at) at end (omega arith) (omega arith) miss ∙ rw (tabulate-off itself end end (omega arith))
 
 module _ (keys : List ℕ) (from end sample : ℕ) where
   -- What is found of an analyte's line from a place on.
   abbrev found : ℕ → ℕ → Option ℕ
-  found at a = find (numberIn keys) (run at (end - at) itself) (keyFor sample a)
+  found at a = find (numberIn keys) (tabulate at (end - at) itself) (keyFor sample a)
 
   -- The places of all of them over those that stood before.
   abbrev laid : List ℕ → List ℕ
-  laid before = run 0 analytes (λ a. placeOver (getD before a 0) (found from a))
+  laid before = tabulate 0 analytes (λ a. placeOver (getD before a 0) (found from a))
 
   -- The places before one are laid over: with those from it on they make the whole node's.
   pub record Laying (before : List ℕ) (at : ℕ) (now : List ℕ) : Type 0 where
@@ -78,7 +78,7 @@ module _ (keys : List ℕ) (from end sample : ℕ) where
       ends : ((a i : ℕ) → a < analytes → at ≤ i → i < end → numberIn keys i ≡ keyFor sample a → ⊥)
           → now ≡ laid before
       ends miss =
-          as-run-0 (λ a. placeOver (getD before a 0) (found from a)) now analytes 0 (g .long)
+          as-tabulate-0 (λ a. placeOver (getD before a 0) (found from a)) now analytes 0 (g .long)
           (λ a h. rw (find-nowhere (numberIn keys) (keyFor sample a) end at (g .high) (λ i. miss a i h)) at (g .same a h))
 
       -- and no place is left,
@@ -132,7 +132,7 @@ module _ (keys : List ℕ) (from end sample : ℕ) where
                     ≡ placeOver (getD now a 0) (found at a)
                 go (yes e) =
                     let b : numberIn keys at - sample * analytes ≡ a = omega arith in
-                    let here : found at a ≡ some at = rw (run-on itself at end within, eq-eqb (numberIn keys at) (keyFor sample a) e) in
+                    let here : found at a ≡ some at = rw (tabulate-on itself at end within, eq-eqb (numberIn keys at) (keyFor sample a) e) in
                     let after : found (at + 1) a ≡ none =
                     find-nowhere (numberIn keys) (keyFor sample a) end (at + 1) (omega arith) (λ i p l d. once i (omega arith) l (d ∙ sym e))
                     in

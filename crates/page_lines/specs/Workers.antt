@@ -7,7 +7,7 @@ use Prim.Native.Nat.{ℕ, _+_, _*_, _<_}
 use lib.Dec.{ltb}
 use lib.ListN.{getD}
 use denote.Ref.{RefT}
-use Rattle.lists.specs.Runs.{run}
+use Rattle.lists.specs.Indexed.{tabulate}
 use Rattle.lists.specs.Lending.{LentList}
 use Rattle.plan.specs.Plan.{Plan, size}
 use Rattle.plan.specs.PlanRules.{PlanRules}
@@ -48,7 +48,7 @@ placeOver i (some j) = j
 -- By analyte, the place of its copy in a node, over the place that stood there before.
 unfoldable pub laidOver : List ℕ → List ℕ → ℕ → ℕ → List ℕ → List ℕ
 laidOver counts keys node sample before =
-    run 0 analytes (λ a. placeOver (getD before a 0) (find (numberIn keys) (run (width * node) (getD counts node 0) itself) (keyFor sample a)))
+    tabulate 0 analytes (λ a. placeOver (getD before a 0) (find (numberIn keys) (tabulate (width * node) (getD counts node 0) itself) (keyFor sample a)))
 
 -- The copy at a place; none past the last.
 abbrev pub copyThere : List ℕ → List ℕ → List ℕ → List ℕ → ℕ → Option Copy
@@ -70,7 +70,7 @@ pageLineIn analytes values stamps i = pageLine (getD analytes i 0) (getD values 
 
 -- The page's lines of three columns: of their places the first, as many as the count says.
 unfoldable pub pageLinesIn : PageColumns → List PageLine
-pageLinesIn r = run 0 (r .count) (pageLineIn (r .analytes) (r .values) (r .stamps))
+pageLinesIn r = tabulate 0 (r .count) (pageLineIn (r .analytes) (r .values) (r .stamps))
 
 -- The lines of the sample's page, by each plan.
 abbrev pub Gathers : ℕ → LentList → LentList → LentList → LentList → LentList → ℕ → PageColumns → Type 0

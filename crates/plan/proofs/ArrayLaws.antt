@@ -8,8 +8,8 @@ use native.Mathlib.Numerals.{add-one}
 use mathlib.Core.Bool.{false}
 use lib.ListN.{length, getD, List·getD-eq-default}
 use borrow.Author.Tests.{lt-ltb, le-ltb}
-use Rattle.lists.specs.Runs.{run}
-use Rattle.lists.proofs.Running.{getD-run-0, as-run-0, getD-run-past}
+use Rattle.lists.specs.Indexed.{tabulate}
+use Rattle.lists.proofs.Tabulating.{getD-tabulate-0, as-tabulate-0, getD-tabulate-past}
 use Rattle.plan.specs.declared.Edge.{Edge}
 use Rattle.plan.specs.declared.Hop.the-variants.{To, Ends}
 use Rattle.plan.specs.Sizes.{mostNodes, mostEdges}
@@ -21,8 +21,8 @@ use Rattle.plan.proofs.NextLaws.{no-edges, range-holds}
 pub cell-grid : (part : Edge → ℕ) (p : Plan) (n i : ℕ) → n < mostNodes → i < mostEdges → cell (gridOf part p) n i ≡ part (edgeOf p n i)
 unfolding gridOf
 cell-grid part p n i h g =
-    ap (λ (l : List ℕ). getD l i 0) (getD-run-0 (λ m. run 0 mostEdges (λ j. part (edgeOf p m j))) mostNodes n [] h)
-    ∙ getD-run-0 (λ j. part (edgeOf p n j)) mostEdges i 0 g
+    ap (λ (l : List ℕ). getD l i 0) (getD-tabulate-0 (λ m. tabulate 0 mostEdges (λ j. part (edgeOf p m j))) mostNodes n [] h)
+    ∙ getD-tabulate-0 (λ j. part (edgeOf p n j)) mostEdges i 0 g
 
 -- A row by node: what it has, and nothing past the last node.
 module _ (row : List ℕ) (n : ℕ) where
@@ -35,12 +35,12 @@ module _ (row : List ℕ) (n : ℕ) where
   at-past h = rw (le-ltb n mostNodes h)
 
 -- A row that is made node by node gives each node's number back, where those past the last have 0.
-row-back : (f : ℕ → ℕ) → ((n : ℕ) → mostNodes ≤ n → f n ≡ 0) → (n : ℕ) → atNode (run 0 mostNodes f) n ≡ f n
+row-back : (f : ℕ → ℕ) → ((n : ℕ) → mostNodes ≤ n → f n ≡ 0) → (n : ℕ) → atNode (tabulate 0 mostNodes f) n ≡ f n
 row-back f none n = go (decLt n mostNodes)
   where
-    go : Dec (n < mostNodes) → atNode (run 0 mostNodes f) n ≡ f n
-    go (yes h) = at-within (run 0 mostNodes f) n h ∙ getD-run-0 f mostNodes n 0 h
-    go (no h) = let past : mostNodes ≤ n = omega arith in at-past (run 0 mostNodes f) n past ∙ sym (none n past)
+    go : Dec (n < mostNodes) → atNode (tabulate 0 mostNodes f) n ≡ f n
+    go (yes h) = at-within (tabulate 0 mostNodes f) n h ∙ getD-tabulate-0 f mostNodes n 0 h
+    go (no h) = let past : mostNodes ≤ n = omega arith in at-past (tabulate 0 mostNodes f) n past ∙ sym (none n past)
 
 module _ (p : Plan) (few : size p ≤ mostNodes) where
   pub capacities-back : (n : ℕ) → atNode (capacitiesRow p) n ≡ capacityOf p n
@@ -72,8 +72,8 @@ module _ (p : Plan) (few : size p ≤ mostNodes) where
         ≡ edgesOf p n
     unfolding edgesIn
     edges-back n =
-        ap (λ (c : ℕ). run 0 c (made n)) (count-back n)
-        ∙ sym (as-run-0 (made n) (edgesOf p n) (length (edgesOf p n)) noEdge refl each)
+        ap (λ (c : ℕ). tabulate 0 c (made n)) (count-back n)
+        ∙ sym (as-tabulate-0 (made n) (edgesOf p n) (length (edgesOf p n)) noEdge refl each)
       where
         each : (i : ℕ) → i < length (edgesOf p n) → edgeOf p n i ≡ made n i
         each i h = go (decLt n (size p))
@@ -94,29 +94,29 @@ counted-within counts n count i e h = go (decLt n mostNodes)
 module _ (counts : List ℕ) (lows highs targets : Grid) (n i : ℕ) where
   pub edge-is : i < edgeCountIn counts n → getD (edgesIn counts lows highs targets n) i noEdge ≡ edgeIn lows highs targets n i
   unfolding edgesIn
-  edge-is h = getD-run-0 (edgeIn lows highs targets n) (edgeCountIn counts n) i noEdge h
+  edge-is h = getD-tabulate-0 (edgeIn lows highs targets n) (edgeCountIn counts n) i noEdge h
 
   pub edge-past : edgeCountIn counts n ≤ i → getD (edgesIn counts lows highs targets n) i noEdge ≡ noEdge
   unfolding edgesIn
-  edge-past h = getD-run-past (edgeIn lows highs targets n) 0 (edgeCountIn counts n) i noEdge h
+  edge-past h = getD-tabulate-past (edgeIn lows highs targets n) 0 (edgeCountIn counts n) i noEdge h
 
 -- and a loop that looks for the first edge that holds the key begins at them all.
 pub looks-from : (counts : List ℕ) (lows highs targets : Grid) (n count k : ℕ) → count ≡ edgeCountIn counts n
-    → firstEdge (edgesIn counts lows highs targets n) k ≡ firstEdge (run 0 (count - 0) (edgeIn lows highs targets n)) k
+    → firstEdge (edgesIn counts lows highs targets n) k ≡ firstEdge (tabulate 0 (count - 0) (edgeIn lows highs targets n)) k
 unfolding edgesIn
 looks-from counts lows highs targets n count k e =
-    ap (λ (c : ℕ). firstEdge (run 0 c (edgeIn lows highs targets n)) k) (let z : edgeCountIn counts n ≡ count - 0 = omega arith in z)
+    ap (λ (c : ℕ). firstEdge (tabulate 0 c (edgeIn lows highs targets n)) k) (let z : edgeCountIn counts n ≡ count - 0 = omega arith in z)
 
 -- One turn of it: it is at its end, is found, or goes on.
 module _ (f : ℕ → Edge) (i n k : ℕ) where
-  pub looked : n ≤ i → firstEdge (run i (n - i) f) k ≡ Ends
-  unfolding run firstEdge
+  pub looked : n ≤ i → firstEdge (tabulate i (n - i) f) k ≡ Ends
+  unfolding tabulate firstEdge
   looked h = let s : n - i ≡ 0 = omega arith in rw s
 
-  pub found : i < n → f i .lowest ≤ k → k ≤ f i .highest → firstEdge (run i (n - i) f) k ≡ To (f i .target)
-  unfolding run firstEdge
+  pub found : i < n → f i .lowest ≤ k → k ≤ f i .highest → firstEdge (tabulate i (n - i) f) k ≡ To (f i .target)
+  unfolding tabulate firstEdge
   found h a b = let s : n - i ≡ suc (n - suc i) = omega arith in rw (s, range-holds (f i) k a b)
 
-  pub looks-on : i < n → holds (f i) k ≡ false → firstEdge (run i (n - i) f) k ≡ firstEdge (run (i + 1) (n - (i + 1)) f) k
-  unfolding run firstEdge
+  pub looks-on : i < n → holds (f i) k ≡ false → firstEdge (tabulate i (n - i) f) k ≡ firstEdge (tabulate (i + 1) (n - (i + 1)) f) k
+  unfolding tabulate firstEdge
   looks-on h e = let s : n - i ≡ suc (n - (i + 1)) = omega arith in rw (s, e, add-one)

@@ -9,9 +9,9 @@ use native.Mathlib.Decide.{decLt}
 use lib.Dec.{leb, ltb}
 use lib.ListN.{length, getD}
 use borrow.Author.Tests.{leb-true, ltb-true, le-leb, lt-ltb}
-use Rattle.lists.specs.Runs.{allBelow}
+use Rattle.lists.specs.Indexed.{allBelow}
 use Rattle.lists.proofs.Truths.{not-both, and-left, and-right, and-both, both-le, le-both, or-cases, or-left, or-right}
-use Rattle.lists.proofs.Running.{all-below, below-all}
+use Rattle.lists.proofs.Tabulating.{all-below, below-all}
 use Rattle.plan.specs.declared.Edge.{Edge}
 use Rattle.plan.specs.declared.Hop.the-variants.{To, Ends}
 use Rattle.plan.specs.Sizes.{mostNodes, mostCapacity, mostEdges, lastKey}

@@ -7,7 +7,7 @@ use Prim.Native.Nat.{ℕ, min}
 use lib.Dec.{ltb}
 use lib.ListN.{length, getD}
 use denote.Ref.{RefT}
-use Rattle.lists.specs.Runs.{run}
+use Rattle.lists.specs.Indexed.{tabulate}
 use Rattle.lists.specs.Lending.{Lent, LentList}
 use Rattle.plan.specs.declared.Edge.{Edge}
 use Rattle.plan.specs.Sizes.{mostNodes, mostEdges}
@@ -36,19 +36,19 @@ edgeCountIn counts n = min (atNode counts n) mostEdges
 
 -- The edges of node n.
 unfoldable pub edgesIn : List ℕ → Grid → Grid → Grid → ℕ → List Edge
-edgesIn counts lows highs targets n = run 0 (edgeCountIn counts n) (edgeIn lows highs targets n)
+edgesIn counts lows highs targets n = tabulate 0 (edgeCountIn counts n) (edgeIn lows highs targets n)
 
 -- The capacities of a plan, by node: 0 where it has no node.
 unfoldable pub capacitiesRow : Plan → List ℕ
-capacitiesRow p = run 0 mostNodes (capacityOf p)
+capacitiesRow p = tabulate 0 mostNodes (capacityOf p)
 
 -- The numbers of its edges, by node.
 unfoldable pub countsRow : Plan → List ℕ
-countsRow p = run 0 mostNodes (λ n. length (edgesOf p n))
+countsRow p = tabulate 0 mostNodes (λ n. length (edgesOf p n))
 
 -- A number of each of its edges: 0 where it has no edge.
 unfoldable pub gridOf : (Edge → ℕ) → Plan → Grid
-gridOf part p = run 0 mostNodes (λ n. run 0 mostEdges (λ i. part (edgeOf p n i)))
+gridOf part p = tabulate 0 mostNodes (λ n. tabulate 0 mostEdges (λ i. part (edgeOf p n i)))
 
 -- The node count and the rows, taken once and lent, are those of a plan that meets the plan rules.
 pub record RowsOf (p : Plan) (nodes : ℕ) (edges : List ℕ) (lows highs targets : Grid) : Type 0 where

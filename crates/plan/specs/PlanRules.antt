@@ -4,7 +4,7 @@ use mathlib.Core.Bool.{Bool, true, false, _&&_, _||_}
 use Prim.Native.Nat.{ℕ, suc, _<_, _≤_}
 use lib.Dec.{leb, ltb}
 use lib.ListN.{length}
-use Rattle.lists.specs.Runs.{allBelow}
+use Rattle.lists.specs.Indexed.{allBelow}
 use Rattle.plan.specs.declared.Edge.{Edge}
 use Rattle.plan.specs.declared.Hop.{Hop}
 use Rattle.plan.specs.declared.Hop.the-variants.{To, Ends}

@@ -6,8 +6,8 @@ use Prim.Native.Nat.{ℕ, zero, suc, _<_, _≤_}
 use native.Mathlib.Omega.{arith}
 use native.Mathlib.Nat.{not-suc-le-zero}
 use lib.ListN.{getD, List·getD-eq-default}
-use Rattle.lists.specs.Runs.{allFrom, allBelow}
-use Rattle.lists.proofs.Running.{all-below}
+use Rattle.lists.specs.Indexed.{allFrom, allBelow}
+use Rattle.lists.proofs.Tabulating.{all-below}
 use Rattle.plan.specs.Sizes.{lastKey}
 use Rattle.plan.specs.Plan.{holds, firstEdge, next}
 use Rattle.plan.specs.PlanRules.{

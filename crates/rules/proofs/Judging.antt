@@ -5,7 +5,7 @@ use mathlib.Core.List.{List}
 use Prim.Native.Nat.{ℕ, _<_, _≤_}
 use lib.ListN.{length}
 use borrow.Author.Tests.{eq-eqb, le-leb, lt-leb}
-use Rattle.lists.specs.Runs.{allBelow}
+use Rattle.lists.specs.Indexed.{allBelow}
 use Rattle.lists.proofs.Truths.{not-both, refuted, and-left, and-right, and-both}
 use Rattle.plan.specs.Sizes.{mostNodes}
 use Rattle.plan.specs.Plan.{size}

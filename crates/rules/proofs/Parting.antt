@@ -4,8 +4,8 @@ use mathlib.Core.Bool.{Bool, true, false, and-true, and-false, _&&_}
 use mathlib.Core.List.{List}
 use Prim.Native.Nat.{ℕ, _+_, _*_}
 use lib.Dec.{leb, ltb}
-use Rattle.lists.specs.Runs.{allFrom, allBelow}
-use Rattle.lists.proofs.Running.{same-all, all-and}
+use Rattle.lists.specs.Indexed.{allFrom, allBelow}
+use Rattle.lists.proofs.Tabulating.{same-all, all-and}
 use Rattle.plan.specs.Sizes.{mostNodes}
 use Rattle.plan.specs.Plan.{Plan, capacityOf, next, path}
 use Rattle.plan.specs.PlanRules.{PlanRules}

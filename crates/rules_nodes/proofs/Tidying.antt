@@ -10,9 +10,9 @@ use lib.Dec.{leb, ltb}
 use lib.ListN.{List·getD-eq-default}
 use lib.Seq.{slice}
 use borrow.Author.Tests.{le-leb, lt-leb, leb-true, ltb-true}
-use Rattle.lists.specs.Runs.{allFrom, allBelow}
+use Rattle.lists.specs.Indexed.{allFrom, allBelow}
 use Rattle.lists.proofs.Truths.{and-left, and-right, or-cases}
-use Rattle.lists.proofs.Running.{all-at, all-below}
+use Rattle.lists.proofs.Tabulating.{all-at, all-below}
 use Rattle.plan.specs.Sizes.{mostNodes}
 use Rattle.plan.specs.Plan.{Node, Plan, noNode, size, capacityOf}
 use Rattle.plan.specs.PlanRules.{PlanRules}

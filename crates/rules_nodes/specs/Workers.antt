@@ -6,7 +6,7 @@ use Prim.Native.Nat.{ℕ, suc, _+_, _-_, _*_, _≤_}
 use lib.Dec.{leb, ltb}
 use lib.ListN.{length}
 use denote.Ref.{RefT}
-use Rattle.lists.specs.Runs.{allFrom, allBelow}
+use Rattle.lists.specs.Indexed.{allFrom, allBelow}
 use Rattle.plan.specs.Sizes.{mostNodes}
 use Rattle.plan.specs.PlanArrays.{atNode}
 use Rattle.store.specs.declared.Copy.{Copy}

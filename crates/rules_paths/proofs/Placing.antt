@@ -7,8 +7,8 @@ use Prim.Native.Nat.{ℕ, _+_, _-_, _*_, _<_}
 use native.Mathlib.Omega.{arith}
 use native.Mathlib.Decide.{decLt}
 use lib.Dec.{ltb}
-use Rattle.lists.specs.Runs.{allFrom, allBelow}
-use Rattle.lists.proofs.Running.{map-run, same-all}
+use Rattle.lists.specs.Indexed.{allFrom, allBelow}
+use Rattle.lists.proofs.Tabulating.{map-tabulate, same-all}
 use Rattle.plan.specs.Sizes.{mostNodes}
 use Rattle.plan.specs.declared.Hop.{Hop}
 use Rattle.plan.specs.Plan.{Plan, size, next, walk, path}
@@ -67,7 +67,7 @@ module _ (nodes clock : ℕ) (counts keys kinds values stamps : List ℕ) (slots
 
   node-keyed : (n : ℕ) → nodeIn counts keys [] [] stamps n ≡ map keyedCopy (nodeIn counts keys kinds values stamps n)
   unfolding nodeIn
-  node-keyed n = sym (map-run keyedCopy (copyIn keys kinds values stamps) (width * n) (numberIn counts n))
+  node-keyed n = sym (map-tabulate keyedCopy (copyIn keys kinds values stamps) (width * n) (numberIn counts n))
 
   line-keyed : (k n : ℕ) → line bare k n ≡ Option·map keyedCopy (line whole k n)
   line-keyed k n = go (decLt n nodes)

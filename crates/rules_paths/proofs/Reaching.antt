@@ -4,7 +4,7 @@ use mathlib.Core.List.{List, []}
 use mathlib.Core.Option.{Option}
 use Prim.Native.Nat.{ℕ, _+_, _-_, _*_, _<_, _≤_}
 use native.Mathlib.Omega.{arith}
-use Rattle.lists.specs.Runs.{run}
+use Rattle.lists.specs.Indexed.{tabulate}
 use Rattle.plan.specs.declared.Hop.{Hop}
 use Rattle.plan.specs.declared.Hop.the-variants.{To, Ends}
 use Rattle.plan.specs.Plan.{Plan, size, firstEdge, next, walk}
@@ -60,7 +60,7 @@ module _ (p : Plan) (nodes : ℕ) (counts keys stamps : List ℕ) (k : ℕ) wher
       unfolding firstOn
       first-line = rw (walk-goes p k left hop n l e, parts-node nodes 0 counts keys [] [] stamps [] n h)
 
-      looked : find keyOf (run (width * n) (width * n + numberIn counts n - width * n) (copyIn keys [] [] stamps)) k ≡ lineAt n
+      looked : find keyOf (tabulate (width * n) (width * n + numberIn counts n - width * n) (copyIn keys [] [] stamps)) k ≡ lineAt n
       unfolding nodeIn
       looked = let c : width * n + numberIn counts n - width * n ≡ numberIn counts n = omega arith in rw c
 

@@ -4,7 +4,7 @@ use mathlib.Core.List.{List, []}
 use Prim.Native.Nat.{ℕ, _*_}
 use lib.Dec.{ltb}
 use lib.ListN.{getD}
-use Rattle.lists.specs.Runs.{allFrom, allBelow}
+use Rattle.lists.specs.Indexed.{allFrom, allBelow}
 use Rattle.lists.specs.Lending.{LentList}
 use Rattle.plan.specs.Sizes.{mostNodes}
 use Rattle.plan.specs.Plan.{Plan, next, path}

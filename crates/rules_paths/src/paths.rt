@@ -2,7 +2,7 @@
 // plan has.
 ghost use mathlib.Core.Path.{_≡_};
 ghost use Prim.Native.Nat.{_<_};
-ghost use Rattle.lists.specs.Runs.{allBelow};
+ghost use Rattle.lists.specs.Indexed.{allBelow};
 ghost use Rattle.plan.specs.Sizes.{mostNodes};
 ghost use Rattle.plan.specs.Plan.{path};
 ghost use Rattle.plan.specs.PlanArrays.{EachPlan};

@@ -5,7 +5,7 @@ use mathlib.Core.List.{List}
 use Prim.Native.Nat.{ℕ, _+_, _-_, _*_, _<_, _≤_}
 use native.Mathlib.Omega.{arith}
 use lib.ListN.{length}
-use Rattle.lists.specs.Runs.{run}
+use Rattle.lists.specs.Indexed.{tabulate}
 use Rattle.plan.specs.Sizes.{mostNodes}
 use Rattle.plan.specs.Plan.{size}
 use Rattle.plan.specs.PlanArrays.{Grid, RowsOf}
@@ -46,7 +46,7 @@ module _ (z : Store) (good : goodStore z ≡ true) where
   node-rises n from end h f e = rw (f, e) (good-ordered z good n h .rises)
 
   -- Its counts and columns are those of its state.
-  pub counts-are : z .counts ≡ run 0 mostNodes (λ n. length (nodeAt (stateOf z) n))
+  pub counts-are : z .counts ≡ tabulate 0 mostNodes (λ n. length (nodeAt (stateOf z) n))
   unfolding storeOf
   counts-are = ap (λ (y : Store). y .counts) (sym (good-back z good))
 

@@ -4,8 +4,8 @@ use mathlib.Core.List.{List}
 use mathlib.Core.Option.{Option, none, some}
 use Prim.Native.Nat.{ℕ, _+_, _-_, _<_, _≤_}
 use native.Mathlib.Omega.{arith}
-use Rattle.lists.specs.Runs.{run}
-use Rattle.lists.proofs.Running.{map-run}
+use Rattle.lists.specs.Indexed.{tabulate}
+use Rattle.lists.proofs.Tabulating.{map-tabulate}
 use Rattle.store.specs.declared.Copy.{Copy}
 use Rattle.store.specs.declared.Found.the-variants.{Held, Nothing}
 use Rattle.store.specs.Copies.{copy, noCopy, keyOf, find, foundOf}
@@ -15,10 +15,10 @@ use Rattle.store.proofs.Seeking.{below-keys, rises-run, place-within, p
 
 -- The place of a key among the copies is its place among their keys.
 pub place-of-copy : (keys kinds values stamps : List ℕ) (from n k : ℕ)
-    → below itself (run from n (numberIn keys)) k ≡ below keyOf (run from n (copyIn keys kinds values stamps)) k
+    → below itself (tabulate from n (numberIn keys)) k ≡ below keyOf (tabulate from n (copyIn keys kinds values stamps)) k
 place-of-copy keys kinds values stamps from n k =
-    ap (λ (ks : List ℕ). below itself ks k) (sym (map-run keyOf (copyIn keys kinds values stamps) from n))
-    ∙ sym (below-keys keyOf (run from n (copyIn keys kinds values stamps)) k)
+    ap (λ (ks : List ℕ). below itself ks k) (sym (map-tabulate keyOf (copyIn keys kinds values stamps) from n))
+    ∙ sym (below-keys keyOf (tabulate from n (copyIn keys kinds values stamps)) k)
 
 module _ (keys : List ℕ) (from end : ℕ) (o : from ≤ end) where
   pub place-bounds : (k : ℕ) → (from ≤ placeIn keys from end k) × (placeIn keys from end k ≤ end)
@@ -39,17 +39,17 @@ module _ (keys : List ℕ) (from end : ℕ) (o : from ≤ end) where
         m p (omega arith) h
 
     module _ (kinds values stamps : List ℕ) where
-      pub copies-rise : Rises keyOf noCopy (run from (end - from) (copyIn keys kinds values stamps))
+      pub copies-rise : Rises keyOf noCopy (tabulate from (end - from) (copyIn keys kinds values stamps))
       copies-rise = rises-run keyOf noCopy (copyIn keys kinds values stamps) from (end - from) (λ i a b. r i a (omega arith))
 
       -- The copy at a place with the key is found,
       pub found-at : (k at : ℕ) → from ≤ at → at < end → numberIn keys at ≡ k
-          → find keyOf (run from (end - from) (copyIn keys kinds values stamps)) k ≡ some (copyIn keys kinds values stamps at)
+          → find keyOf (tabulate from (end - from) (copyIn keys kinds values stamps)) k ≡ some (copyIn keys kinds values stamps at)
       found-at k at p q e = place-hit keyOf noCopy (copyIn keys kinds values stamps) from (end - from) copies-rise k at p (omega arith) e
 
       -- and nothing if the place of the key is not its.
       pub none-at : (k at : ℕ) → at ≡ placeIn keys from end k → (at < end → numberIn keys at ≡ k → ⊥)
-          → find keyOf (run from (end - from) (copyIn keys kinds values stamps)) k ≡ none
+          → find keyOf (tabulate from (end - from) (copyIn keys kinds values stamps)) k ≡ none
       none-at k at e h =
           place-none keyOf noCopy (copyIn keys kinds values stamps) from (end - from) k at
           (e ∙ ap (λ (n : ℕ). from + n) (place-of-copy keys kinds values stamps from (end - from) k))
@@ -58,13 +58,13 @@ module _ (keys : List ℕ) (from end : ℕ) (o : from ≤ end) where
       -- The two ways out of a look.
       pub look-held : (k at : ℕ) → from ≤ at → at < end → numberIn keys at ≡ k
           → Held (copy k (numberIn kinds at) (numberIn values at) (numberIn stamps at))
-          ≡ foundOf (find keyOf (run from (end - from) (copyIn keys kinds values stamps)) k)
+          ≡ foundOf (find keyOf (tabulate from (end - from) (copyIn keys kinds values stamps)) k)
       look-held k at p q e =
           ap (λ (j : ℕ). Held (copy j (numberIn kinds at) (numberIn values at) (numberIn stamps at))) (sym e)
           ∙ ap foundOf (sym (found-at k at p q e))
 
       pub look-nothing : (k at : ℕ) → at ≡ placeIn keys from end k → (at < end → k < numberIn keys at)
-          → Nothing ≡ foundOf (find keyOf (run from (end - from) (copyIn keys kinds values stamps)) k)
+          → Nothing ≡ foundOf (find keyOf (tabulate from (end - from) (copyIn keys kinds values stamps)) k)
       look-nothing k at e h = ap foundOf (sym (none-at k at e (λ p q. let a = h p in omega arith)))
 
 -- What an answer says that was found.

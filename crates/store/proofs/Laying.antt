@@ -7,8 +7,8 @@ use native.Mathlib.Nat.{zero-add}
 use native.Mathlib.Decide.{decLt, ℕ-discrete}
 use lib.ListN.{length, getD, set, replicate, length-set, length-map, length-append, length-replicate, getD-replicate, List·getD-append, List·getD-eq-default}
 use lib.Seq.{ext-getD, sets, length-sets, getD-append-seam, getD-append-add, getD-set-same, getD-set-other}
-use Rattle.lists.specs.Runs.{run}
-use Rattle.lists.proofs.Running.{length-run, getD-run, getD-run-0, getD-run-past, as-run}
+use Rattle.lists.specs.Indexed.{tabulate}
+use Rattle.lists.proofs.Tabulating.{length-tabulate, getD-tabulate, getD-tabulate-0, getD-tabulate-past, as-tabulate}
 use Rattle.lists.proofs.Storing.{sets-below, sets-past, sets-inside, set-run, getD-same, getD-map}
 use Rattle.plan.specs.Sizes.{mostNodes}
 use Rattle.plan.specs.Plan.{Plan, size}
@@ -29,16 +29,16 @@ use Rattle.store.proofs.WhichPlan.{plan-back}
 module _ (counts keys kinds values stamps : List ℕ) (n : ℕ) where
   pub length-node-in : length (nodeIn counts keys kinds values stamps n) ≡ getD counts n 0
   unfolding nodeIn
-  length-node-in = length-run (copyIn keys kinds values stamps) (width * n) (getD counts n 0)
+  length-node-in = length-tabulate (copyIn keys kinds values stamps) (width * n) (getD counts n 0)
 
   pub node-in-copy : (i : ℕ) → i < getD counts n 0
       → getD (nodeIn counts keys kinds values stamps n) i noCopy ≡ copyIn keys kinds values stamps (width * n + i)
   unfolding nodeIn
-  node-in-copy i h = getD-run (copyIn keys kinds values stamps) (width * n) (getD counts n 0) i noCopy h
+  node-in-copy i h = getD-tabulate (copyIn keys kinds values stamps) (width * n) (getD counts n 0) i noCopy h
 
   -- A look among its places is a look in it.
   pub node-looked : (k : ℕ)
-      → foundOf (find keyOf (run (width * n) (width * n + getD counts n 0 - width * n) (copyIn keys kinds values stamps)) k)
+      → foundOf (find keyOf (tabulate (width * n) (width * n + getD counts n 0 - width * n) (copyIn keys kinds values stamps)) k)
       ≡ foundOf (find keyOf (nodeIn counts keys kinds values stamps n) k)
   unfolding nodeIn
   node-looked k =
@@ -48,10 +48,10 @@ module _ (counts keys kinds values stamps : List ℕ) (n : ℕ) where
 -- The nodes of a state that parts hold: those of its columns, and nothing past them.
 module _ (nodes clock : ℕ) (counts keys kinds values stamps : List ℕ) (slots : List Slot) (n : ℕ) where
   pub parts-node : n < nodes → nodeAt (stateIn nodes clock counts keys kinds values stamps slots) n ≡ nodeIn counts keys kinds values stamps n
-  parts-node h = getD-run-0 (nodeIn counts keys kinds values stamps) nodes n [] h
+  parts-node h = getD-tabulate-0 (nodeIn counts keys kinds values stamps) nodes n [] h
 
   pub parts-past : nodes ≤ n → nodeAt (stateIn nodes clock counts keys kinds values stamps slots) n ≡ []
-  parts-past h = getD-run-past (nodeIn counts keys kinds values stamps) 0 nodes n [] h
+  parts-past h = getD-tabulate-past (nodeIn counts keys kinds values stamps) 0 nodes n [] h
 
 -- The nodes of a store, and of its state.
 module _ (z : Store) where
@@ -63,7 +63,7 @@ module _ (z : Store) where
 
   pub length-nodes : length (stateOf z .nodes) ≡ size (planOf z)
   unfolding stateOf
-  length-nodes = length-run (nodeOf z) 0 (size (planOf z))
+  length-nodes = length-tabulate (nodeOf z) 0 (size (planOf z))
 
   pub state-node : (n : ℕ) → n < size (planOf z) → nodeAt (stateOf z) n ≡ nodeOf z n
   unfolding stateOf
@@ -90,7 +90,7 @@ module _ (z : Store) where
 -- A column: its length, its places, and when a list is one.
 pub length-column : (part : Copy → ℕ) (ns : List (List Copy)) → length (column part ns) ≡ places
 unfolding column
-length-column part ns = length-run (λ i. part (placeOf ns i)) 0 places
+length-column part ns = length-tabulate (λ i. part (placeOf ns i)) 0 places
 
 pub place-at : (part : Copy → ℕ) (ns : List (List Copy)) (n i : ℕ) → n < mostNodes → i < width
     → getD (column part ns) (width * n + i) 0 ≡ part (getD (getD ns n []) i noCopy)
@@ -98,13 +98,13 @@ unfolding column
 place-at part ns n i h g =
     let node : (width * n + i) / width ≡ n = omega arith in
     let place : (width * n + i) % width ≡ i = omega arith in
-    getD-run-0 (λ j. part (placeOf ns j)) places (width * n + i) 0 (omega arith) ∙ rw (node, place)
+    getD-tabulate-0 (λ j. part (placeOf ns j)) places (width * n + i) 0 (omega arith) ∙ rw (node, place)
 
 -- A list of as many places that at each place of each node holds that copy's number is the column.
 pub column-is : (part : Copy → ℕ) (ns : List (List Copy)) (c : List ℕ) → length c ≡ places
     → ((m i : ℕ) → m < mostNodes → i < width → getD c (width * m + i) 0 ≡ part (getD (getD ns m []) i noCopy)) → c ≡ column part ns
 unfolding column
-column-is part ns c long at = as-run (λ j. part (placeOf ns j)) c 0 places 0 long (λ j h. rw zero-add (by-node j h))
+column-is part ns c long at = as-tabulate (λ j. part (placeOf ns j)) c 0 places 0 long (λ j h. rw zero-add (by-node j h))
   where
     by-node : (j : ℕ) → j < places → getD c j 0 ≡ part (placeOf ns j)
     by-node j h =
@@ -189,7 +189,7 @@ module _ {n : ℕ} {ys : List Copy} {ns ms : List (List Copy)} (one : OneNode n 
   node-grown part few over fits =
       ap (λ (vs : List ℕ). sets (column part ns) (width * n) vs) (sym (append-nil (map part ys))) ∙ node-laid part 0 few (omega arith) (omega arith)
 
-  pub counts-written : run 0 mostNodes (λ m. length (getD ms m [])) ≡ set (run 0 mostNodes (λ m. length (getD ns m []))) n (length ys)
+  pub counts-written : tabulate 0 mostNodes (λ m. length (getD ms m [])) ≡ set (tabulate 0 mostNodes (λ m. length (getD ns m []))) n (length ys)
   counts-written =
       sym
       (set-run (λ m. length (getD ns m [])) (λ m. length (getD ms m [])) mostNodes n (length ys) (ap length (one .here))
@@ -219,7 +219,7 @@ copy-written part ns n i x in-list few held fits =
 
 -- A store is the store of a state by its plan's number, clock, counts, columns and slots.
 pub store-is : (plan : ℕ) (s : State) (z : Store) → z .plan ≡ plan → z .clock ≡ s .clock
-    → z .counts ≡ run 0 mostNodes (λ n. length (nodeAt s n)) → z .keys ≡ column (λ (x : Copy). x .key) (s .nodes)
+    → z .counts ≡ tabulate 0 mostNodes (λ n. length (nodeAt s n)) → z .keys ≡ column (λ (x : Copy). x .key) (s .nodes)
     → z .kinds ≡ column (λ (x : Copy). x .kind) (s .nodes) → z .values ≡ column (λ (x : Copy). x .value) (s .nodes)
     → z .stamps ≡ column (λ (x : Copy). x .stamp) (s .nodes) → z .slots ≡ s .slots → z ≡ storeOf plan s
 unfolding storeOf
@@ -233,9 +233,9 @@ module _ (ns : List (List Copy)) (empty : (n : ℕ) → getD ns n [] ≡ []) whe
       column-is part ns (replicate places (part noCopy)) (length-replicate places (part noCopy))
       (λ m i h g. getD-replicate places (width * m + i) (part noCopy) 0 (omega arith) ∙ ap (λ (xs : List Copy). part (getD xs i noCopy)) (sym (empty m)))
 
-  pub blank-counts : replicate mostNodes 0 ≡ run 0 mostNodes (λ n. length (getD ns n []))
+  pub blank-counts : replicate mostNodes 0 ≡ tabulate 0 mostNodes (λ n. length (getD ns n []))
   blank-counts =
-      as-run (λ n. length (getD ns n [])) (replicate mostNodes 0) 0 mostNodes 0 (length-replicate {A = ℕ} mostNodes 0)
+      as-tabulate (λ n. length (getD ns n [])) (replicate mostNodes 0) 0 mostNodes 0 (length-replicate {A = ℕ} mostNodes 0)
       (λ n h. rw zero-add (getD-same mostNodes n 0 ∙ ap length (sym (empty n))))
 
 pub blank-store : (plan : ℕ) (s : State) → ((n : ℕ) → nodeAt s n ≡ [])
@@ -258,7 +258,7 @@ blank-store plan s empty =
 module _ (plan : ℕ) (s : State) where
   pub stored-count : (n : ℕ) → n < mostNodes → countOf (storeOf plan s) n ≡ length (nodeAt s n)
   unfolding storeOf
-  stored-count n h = getD-run-0 (λ m. length (nodeAt s m)) mostNodes n 0 h
+  stored-count n h = getD-tabulate-0 (λ m. length (nodeAt s m)) mostNodes n 0 h
 
   pub stored-copy : (n i : ℕ) → n < mostNodes → i < width → copyOf (storeOf plan s) (width * n + i) ≡ copyAt s n i
   unfolding storeOf
@@ -285,7 +285,7 @@ module _ (plan : ℕ) (s : State) where
   unfolding storeOf
   stored-shape slots =
       record {
-        counts-long = length-run (λ n. length (nodeAt s n)) 0 mostNodes;
+        counts-long = length-tabulate (λ n. length (nodeAt s n)) 0 mostNodes;
         keys-long = length-column (λ (x : Copy). x .key) (s .nodes);
         kinds-long = length-column (λ (x : Copy). x .kind) (s .nodes);
         values-long = length-column (λ (x : Copy). x .value) (s .nodes);
@@ -302,10 +302,10 @@ module _ (plan : ℕ) (s : State) where
       many : size (planOf (storeOf plan s)) ≡ size (planNumbered plan)
       many = ap size (plan-back plan s)
 
-      nodes : run 0 (size (planOf (storeOf plan s))) (nodeOf (storeOf plan s)) ≡ s .nodes
+      nodes : tabulate 0 (size (planOf (storeOf plan s))) (nodeOf (storeOf plan s)) ≡ s .nodes
       nodes =
           sym
-          (as-run (nodeOf (storeOf plan s)) (s .nodes) 0 (size (planOf (storeOf plan s))) [] (long ∙ sym many)
+          (as-tabulate (nodeOf (storeOf plan s)) (s .nodes) 0 (size (planOf (storeOf plan s))) [] (long ∙ sym many)
           (λ n h. rw zero-add (sym (stored-node n (omega (arith, many)) (fits n)))))
 
 -- A store that keeps the rules is the store of its state.
@@ -339,9 +339,9 @@ module _ (z : Store) (rules : StoreRules z) where
       (back (λ (x : Copy). x .stamp) (z .stamps) (rules .shape .stamps-long) (λ j. refl))
       (sym (state-slots z)))
     where
-      counts : z .counts ≡ run 0 mostNodes (λ n. length (nodeAt (stateOf z) n))
+      counts : z .counts ≡ tabulate 0 mostNodes (λ n. length (nodeAt (stateOf z) n))
       counts =
-          as-run (λ n. length (nodeAt (stateOf z) n)) (z .counts) 0 mostNodes 0 (rules .shape .counts-long) (λ n h. rw zero-add (sym (every-count n h)))
+          as-tabulate (λ n. length (nodeAt (stateOf z) n)) (z .counts) 0 mostNodes 0 (rules .shape .counts-long) (λ n h. rw zero-add (sym (every-count n h)))
 
       back : (part : Copy → ℕ) (c : List ℕ) → length c ≡ places → ((j : ℕ) → getD c j 0 ≡ part (copyOf z j)) → c ≡ column part (stateOf z .nodes)
       back part c long of =

@@ -7,7 +7,7 @@ use native.Mathlib.Decide.{decLt}
 use lib.ListN.{length, getD, List·getD-eq-default}
 use borrow.Author.Tests.{eqb-true, eq-eqb, leb-true, le-leb}
 use Rattle.lists.proofs.Truths.{and-left, and-right, and-both, both-le, le-both}
-use Rattle.lists.proofs.Running.{all-at, at-all, all-below, below-all}
+use Rattle.lists.proofs.Tabulating.{all-at, at-all, all-below, below-all}
 use Rattle.plan.specs.Sizes.{mostNodes}
 use Rattle.plan.specs.Plan.{Node, Plan, noNode, size, capacityOf}
 use Rattle.plan.specs.PlanRules.{PlanRules}

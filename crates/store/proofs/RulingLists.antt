@@ -11,9 +11,9 @@ use lib.Dec.{eqb}
 use lib.ListN.{length, getD, take, length-take, length-drop}
 use lib.Seq.{slice, getD-take, getD-drop}
 use borrow.Author.Tests.{eqb-true, eq-eqb, not-true}
-use Rattle.lists.specs.Runs.{run}
+use Rattle.lists.specs.Indexed.{tabulate}
 use Rattle.lists.proofs.Truths.{bool?, not-both, and-left, and-right, and-both, or-cases, or-left, or-right}
-use Rattle.lists.proofs.Running.{length-run, getD-run}
+use Rattle.lists.proofs.Tabulating.{length-tabulate, getD-tabulate}
 use Rattle.store.specs.Copies.{member, different}
 use Rattle.store.specs.StoreRules.{allZero, standsAt}
 
@@ -102,38 +102,38 @@ at-different (x ∷ xs) d =
 
 -- The same of a run, by the numbers that it runs over.
 module _ (f : ℕ → ℕ) (i n : ℕ) where
-  run-at : (j : ℕ) → i ≤ j → j < i + n → getD (run i n f) (j - i) 0 ≡ f j
+  run-at : (j : ℕ) → i ≤ j → j < i + n → getD (tabulate i n f) (j - i) 0 ≡ f j
   run-at j h g =
       let e : i + (j - i) ≡ j = omega arith in
-      getD-run f i n (j - i) 0 (omega arith) ∙ ap f e
+      getD-tabulate f i n (j - i) 0 (omega arith) ∙ ap f e
 
-  pub member-run : (t : ℕ) → member t (run i n f) ≡ true → (j : ℕ) × (i ≤ j) × (j < i + n) × (f j ≡ t)
+  pub member-run : (t : ℕ) → member t (tabulate i n f) ≡ true → (j : ℕ) × (i ≤ j) × (j < i + n) × (f j ≡ t)
   member-run t m =
-      let w = member-at t (run i n f) m in
-      let h : w .0 < n = omega (arith, w .1, length-run f i n) in
-      (i + w .0, omega arith, omega arith, sym (getD-run f i n (w .0) 0 h) ∙ w .2)
+      let w = member-at t (tabulate i n f) m in
+      let h : w .0 < n = omega (arith, w .1, length-tabulate f i n) in
+      (i + w .0, omega arith, omega arith, sym (getD-tabulate f i n (w .0) 0 h) ∙ w .2)
 
-  pub run-member : (j : ℕ) → i ≤ j → j < i + n → member (f j) (run i n f) ≡ true
+  pub run-member : (j : ℕ) → i ≤ j → j < i + n → member (f j) (tabulate i n f) ≡ true
   run-member j h g =
-      rw (run-at j h g) at (at-member (run i n f) (j - i) (omega (arith, length-run f i n)))
+      rw (run-at j h g) at (at-member (tabulate i n f) (j - i) (omega (arith, length-tabulate f i n)))
 
-  pub different-run : different (run i n f) ≡ true
+  pub different-run : different (tabulate i n f) ≡ true
       → (j k : ℕ) → i ≤ j → j < i + n → i ≤ k → k < i + n → f j ≡ f k → j ≡ k
   different-run d j k a b c e q =
-      let l = length-run f i n in
+      let l = length-tabulate f i n in
       let r : j - i ≡ k - i =
-      different-at (run i n f) d (j - i) (k - i) (omega arith) (omega arith) (run-at j a b ∙ q ∙ sym (run-at k c e))
+      different-at (tabulate i n f) d (j - i) (k - i) (omega arith) (omega arith) (run-at j a b ∙ q ∙ sym (run-at k c e))
       in
       omega arith
 
   pub run-different : ((j k : ℕ) → i ≤ j → j < i + n → i ≤ k → k < i + n → f j ≡ f k → j ≡ k)
-      → different (run i n f) ≡ true
+      → different (tabulate i n f) ≡ true
   run-different d =
-      at-different (run i n f) (λ j k h g e.
-      let a : j < n = omega (arith, length-run f i n) in
-      let b : k < n = omega (arith, length-run f i n) in
+      at-different (tabulate i n f) (λ j k h g e.
+      let a : j < n = omega (arith, length-tabulate f i n) in
+      let b : k < n = omega (arith, length-tabulate f i n) in
       let r : i + j ≡ i + k =
-      d (i + j) (i + k) (omega arith) (omega arith) (omega arith) (omega arith) (sym (getD-run f i n j 0 a) ∙ e ∙ getD-run f i n k 0 b)
+      d (i + j) (i + k) (omega arith) (omega arith) (omega arith) (omega arith) (sym (getD-tabulate f i n j 0 a) ∙ e ∙ getD-tabulate f i n k 0 b)
       in
       omega arith)
 

@@ -7,7 +7,7 @@ use Prim.Native.Nat.{ℕ, zero, suc, _+_, _-_, _*_, _<_, _≤_}
 use native.Mathlib.Omega.{arith}
 use native.Mathlib.Decide.{decLt}
 use lib.ListN.{getD}
-use Rattle.lists.specs.Runs.{run}
+use Rattle.lists.specs.Indexed.{tabulate}
 use Rattle.lists.proofs.Truths.{not-both}
 use Rattle.store.specs.Copies.{member, different}
 use Rattle.store.specs.Layout.{width}
@@ -31,7 +31,7 @@ module _ (counts stamps : List ℕ) where
 
   -- The stamps of one node, and of the m from node b on.
   abbrev here : ℕ → List ℕ
-  here n = run (width * n) (getD counts n 0) (λ i. getD stamps i 0)
+  here n = tabulate (width * n) (getD counts n 0) (λ i. getD stamps i 0)
 
   abbrev later : ℕ → ℕ → List ℕ
   later b m = stampsFrom counts stamps b m

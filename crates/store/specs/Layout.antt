@@ -4,7 +4,7 @@ use mathlib.Core.Path.{_≡_}
 use mathlib.Core.List.{List, []}
 use Prim.Native.Nat.{ℕ, _*_, _/_, _%_}
 use lib.ListN.{length, getD}
-use Rattle.lists.specs.Runs.{run}
+use Rattle.lists.specs.Indexed.{tabulate}
 use Rattle.plan.specs.Sizes.{mostNodes, mostCapacity}
 use Rattle.plan.specs.Plan.{Plan, size}
 use Rattle.plan_table.specs.PlanTable.{planNumbered}
@@ -28,7 +28,7 @@ copyIn keys kinds values stamps i = record { key = getD keys i 0; kind = getD ki
 
 -- The copies of node n: of its places the first, as many as its count says.
 unfoldable pub nodeIn : List ℕ → List ℕ → List ℕ → List ℕ → List ℕ → ℕ → List Copy
-nodeIn counts keys kinds values stamps n = run (width * n) (getD counts n 0) (copyIn keys kinds values stamps)
+nodeIn counts keys kinds values stamps n = tabulate (width * n) (getD counts n 0) (copyIn keys kinds values stamps)
 
 -- The copy at a place of a store.
 abbrev pub copyOf : Store → ℕ → Copy
@@ -49,7 +49,7 @@ planOf z = planNumbered (z .plan)
 -- The state that these parts hold, of so many nodes.
 abbrev pub stateIn : ℕ → ℕ → List ℕ → List ℕ → List ℕ → List ℕ → List ℕ → List Slot → State
 stateIn nodes clock counts keys kinds values stamps slots =
-    record { clock = clock; nodes = run 0 nodes (nodeIn counts keys kinds values stamps); slots = slots }
+    record { clock = clock; nodes = tabulate 0 nodes (nodeIn counts keys kinds values stamps); slots = slots }
 
 -- The state of a store.
 unfoldable pub stateOf : Store → State
@@ -61,7 +61,7 @@ placeOf ns i = getD (getD ns (i / width) []) (i % width) noCopy
 
 -- A column: one number of each place.
 unfoldable pub column : (Copy → ℕ) → List (List Copy) → List ℕ
-column part ns = run 0 places (λ i. part (placeOf ns i))
+column part ns = tabulate 0 places (λ i. part (placeOf ns i))
 
 -- The store of a state, by the plan's number.
 unfoldable pub storeOf : ℕ → State → Store
@@ -69,7 +69,7 @@ storeOf plan s =
     record {
       plan = plan;
       clock = s .clock;
-      counts = run 0 mostNodes (λ n. length (getD (s .nodes) n []));
+      counts = tabulate 0 mostNodes (λ n. length (getD (s .nodes) n []));
       keys = column (λ (x : Copy). x .key) (s .nodes);
       kinds = column (λ (x : Copy). x .kind) (s .nodes);
       values = column (λ (x : Copy). x .value) (s .nodes);

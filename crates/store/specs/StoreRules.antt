@@ -6,7 +6,7 @@ use Prim.Native.Nat.{ℕ, zero, suc, _+_, _*_, _<_, _≤_}
 use lib.Dec.{leb, ltb, eqb}
 use lib.ListN.{length, getD}
 use lib.Seq.{slice}
-use Rattle.lists.specs.Runs.{run, allFrom, allBelow}
+use Rattle.lists.specs.Indexed.{tabulate, allFrom, allBelow}
 use Rattle.plan.specs.Sizes.{mostNodes}
 use Rattle.plan.specs.Plan.{Plan, size, capacityOf, next, path}
 use Rattle.plan_table.specs.PlanTable.{plans}
@@ -79,7 +79,7 @@ nodeTest p s z n =
 -- The stamps of all copies held, from a node on.
 unfoldable pub stampsFrom : List ℕ → List ℕ → ℕ → ℕ → List ℕ
 stampsFrom counts stamps n zero = []
-stampsFrom counts stamps n (suc m) = run (width * n) (getD counts n 0) (λ i. getD stamps i 0) ++ stampsFrom counts stamps (suc n) m
+stampsFrom counts stamps n (suc m) = tabulate (width * n) (getD counts n 0) (λ i. getD stamps i 0) ++ stampsFrom counts stamps (suc n) m
 
 -- The node stands in a path with so many nodes above it.
 unfoldable pub standsAt : ℕ → List ℕ → ℕ → Bool

@@ -6,7 +6,7 @@ use Prim.Native.Nat.{ℕ, suc, _+_, _-_, _*_, _<_, _≤_}
 use lib.Dec.{ltb}
 use lib.ListN.{length, getD, take, drop}
 use lib.Seq.{slice}
-use Rattle.lists.specs.Runs.{run}
+use Rattle.lists.specs.Indexed.{tabulate}
 use Rattle.lists.specs.Lending.{LentList}
 use denote.Ref.{RefT}
 use Rattle.plan.specs.Sizes.{mostNodes}
@@ -38,7 +38,7 @@ below key (x ∷ xs) k = cond (ltb (key x) k) (suc (below key xs k)) 0
 
 -- The first of the places from one up to another whose key is not below k, or the end.
 abbrev pub placeIn : List ℕ → ℕ → ℕ → ℕ → ℕ
-placeIn keys from end k = from + below itself (run from (end - from) (numberIn keys)) k
+placeIn keys from end k = from + below itself (tabulate from (end - from) (numberIn keys)) k
 
 -- The keys of a list strictly rise, each below the next; the thing named stands for what is not there.
 abbrev pub Rises : {A : Type 0} → (A → ℕ) → A → List A → Type 0
@@ -97,7 +97,7 @@ lentState nodes counts keys kinds values stamps =
 -- What a look finds among the places from..end of lent columns,
 abbrev pub lentAmong : RefT (List ℕ) → RefT (List ℕ) → RefT (List ℕ) → RefT (List ℕ) → ℕ → ℕ → ℕ → Found
 lentAmong keys kinds values stamps from end k =
-    foundOf (find keyOf (run from (end - from) (copyIn (keys .now) (kinds .now) (values .now) (stamps .now))) k)
+    foundOf (find keyOf (tabulate from (end - from) (copyIn (keys .now) (kinds .now) (values .now) (stamps .now))) k)
 
 -- and in a node.
 abbrev pub lentFound : RefT (List ℕ) → RefT (List ℕ) → RefT (List ℕ) → RefT (List ℕ) → RefT (List ℕ) → ℕ → ℕ → Found

@@ -8,7 +8,7 @@ use native.Mathlib.Decide.{decLt}
 use lib.Dec.{lit≤, ltb, eqb}
 use lib.ListN.{length, getD, take, replicate, length-append, length-replicate}
 use Rattle.lists.proofs.Standing.{stands-itself, stands-front, stands-whole, no-elements}
-use Rattle.lists.proofs.Running.{getD-run-0, getD-run-past}
+use Rattle.lists.proofs.Tabulating.{getD-tabulate-0, getD-tabulate-past}
 use Rattle.lists.proofs.Storing.{getD-same}
 use Rattle.number.specs.Number.{Bytes, narrow}
 use Rattle.plan.specs.Plan.{Plan}
@@ -148,8 +148,8 @@ unfolding column
 column-small part ns most small i = go (decLt i places)
   where
     go : Dec (i < places) → getD (column part ns) i 0 ≤ most
-    go (yes h) = rw (getD-run-0 (λ j. part (placeOf ns j)) places i 0 h) (small (i / width) (i % width))
-    go (no h) = rw (getD-run-past (λ j. part (placeOf ns j)) 0 places i 0 (omega arith)) (omega arith)
+    go (yes h) = rw (getD-tabulate-0 (λ j. part (placeOf ns j)) places i 0 h) (small (i / width) (i % width))
+    go (no h) = rw (getD-tabulate-past (λ j. part (placeOf ns j)) 0 places i 0 (omega arith)) (omega arith)
 
 pub stored-declared : (plan : ℕ) (t : State) → ((n i : ℕ) → Small (copyAt t n i)) → Declared (storeOf plan t)
 unfolding storeOf

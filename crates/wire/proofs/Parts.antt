@@ -5,9 +5,9 @@ use Prim.Native.Nat.{ℕ, suc, _+_, _-_, _<_, _≤_}
 use native.Mathlib.Omega.{arith}
 use native.Mathlib.Numerals.{add-one}
 use lib.ListN.{length, length-append}
-use Rattle.lists.specs.Runs.{run}
+use Rattle.lists.specs.Indexed.{tabulate}
 use Rattle.lists.specs.Stands.{Wrote}
-use Rattle.lists.proofs.Running.{run-on, run-off}
+use Rattle.lists.proofs.Tabulating.{tabulate-on, tabulate-off}
 use Rattle.lists.proofs.Standing.{wrote-nil, wrote-join, wrote-length}
 
 -- Parts of any type, the bytes of each, and the bytes of a list of them; the parts are those of a run, f i for i from one number up to another.
@@ -15,13 +15,13 @@ module _ {A : Type 0} (bytes : A → List ℕ) (all : List A → List ℕ) (none
     (f : ℕ → A) (end : ℕ) where
   -- The bytes of the parts from i on.
   abbrev pub partsFrom : ℕ → List ℕ
-  partsFrom i = all (run i (end - i) f)
+  partsFrom i = all (tabulate i (end - i) f)
 
   pub parts-on : (i : ℕ) → i < end → partsFrom i ≡ bytes (f i) ++ partsFrom (i + 1)
-  parts-on i h = ap all (run-on f i end h) ∙ more (f i) (run (suc i) (end - suc i) f) ∙ rw add-one refl
+  parts-on i h = ap all (tabulate-on f i end h) ∙ more (f i) (tabulate (suc i) (end - suc i) f) ∙ rw add-one refl
 
   pub parts-off : (i : ℕ) → end ≤ i → partsFrom i ≡ []
-  parts-off i h = ap all (run-off f i end h) ∙ none
+  parts-off i h = ap all (tabulate-off f i end h) ∙ none
 
   -- ---- a loop that counts: the bytes counted so far and those of the parts from i on are all
 

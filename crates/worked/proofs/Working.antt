@@ -1,7 +1,7 @@
 -- Document 01's P1 to P10, by computing. Assumes nothing.
 use mathlib.Core.Path.{refl}
 use mathlib.Core.Bool.{Bool, true}
-use Rattle.lists.specs.Runs.{run, allFrom}
+use Rattle.lists.specs.Indexed.{tabulate, allFrom}
 use Rattle.number.specs.Number.{formIn, form, readLast, putBelow, readIn, readAt}
 use Rattle.plan.specs.Plan.{holds, firstEdge, next, walk, pathFrom}
 use Rattle.plan_table.specs.PlanTable.{planTable, plans, planNumbered}
@@ -43,7 +43,7 @@ use Rattle.worked.specs.Worked.{answersOf, storeAfterSteps, storeAfterIn
 
 -- Whoever unfolds this unfolds all definitions that the table is about.
 opened : Bool
-unfolding run allFrom formIn form readLast putBelow readIn readAt holds firstEdge next walk pathFrom planTable plans planNumbered find member different fresh firstOn inReach nodeIn planOf stateOf column storeOf freshStore shapeTest planNumberTest clockTest hasValue kindTest copyTest placeTest allZero unusedTest nodeTest stampsFrom standsAt slotTest goodStore onStore ofStore put room entered entry carries merge countHeld mergeAlong carriedTo carriedOut carryStep lowestIdle startStep withRunning stepStep cancelStep visitsOn lookAnswer bind numbered numberAt writtenAnswer writtenBuffer valueBytes copyBytes copiesBytes nodeBytes nodesBytes imageOf imageAt finished loadOutcome saveBuffer pageLinesFrom pageLineBytes pageLinesBytes pageBytes pageAnswer pageBuffer knownStep hasTwo secondAt stepAt stepsAt scheduleAt stepOf printedSteps printedSchedule answersOf storeAfterSteps storeAfterInput
+unfolding tabulate allFrom formIn form readLast putBelow readIn readAt holds firstEdge next walk pathFrom planTable plans planNumbered find member different fresh firstOn inReach nodeIn planOf stateOf column storeOf freshStore shapeTest planNumberTest clockTest hasValue kindTest copyTest placeTest allZero unusedTest nodeTest stampsFrom standsAt slotTest goodStore onStore ofStore put room entered entry carries merge countHeld mergeAlong carriedTo carriedOut carryStep lowestIdle startStep withRunning stepStep cancelStep visitsOn lookAnswer bind numbered numberAt writtenAnswer writtenBuffer valueBytes copyBytes copiesBytes nodeBytes nodesBytes imageOf imageAt finished loadOutcome saveBuffer pageLinesFrom pageLineBytes pageLinesBytes pageBytes pageAnswer pageBuffer knownStep hasTwo secondAt stepAt stepsAt scheduleAt stepOf printedSteps printedSchedule answersOf storeAfterSteps storeAfterInput
 opened = true
 
 pub worked : Worked

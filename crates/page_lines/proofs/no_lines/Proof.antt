@@ -1,12 +1,12 @@
 -- `page_lines::no_lines` meets its contract. Assumes nothing.
 use mathlib.Core.Path.{refl}
-use Rattle.lists.specs.Runs.{run}
+use Rattle.lists.specs.Indexed.{tabulate}
 use Rattle.page_lines.specs.Workers.{pageLinesIn}
 use Rattle.page_lines.proofs.no_lines.Statement.{statement}
 use Rattle.page_lines.proofs.no_lines.Tie as tie
 
 returns : tie.Need-returns
-unfolding pageLinesIn run
+unfolding pageLinesIn tabulate
 returns c = refl
 
 pub no-lines-spec : {M : Type 1} → statement M

@@ -3,8 +3,8 @@ use mathlib.Core.Path.{_≡_}
 use Prim.Native.Nat.{_+_, _-_, _≤_}
 use native.Mathlib.Omega.{arith}
 use lib.ListN.{length}
-use Rattle.lists.specs.Runs.{run}
-use Rattle.lists.proofs.Running.{length-run}
+use Rattle.lists.specs.Indexed.{tabulate}
+use Rattle.lists.proofs.Tabulating.{length-tabulate}
 use Rattle.store.specs.Layout.{copyIn}
 use Rattle.image_writing.specs.Image.{copiesBytes}
 use Rattle.image_writing.proofs.ImageLengths.{copies-short, copies-count, copies-counted-all}
@@ -15,7 +15,7 @@ use Rattle.image_writing.proofs.lengths.copies_length.Tie as tie
 abbrev Inv-loop : tie.InvT-loop
 Inv-loop keys kinds values stamps from end sum₀ i₀ sum i =
     (from ≤ i) × (i ≤ end)
-    × (sum + length (copiesBytes (run i (end - i) (copyIn keys kinds values stamps))) ≡ length (copiesBytes (run from (end - from) (copyIn keys kinds values stamps))))
+    × (sum + length (copiesBytes (tabulate i (end - i) (copyIn keys kinds values stamps))) ≡ length (copiesBytes (tabulate from (end - from) (copyIn keys kinds values stamps))))
 
 abbrev μ-loop : tie.MeasureT-loop
 μ-loop keys kinds values stamps from end sum₀ i₀ sum i = end - i
@@ -57,7 +57,7 @@ add-sum c =
     let a = start .args in
     let f = copyIn (a .keys .now) (a .kinds .now) (a .values .now) (a .stamps .now) in
     let t = copies-count f (a .end) (l .loop .sum) (l .loop .i) (l .loop .inv .2) (c .before .before .before .before .before .loop-test .taken) (c .copy-length .ensures) in
-    omega (arith, copies-short (run (a .from) (a .end - a .from) f), length-run f (a .from) (a .end - a .from))
+    omega (arith, copies-short (tabulate (a .from) (a .end - a .from) f), length-tabulate f (a .from) (a .end - a .from))
 
 add-i : tie.Need-add-i Inv-loop μ-loop
 add-i c = search needs

@@ -4,7 +4,7 @@ use Prim.Native.Nat.{_+_, _-_, _≤_}
 use native.Mathlib.Omega.{arith}
 use native.Mathlib.Nat.{zero-add, sub-zero}
 use lib.ListN.{length}
-use Rattle.lists.specs.Runs.{run}
+use Rattle.lists.specs.Indexed.{tabulate}
 use Rattle.store.specs.Layout.{nodeIn}
 use Rattle.image_writing.specs.Image.{nodesBytes}
 use Rattle.image_writing.proofs.ImageLengths.{nodes-in-short, nodes-count, nodes-counted-all}
@@ -15,7 +15,7 @@ use Rattle.image_writing.proofs.lengths.nodes_length.Tie as tie
 abbrev Inv-loop : tie.InvT-loop
 Inv-loop nodes counts keys kinds values stamps sum₀ n₀ sum n =
     (n ≤ nodes)
-    × (sum + length (nodesBytes (run n (nodes - n) (nodeIn counts keys kinds values stamps))) ≡ length (nodesBytes (run 0 nodes (nodeIn counts keys kinds values stamps))))
+    × (sum + length (nodesBytes (tabulate n (nodes - n) (nodeIn counts keys kinds values stamps))) ≡ length (nodesBytes (tabulate 0 nodes (nodeIn counts keys kinds values stamps))))
 
 abbrev μ-loop : tie.MeasureT-loop
 μ-loop nodes counts keys kinds values stamps sum₀ n₀ sum n = nodes - n

@@ -1,6 +1,6 @@
 -- `image_writing::writing::write_copies` meets its contract. Assumes nothing.
 use Prim.Native.Nat.{_-_, _≤_}
-use Rattle.lists.specs.Runs.{run}
+use Rattle.lists.specs.Indexed.{tabulate}
 use Rattle.store.specs.Layout.{copyIn}
 use Rattle.wire.proofs.Parts.{write-room, write-on, write-off}
 use Rattle.image_writing.specs.Image.{copiesBytes}
@@ -12,7 +12,7 @@ use Rattle.image_writing.proofs.writing.write_copies.Tie as tie
 abbrev Inv-loop : tie.InvT-loop
 Inv-loop buffer₀ at keys kinds values stamps from end next₀ i₀ buffer next i =
     (from ≤ i) × (i ≤ end)
-    × WritesCopies (copyIn keys kinds values stamps) end buffer₀ at (copiesBytes (run from (end - from) (copyIn keys kinds values stamps))) i next buffer
+    × WritesCopies (copyIn keys kinds values stamps) end buffer₀ at (copiesBytes (tabulate from (end - from) (copyIn keys kinds values stamps))) i next buffer
 
 abbrev μ-loop : tie.MeasureT-loop
 μ-loop buffer₀ at keys kinds values stamps from end next₀ i₀ buffer next i = end - i

@@ -1,6 +1,6 @@
 -- `image_writing::writing::write_nodes` meets its contract. Assumes nothing.
 use Prim.Native.Nat.{_-_, _≤_}
-use Rattle.lists.specs.Runs.{run}
+use Rattle.lists.specs.Indexed.{tabulate}
 use Rattle.store.specs.Layout.{nodeIn}
 use Rattle.wire.proofs.Parts.{write-room, write-on, write-off}
 use Rattle.image_writing.specs.Image.{nodesBytes}
@@ -12,7 +12,7 @@ use Rattle.image_writing.proofs.writing.write_nodes.Tie as tie
 abbrev Inv-loop : tie.InvT-loop
 Inv-loop buffer₀ at nodes counts keys kinds values stamps next₀ n₀ buffer next n =
     (n ≤ nodes)
-    × WritesNodes (nodeIn counts keys kinds values stamps) nodes buffer₀ at (nodesBytes (run 0 nodes (nodeIn counts keys kinds values stamps))) n next buffer
+    × WritesNodes (nodeIn counts keys kinds values stamps) nodes buffer₀ at (nodesBytes (tabulate 0 nodes (nodeIn counts keys kinds values stamps))) n next buffer
 
 abbrev μ-loop : tie.MeasureT-loop
 μ-loop buffer₀ at nodes counts keys kinds values stamps next₀ n₀ buffer next n = nodes - n

@@ -5,7 +5,7 @@ use mathlib.Core.Logic.{⊎-elim}
 use Prim.Native.Nat.{ℕ, _-_, _≤_}
 use native.Mathlib.Omega.{arith}
 use borrow.Author.Tests.{leb-true, leb-false}
-use Rattle.lists.specs.Runs.{run}
+use Rattle.lists.specs.Indexed.{tabulate}
 use Rattle.plan.specs.declared.Edge.{Edge}
 use Rattle.plan.specs.Sizes.{mostEdges}
 use Rattle.plan.specs.Plan.{firstEdge}
@@ -21,7 +21,7 @@ Inv-loop counts lows highs targets node key n count e₀ e =
     (e ≤ count)
     × (count ≤ mostEdges)
     × (count ≡ edgeCountIn counts node)
-    × (firstEdge (edgesIn counts lows highs targets node) key ≡ firstEdge (run e (count - e) (edgeIn lows highs targets node)) key)
+    × (firstEdge (edgesIn counts lows highs targets node) key ≡ firstEdge (tabulate e (count - e) (edgeIn lows highs targets node)) key)
 
 abbrev μ-loop : tie.MeasureT-loop
 μ-loop counts lows highs targets node key n count e₀ e = count - e

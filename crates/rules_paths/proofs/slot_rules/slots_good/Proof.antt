@@ -8,8 +8,8 @@ use native.Mathlib.Omega.{arith}
 use lib.ListN.{getD}
 use borrow.Author.Needs.{needs}
 use borrow.Author.Tests.{not-true, not-false}
-use Rattle.lists.specs.Runs.{allFrom, allBelow}
-use Rattle.lists.proofs.Running.{all-stop, all-turn, all-end}
+use Rattle.lists.specs.Indexed.{allFrom, allBelow}
+use Rattle.lists.proofs.Tabulating.{all-stop, all-turn, all-end}
 use Rattle.plan.specs.Plan.{Plan}
 use Rattle.plan.specs.PlanArrays.{RowsOf}
 use Rattle.store.specs.declared.Slot.{Slot}

@@ -9,50 +9,50 @@ use native.Mathlib.Decide.{decLt}
 use native.Mathlib.Numerals.{add-one}
 use lib.ListN.{length, getD, List·getD-eq-default}
 use lib.Seq.{ext-getD}
-use Rattle.lists.specs.Runs.{run, allFrom, allBelow}
+use Rattle.lists.specs.Indexed.{tabulate, allFrom, allBelow}
 use Rattle.lists.proofs.Truths.{and-left, and-right, and-both}
 
 module _ {A : Type 0} (f : ℕ → A) where
-  pub length-run : (i n : ℕ) → length (run i n f) ≡ n
-  unfolding run
-  length-run i zero = refl
-  length-run i (suc n) = ap suc (length-run (suc i) n)
+  pub length-tabulate : (i n : ℕ) → length (tabulate i n f) ≡ n
+  unfolding tabulate
+  length-tabulate i zero = refl
+  length-tabulate i (suc n) = ap suc (length-tabulate (suc i) n)
 
-  pub getD-run : (i n j : ℕ) (d : A) → j < n → getD (run i n f) j d ≡ f (i + j)
-  unfolding run
-  getD-run i zero j d h = absurd (omega arith)
-  getD-run i (suc n) zero d h = ap f (sym (add-zero i))
-  getD-run i (suc n) (suc j) d h = getD-run (suc i) n j d (omega arith) ∙ ap f (suc-add i j ∙ sym (add-suc i j))
+  pub getD-tabulate : (i n j : ℕ) (d : A) → j < n → getD (tabulate i n f) j d ≡ f (i + j)
+  unfolding tabulate
+  getD-tabulate i zero j d h = absurd (omega arith)
+  getD-tabulate i (suc n) zero d h = ap f (sym (add-zero i))
+  getD-tabulate i (suc n) (suc j) d h = getD-tabulate (suc i) n j d (omega arith) ∙ ap f (suc-add i j ∙ sym (add-suc i j))
 
   -- From 0 on the index is the number.
-  pub getD-run-0 : (n j : ℕ) (d : A) → j < n → getD (run 0 n f) j d ≡ f j
-  getD-run-0 n j d h = getD-run 0 n j d h ∙ ap f (zero-add j)
+  pub getD-tabulate-0 : (n j : ℕ) (d : A) → j < n → getD (tabulate 0 n f) j d ≡ f j
+  getD-tabulate-0 n j d h = getD-tabulate 0 n j d h ∙ ap f (zero-add j)
 
   -- A list whose elements are f's is the run of f.
-  pub as-run : (l : List A) (i n : ℕ) (d : A) → length l ≡ n → ((j : ℕ) → j < n → getD l j d ≡ f (i + j)) → l ≡ run i n f
-  as-run l i n d h k =
-      ext-getD d l (run i n f) (h ∙ sym (length-run i n)) (λ j g. let m : j < n = omega arith in k j m ∙ sym (getD-run i n j d m))
+  pub as-tabulate : (l : List A) (i n : ℕ) (d : A) → length l ≡ n → ((j : ℕ) → j < n → getD l j d ≡ f (i + j)) → l ≡ tabulate i n f
+  as-tabulate l i n d h k =
+      ext-getD d l (tabulate i n f) (h ∙ sym (length-tabulate i n)) (λ j g. let m : j < n = omega arith in k j m ∙ sym (getD-tabulate i n j d m))
 
 -- Two runs with the same elements are one.
-pub same-run : {A : Type 0} (f g : ℕ → A) (i n : ℕ) → ((j : ℕ) → i ≤ j → j < i + n → f j ≡ g j) → run i n f ≡ run i n g
-unfolding run
-same-run f g i zero h = refl
-same-run {A} f g i (suc n) h =
-    ap (λ (x : A). x ∷ run (suc i) n f) (h i (omega arith) (omega arith))
-    ∙ ap (λ (l : List A). g i ∷ l) (same-run f g (suc i) n (λ j p q. h j (omega arith) (omega arith)))
+pub same-tabulate : {A : Type 0} (f g : ℕ → A) (i n : ℕ) → ((j : ℕ) → i ≤ j → j < i + n → f j ≡ g j) → tabulate i n f ≡ tabulate i n g
+unfolding tabulate
+same-tabulate f g i zero h = refl
+same-tabulate {A} f g i (suc n) h =
+    ap (λ (x : A). x ∷ tabulate (suc i) n f) (h i (omega arith) (omega arith))
+    ∙ ap (λ (l : List A). g i ∷ l) (same-tabulate f g (suc i) n (λ j p q. h j (omega arith) (omega arith)))
 
-pub map-run : {A B : Type 0} (g : A → B) (f : ℕ → A) (i n : ℕ) → map g (run i n f) ≡ run i n (λ j. g (f j))
-unfolding run
-map-run g f i zero = refl
-map-run {B = B} g f i (suc n) = ap (λ (l : List B). g (f i) ∷ l) (map-run g f (suc i) n)
+pub map-tabulate : {A B : Type 0} (g : A → B) (f : ℕ → A) (i n : ℕ) → map g (tabulate i n f) ≡ tabulate i n (λ j. g (f j))
+unfolding tabulate
+map-tabulate g f i zero = refl
+map-tabulate {B = B} g f i (suc n) = ap (λ (l : List B). g (f i) ∷ l) (map-tabulate g f (suc i) n)
 
 -- A run can be cut in two.
-pub run-split : {A : Type 0} (f : ℕ → A) (i n m : ℕ) → run i (n + m) f ≡ run i n f ++ run (i + n) m f
-unfolding run
-run-split f i zero m = rw (zero-add, add-zero)
-run-split {A} f i (suc n) m =
+pub tabulate-split : {A : Type 0} (f : ℕ → A) (i n m : ℕ) → tabulate i (n + m) f ≡ tabulate i n f ++ tabulate (i + n) m f
+unfolding tabulate
+tabulate-split f i zero m = rw (zero-add, add-zero)
+tabulate-split {A} f i (suc n) m =
     let s : suc i + n ≡ i + suc n = omega arith in
-    rw (suc-add, ← s) (ap (λ (l : List A). f i ∷ l) (run-split f (suc i) n m))
+    rw (suc-add, ← s) (ap (λ (l : List A). f i ∷ l) (tabulate-split f (suc i) n m))
 
 -- A test at each of the n numbers from i on holds exactly when it holds at each of them.
 pub all-at : (f : ℕ → Bool) (i n : ℕ) → allFrom i n f ≡ true → (j : ℕ) → i ≤ j → j < i + n → f j ≡ true
@@ -89,12 +89,12 @@ unfolding allFrom
 all-end f i n h = let s : n - i ≡ 0 = omega arith in rw s
 
 -- A list whose elements are f's from 0 on is the run of f from 0.
-pub as-run-0 : {A : Type 0} (f : ℕ → A) (l : List A) (n : ℕ) (d : A) → length l ≡ n → ((j : ℕ) → j < n → getD l j d ≡ f j) → l ≡ run 0 n f
-as-run-0 f l n d h k = as-run f l 0 n d h (λ j g. k j g ∙ ap f (sym (zero-add j)))
+pub as-tabulate-0 : {A : Type 0} (f : ℕ → A) (l : List A) (n : ℕ) (d : A) → length l ≡ n → ((j : ℕ) → j < n → getD l j d ≡ f j) → l ≡ tabulate 0 n f
+as-tabulate-0 f l n d h k = as-tabulate f l 0 n d h (λ j g. k j g ∙ ap f (sym (zero-add j)))
 
 -- Past a run's end stands the default.
-pub getD-run-past : {A : Type 0} (f : ℕ → A) (i n j : ℕ) (d : A) → n ≤ j → getD (run i n f) j d ≡ d
-getD-run-past f i n j d h = List·getD-eq-default (run i n f) d (omega (arith, length-run f i n))
+pub getD-tabulate-past : {A : Type 0} (f : ℕ → A) (i n j : ℕ) (d : A) → n ≤ j → getD (tabulate i n f) j d ≡ d
+getD-tabulate-past f i n j d h = List·getD-eq-default (tabulate i n f) d (omega (arith, length-tabulate f i n))
 
 -- Two tests that are the same at each of the numbers are the same for all of them,
 pub same-all : (f g : ℕ → Bool) (i n : ℕ) → ((j : ℕ) → f j ≡ g j) → allFrom i n f ≡ allFrom i n g
@@ -116,10 +116,10 @@ all-and f g i (suc n) = rw (all-and f g (suc i) n) (go (f i) (g i) (allFrom (suc
 
 -- A run up to a number: its first element and the run after it, or nothing.
 module _ {A : Type 0} (f : ℕ → A) (i n : ℕ) where
-  pub run-on : i < n → run i (n - i) f ≡ f i ∷ run (suc i) (n - suc i) f
-  unfolding run
-  run-on h = let s : n - i ≡ suc (n - suc i) = omega arith in rw s
+  pub tabulate-on : i < n → tabulate i (n - i) f ≡ f i ∷ tabulate (suc i) (n - suc i) f
+  unfolding tabulate
+  tabulate-on h = let s : n - i ≡ suc (n - suc i) = omega arith in rw s
 
-  pub run-off : n ≤ i → run i (n - i) f ≡ []
-  unfolding run
-  run-off h = let s : n - i ≡ 0 = omega arith in rw s
+  pub tabulate-off : n ≤ i → tabulate i (n - i) f ≡ []
+  unfolding tabulate
+  tabulate-off h = let s : n - i ≡ 0 = omega arith in rw s

@@ -4,9 +4,9 @@ use mathlib.Core.List.{List, [], _∷_}
 use Prim.Native.Nat.{ℕ, zero, suc}
 
 -- The list f i, f (i + 1), .. of n elements.
-unfoldable pub run : {A : Type 0} → ℕ → ℕ → (ℕ → A) → List A
-run i zero f = []
-run i (suc n) f = f i ∷ run (suc i) n f
+unfoldable pub tabulate : {A : Type 0} → ℕ → ℕ → (ℕ → A) → List A
+tabulate i zero f = []
+tabulate i (suc n) f = f i ∷ tabulate (suc i) n f
 
 -- The test f holds at each of the n numbers i, i + 1, ..
 unfoldable pub allFrom : ℕ → ℕ → (ℕ → Bool) → Bool
