@@ -50,7 +50,14 @@ pub fn write_value(buffer: &mut [u8], at: usize, kind: u32, value: u32) -> usize
 }
 
 // Writes a copy: key, kind, value, stamp.
-pub fn write_copy(buffer: &mut [u8], at: usize, key: u32, kind: u32, value: u32, stamp: u32) -> usize
+pub fn write_copy(
+    buffer: &mut [u8],
+    at: usize,
+    key: u32,
+    kind: u32,
+    value: u32,
+    stamp: u32,
+) -> usize
     requires { ⌜ HasRoom buffer at (copyBytes (copy key kind value stamp)) ⌝ }
     ensures { λ r. ⌜ Puts buffer at (copyBytes (copy key kind value stamp)) r ⌝ }
 {

@@ -36,7 +36,15 @@ pub fn save_lent<'a>(
         return Answer::of(Answer::SMALL, needed as u64, 0, 0, 0);
     }
     let written = writing::write_image(
-        buffer, plan, clock, nodes, counts, keys, kinds, values, stamps,
+        buffer,
+        plan,
+        clock,
+        nodes,
+        counts,
+        keys,
+        kinds,
+        values,
+        stamps,
     );
     Answer::of(Answer::DONE, written as u64, 0, 0, 0)
 }

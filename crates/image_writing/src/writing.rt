@@ -1,5 +1,4 @@
 // Writing an image into a lent buffer where it fits, from lent columns.
-ghost use mathlib.Core.Path.{_≡_};
 ghost use Prim.Native.Nat.{_≤_, _<_};
 ghost use Rattle.plan.specs.Sizes.{mostNodes};
 ghost use Rattle.store.specs.Layout.{width, places};

@@ -53,8 +53,8 @@ returns c =
     let few = start .pre .0 .0 in
     let more = test .loop-test .taken in
     λ p size-is row-is.
-        sofar-stops (l .loop .inv .1 p size-is row-is) (omega arith)
-        (capacity-here p (omega arith) row-is (l .loop .n) (row .capacity-in .ensures)) (node .read-node .ensures) (not-true _ (c .if1 .taken))
+    sofar-stops (l .loop .inv .1 p size-is row-is) (omega arith)
+    (capacity-here p (omega arith) row-is (l .loop .n) (row .capacity-in .ensures)) (node .read-node .ensures) (not-true _ (c .if1 .taken))
 
 mul-counts : tie.Need-mul-counts Inv-loop μ-loop
 mul-counts c = search needs
