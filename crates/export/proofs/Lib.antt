@@ -1,4 +1,5 @@
 pub mod Values
 pub mod Columns
+pub mod Lending
 pub mod AtOnce
 pub mod Uniqueness
