@@ -46,7 +46,7 @@ use Rattle.looks.proofs.look_lent.Symbol.{name as #looks·look-lent}
 use Rattle.looks.proofs.look_lent.Met as call-thm
 use Rattle.export.proofs.Values.{store-val}
 use Rattle.export.proofs.Columns.{Names, StoreArgs, storeArgs, storeVals, lyingStore, lying-same, sized, Lent, owns-store}
-use Rattle.export.proofs.Lending.{alloc-store, lending, passes-store, free-store}
+use Rattle.export.proofs.Lending.{alloc-store, lending, passes-store, calling, free-store}
 use Rattle.export.proofs.olipranj_look.Key.{name as #export·olipranj-look}
 use Rattle.export.proofs.olipranj_look as f
 use Rattle.export.proofs.olipranj_look.Statement as stated
@@ -86,12 +86,12 @@ module _ {M : Type 1} (𝓤 : URA M) (H : Heap 𝓤) (A : Atoms 𝓤) (W : Given
     said : (r : Answer) → ent 𝓤 (ensured 𝓤 H A call.ended (call.clauses 𝓤 H A at-mem run) (κ, tt) passed tt r) (fact 𝓤 (Looks (lyingStore h) n r))
     said r = exE 𝓤 _ (λ ws. snd∗ 𝓤 (sem 𝓤 H A (lasts call.ended (κ, tt) passed ws)) (fact 𝓤 (Looks (lyingStore h) n r)))
 
-  exits : (r : Answer) (u : Val) → n < 2 ^ 32 → Looks h n r
-      → ent 𝓤 (⋆ 𝓤 H A (‵ (R.the-row .own r (u ∷ [])) ∷ ‵ (flft κ q) ∷ ‵ (fshr-bor κ (λ s. partAt S.the-row s h b o)) ∷ ‵ (fres γ (S.the-row .coded .code h)) ∷ [])) (Post u)
-  exits r u gn e =
-      qed W (‵ (R.the-row .own r (u ∷ [])) ∷ ‵ (flft κ q) ∷ ‵ (fshr-bor κ (λ s. partAt S.the-row s h b o)) ∷ ‵ (fres γ (S.the-row .coded .code h)) ∷ []) ∵
-      suffices ! _ (ends-at 𝓤 H A f.ended stayed (f.clauses 𝓤 H A at-mem run) W (((κ, tt), (q, tt), tt, x, at), tt) u r (tt, (tt, tt)) (tt, (tt, tt))) $ says ! e $
-      nothing ! $ move ! (2 ∷ 0 ∷ []) $ join ! $ frame ! $ move ! (2 ∷ 1 ∷ []) $ feqI ! (List Val) (vptr b o ∷ []) (vptr b o ∷ []) refl $ fjoin3 ! $ nothing ! $ owned ! u32 (Is u32) (uint-makes 𝓤 H A W w32) n _ (refl, gn) $ fjoin ! $ move ! (1 ∷ 0 ∷ []) $ fjoin ! $ frame ! $ done !
+  exits : (g : Names) (r : Answer) (u : Val) → n < 2 ^ 32 → ent 𝓤 (⋆ 𝓤 H A ((‵ (flft κ q) ⊛ ‵ ftrue) ∷ ‵ (R.the-row .own r (u ∷ [])) ∷ raw (ensured 𝓤 H A call.ended (call.clauses 𝓤 H A at-mem run) (κ, tt) (passed g) tt r) ∷ ‵ (fshr-bor κ (λ s. partAt S.the-row s h b o)) ∷ ‵ (fres γ (S.the-row .coded .code h)) ∷ [])) (Post u)
+  exits g r u gn =
+      qed W ((‵ (flft κ q) ⊛ ‵ ftrue) ∷ ‵ (R.the-row .own r (u ∷ [])) ∷ raw (ensured 𝓤 H A call.ended (call.clauses 𝓤 H A at-mem run) (κ, tt) (passed g) tt r) ∷ ‵ (fshr-bor κ (λ s. partAt S.the-row s h b o)) ∷ ‵ (fres γ (S.the-row .coded .code h)) ∷ []) ∵ move ! (2 ∷ []) $
+      use1 W (raw (fact 𝓤 (Looks (lyingStore h) n r))) (said g r) $ heard ! (Looks (lyingStore h) n r) (λ e.
+      suffices ! _ (ends-at 𝓤 H A f.ended stayed (f.clauses 𝓤 H A at-mem run) W (((κ, tt), (q, tt), tt, x, at), tt) u r (tt, (tt, tt)) (tt, (tt, tt))) $ says ! (subst (λ (z : Store). Looks z n r) (lying-same h) e) $
+      frame ! $ move ! (2 ∷ 1 ∷ []) $ feqI ! (List Val) (vptr b o ∷ []) (vptr b o ∷ []) refl $ fjoin3 ! $ nothing ! $ owned ! u32 (Is u32) (uint-makes 𝓤 H A W w32) n _ (refl, gn) $ fjoin ! $ move ! (1 ∷ 0 ∷ []) $ fjoin ! $ frame ! $ done !)
 
   module _ (C : Calls 𝓤 H) (Λ : Loops 𝓤 H) (fm : FmC 𝓤 H (W .laws) C) (known : Triple 𝓤 (C #looks·look-lent) (Call 𝓤 H A at-mem run)) where
     walk : n < 2 ^ 32 → ent 𝓤 (onEntry 𝓤 H A f.signature (κ, tt) (q, tt) x at) (WpFn 𝓤 H C Λ code.function (vptr b o ∷ vint w32 n ∷ []) Post)
@@ -101,18 +101,13 @@ module _ {M : Type 1} (𝓤 : URA M) (H : Heap 𝓤) (A : Atoms 𝓤) (W : Given
         enter ! C Λ code.function (vptr b o ∷ vint w32 n ∷ []) _ $
         alloc1 ! (λ l₀. alloc1 ! (λ l₁. alloc1 ! (λ l₂. alloc-store ! (λ ls. alloc0 ! $ params1 ! $
         pass1 ! (init ! 3 refl (tt, tt)) $ pass1 ! (init ! 1 refl (tt, record { fits = gn })) $ pass0 ! $
-        move ! (7 ∷ 8 ∷ 3 ∷ 0 ∷ []) $ lending ! h b o 3 refl refl (λ g was.
+        move ! (7 ∷ 8 ∷ 3 ∷ 0 ∷ 5 ∷ 6 ∷ 4 ∷ []) $ lending ! h b o 3 refl refl (λ g was.
         -- [the token; the columns' &; the fractured borrow; the pointer; the locals of the store; the number's cell; …; res; …]
         use2 W (raw (Call 𝓤 H A at-mem run .pre (to-call g))) (goes-call g was gn) $
-        calls-at ! fm (Call 𝓤 H A at-mem run) known (to-call g) (passes-store ! h b o 3 refl (and-then ! (load ! (from ! (stop !)) (look ! 4 refl)) (no-more !))) (λ u.
-        use1 W (later (some (λ (r : Answer). ((‵ (flft κ q) ⊛ ‵ ftrue) ⊛ ‵ (R.the-row .own r (u ∷ []))) ⊛ raw (ensured 𝓤 H A call.ended (call.clauses 𝓤 H A at-mem run) (κ, tt) (passed g) tt r)))) (id⊢ 𝓤 _) $ await ! tt $ pick ! (λ r.
-        split ! $ move ! (1 ∷ []) $ use1 W (raw (fact 𝓤 (Looks (lyingStore h) n r))) (said g r) $ heard ! (Looks (lyingStore h) n r) (λ e. split ! $ split ! $ move ! (2 ∷ 0 ∷ []) $
-        -- [the answer; the token; true; the fractured borrow; _10; …; _0; …; res]
-        peeks ! R.the-row (Is R.the-row) (shows 𝓤 H A R.the-row) r (u ∷ []) (λ ir.
-        land ! (from ! (stop !)) (init ! 9 refl (LL.lawful R.the-type R′.the-laws 𝓤 H A W .typed r _ ir .0)) $
-        returns ! (look ! 9 refl) $ forget ! 9 refl $ forget ! 4 refl $ forget ! 6 refl $
-        move ! (9 ∷ 10 ∷ []) $ free1 ! $ move ! (4 ∷ 8 ∷ []) $ free1 ! $ move ! (5 ∷ 6 ∷ []) $ free1 ! $ move ! (4 ∷ []) $ free-store ! h b o $ free0 ! $
-        keep ! (0 ∷ 1 ∷ 3 ∷ 4 ∷ []) $ by ! (exits r u gn (subst (λ (z : Store). Looks z n r) (lying-same h) e)))))))))))
+        calling ! fm (Call 𝓤 H A at-mem run) known (to-call g) R.the-row (λ r u is. LL.lawful R.the-type R′.the-laws 𝓤 H A W .typed r (u ∷ []) is .0) (‵ (flft κ q) ⊛ ‵ ftrue) (λ r. raw (ensured 𝓤 H A call.ended (call.clauses 𝓤 H A at-mem run) (κ, tt) (passed g) tt r)) (λ u. id⊢ 𝓤 _) (passes-store ! h b o 3 refl (and-then ! (load ! (from ! (stop !)) (look ! 7 refl)) (no-more !))) (λ u r.
+        -- [the tokens; the answer; what is said; the fractured borrow; the locals of the store; the number's cell; res; …]
+        forget ! 5 refl $ move ! (5 ∷ 6 ∷ []) $ free1 ! $ move ! (4 ∷ []) $ free-store ! h b o $ free0 ! $
+        keep ! (0 ∷ 1 ∷ 2 ∷ 3 ∷ 4 ∷ []) $ by ! (exits g r u gn)))))))
 
 module _ {M : Type 1} (𝓤 : URA M) (H : Heap 𝓤) (A : Atoms 𝓤) (W : Given 𝓤 H A) (at-mem : Memory → SProp 𝓤) (run : Routine → Fun 𝓤) where
   f-walks : (C : Calls 𝓤 H) (Λ : Loops 𝓤 H) → FmC 𝓤 H (W .laws) C → Triple 𝓤 (C #looks·look-lent) (Call 𝓤 H A at-mem run) → Walks 𝓤 H A f.ended stayed (WpFn 𝓤 H C Λ code.function) (f.clauses 𝓤 H A at-mem run)

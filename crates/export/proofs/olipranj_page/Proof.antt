@@ -49,7 +49,7 @@ use Rattle.page.proofs.page_lent.Symbol.{name as #page·page-lent}
 use Rattle.page.proofs.page_lent.Met as call-thm
 use Rattle.export.proofs.Values.{store-val}
 use Rattle.export.proofs.Columns.{Names, StoreArgs, storeArgs, storeVals, lyingStore, lying-same, sized, Lent, owns-store}
-use Rattle.export.proofs.Lending.{alloc-store, lending, passes-store, free-store}
+use Rattle.export.proofs.Lending.{alloc-store, lending, passes-store, calling, free-store}
 use Rattle.export.proofs.olipranj_page.Key.{name as #export·olipranj-page}
 use Rattle.export.proofs.olipranj_page as f
 use Rattle.export.proofs.olipranj_page.Statement as stated
@@ -95,12 +95,15 @@ module _ {M : Type 1} (𝓤 : URA M) (H : Heap 𝓤) (A : Atoms 𝓤) (W : Given
         qed W ((‵ (flft κ q) ⊛ ‵ (flft κ′ q′)) ∷ Lent 𝓤 H A κ b o h g ∷ ‵ Mine ∷ []) ∵ says ! (sized h is) $ split ! $ nothing ! $ move ! (2 ∷ 0 ∷ []) $ join ! $ move ! (1 ∷ 0 ∷ []) $ join ! $ frame ! $
         nothing ! $ move ! (2 ∷ 0 ∷ []) $ fjoin ! $ owned ! u32 (Is u32) (uint-makes 𝓤 H A W w32) n _ (refl, gn) $ fjoin ! $ move ! (1 ∷ 0 ∷ []) $ by ! (owns-store 𝓤 H A W κ b o h g is (fsep (u32 .own n (vint w32 n ∷ [])) (fsep Mine ftrue)))
 
-  exits : (r : Answer) (u : Val) (zs : List ℕ) → n < 2 ^ 32 → Pages h n ys r zs → length zs ≡ length ys
-      → ent 𝓤 (⋆ 𝓤 H A (‵ (R.the-row .own r (u ∷ [])) ∷ ‵ (flft κ q) ∷ (‵ (flft κ′ q′) ⊛ ‵ ftrue) ∷ ‵ (fres γ (S.the-row .coded .code h)) ∷ ‵ (fshr-bor κ (λ s. partAt S.the-row s h b o)) ∷ ‵ (finally u8 γ′ zs) ∷ [])) (Post u)
-  exits r u zs gn e l =
-      qed W (‵ (R.the-row .own r (u ∷ [])) ∷ ‵ (flft κ q) ∷ (‵ (flft κ′ q′) ⊛ ‵ ftrue) ∷ ‵ (fres γ (S.the-row .coded .code h)) ∷ ‵ (fshr-bor κ (λ s. partAt S.the-row s h b o)) ∷ ‵ (finally u8 γ′ zs) ∷ []) ∵
-      suffices ! _ (ends-at 𝓤 H A f.ended stayed (f.clauses 𝓤 H A at-mem run) W (((κ, (κ′, tt)), (q, (q′, tt)), tt, x, at), tt) u r (tt, (tt, (zs, tt))) (tt, (tt, (l, tt)))) $ says ! e $
-      move ! (1 ∷ 2 ∷ []) $ join ! $ frame ! $ move ! (1 ∷ 2 ∷ []) $ feqI ! (List Val) (vptr b o ∷ []) (vptr b o ∷ []) refl $ fjoin3 ! $ nothing ! $ move ! (3 ∷ 0 ∷ []) $ fjoin ! $ owned ! u32 (Is u32) (uint-makes 𝓤 H A W w32) n _ (refl, gn) $ fjoin ! $ move ! (1 ∷ 0 ∷ []) $ fjoin ! $ frame ! $ done !
+  exits : (g : Names) (r : Answer) (u : Val) → n < 2 ^ 32 → ent 𝓤 (⋆ 𝓤 H A ((‵ (flft κ q) ⊛ ‵ (flft κ′ q′) ⊛ ‵ ftrue) ∷ ‵ (R.the-row .own r (u ∷ [])) ∷ raw (ensured 𝓤 H A call.ended (call.clauses 𝓤 H A at-mem run) (κ, (κ′, tt)) (passed g) tt r) ∷ ‵ (fshr-bor κ (λ s. partAt S.the-row s h b o)) ∷ ‵ (fres γ (S.the-row .coded .code h)) ∷ [])) (Post u)
+  exits g r u gn =
+      qed W ((‵ (flft κ q) ⊛ ‵ (flft κ′ q′) ⊛ ‵ ftrue) ∷ ‵ (R.the-row .own r (u ∷ [])) ∷ raw (ensured 𝓤 H A call.ended (call.clauses 𝓤 H A at-mem run) (κ, (κ′, tt)) (passed g) tt r) ∷ ‵ (fshr-bor κ (λ s. partAt S.the-row s h b o)) ∷ ‵ (fres γ (S.the-row .coded .code h)) ∷ []) ∵ move ! (2 ∷ []) $
+      use1 W (some (λ (zs : Unit {0} × (Unit {0} × (Unit {0} × (Unit {0} × (Unit {0} × (Unit {0} × (Unit {0} × (Unit {0} × (Unit {0} × (List ℕ × Unit {0})))))))))). ‵ (lasts call.ended (κ, (κ′, tt)) (passed g) zs) ⊛ raw (fact 𝓤 (Pages (lyingStore h) n ys r (zs .1 .1 .1 .1 .1 .1 .1 .1 .1 .0))))) (id⊢ 𝓤 _) $ pick ! (λ zs.
+      split ! $ move ! (1 ∷ []) $ heard ! (Pages (lyingStore h) n ys r (zs .1 .1 .1 .1 .1 .1 .1 .1 .1 .0)) (λ e. fsplit ! $ drop ! $ fsplit ! $ drop ! $ fsplit ! $ drop ! $ fsplit ! $ drop ! $ fsplit ! $ drop ! $ fsplit ! $ drop ! $ fsplit ! $ drop ! $ fsplit ! $ drop ! $ fsplit ! $ drop ! $ fsplit ! $ fsplit ! $ move ! (1 ∷ []) $ feqL ! (λ l.
+      -- [the last bytes; …; the tokens; the answer; the fractured borrow; res]
+      keep ! (2 ∷ 3 ∷ 4 ∷ 5 ∷ 0 ∷ []) $
+      suffices ! _ (ends-at 𝓤 H A f.ended stayed (f.clauses 𝓤 H A at-mem run) W (((κ, (κ′, tt)), (q, (q′, tt)), tt, x, at), tt) u r (tt, (tt, ((zs .1 .1 .1 .1 .1 .1 .1 .1 .1 .0), tt))) (tt, (tt, (l, tt)))) $ says ! (subst (λ (y : Store). Pages y n ys r (zs .1 .1 .1 .1 .1 .1 .1 .1 .1 .0)) (lying-same h) e) $
+      frame ! $ move ! (2 ∷ 1 ∷ []) $ feqI ! (List Val) (vptr b o ∷ []) (vptr b o ∷ []) refl $ fjoin3 ! $ nothing ! $ move ! (3 ∷ 0 ∷ []) $ fjoin ! $ owned ! u32 (Is u32) (uint-makes 𝓤 H A W w32) n _ (refl, gn) $ fjoin ! $ move ! (1 ∷ 0 ∷ []) $ fjoin ! $ frame ! $ done !)))
 
   module _ (C : Calls 𝓤 H) (Λ : Loops 𝓤 H) (fm : FmC 𝓤 H (W .laws) C) (known : Triple 𝓤 (C #page·page-lent) (Call 𝓤 H A at-mem run)) where
     walk : n < 2 ^ 32 → Room u8 (length ys) → ent 𝓤 (onEntry 𝓤 H A f.signature (κ, (κ′, tt)) (q, (q′, tt)) x at) (WpFn 𝓤 H C Λ code.function (vptr b o ∷ vint w32 n ∷ v ∷ []) Post)
@@ -111,21 +114,15 @@ module _ {M : Type 1} (𝓤 : URA M) (H : Heap 𝓤) (A : Atoms 𝓤) (W : Given
         enter ! C Λ code.function (vptr b o ∷ vint w32 n ∷ v ∷ []) _ $
         alloc1 ! (λ l₀. alloc1 ! (λ l₁. alloc1 ! (λ l₂. alloc1 ! (λ l₃. alloc-store ! (λ ls. alloc1 ! (λ l₄. alloc1 ! (λ l₅. alloc0 ! $ params1 ! $
         pass1 ! (init ! 9 refl (tt, tt)) $ pass1 ! (init ! 7 refl (tt, record { fits = gn })) $ pass1 ! (init ! 5 refl (tt, (tt, (record { fits = gl .0 }, tt)))) $ pass0 ! $
-        move ! (13 ∷ 14 ∷ 9 ∷ 4 ∷ []) $ lending ! h b o 4 refl refl (λ g was.
+        move ! (13 ∷ 14 ∷ 9 ∷ 4 ∷ 11 ∷ 12 ∷ 10 ∷ []) $ lending ! h b o 4 refl refl (λ g was.
         -- [the store's token; the columns' &; the fractured borrow; the pointer; the locals of the store; _13; _12; the cells of buffer and sample; …; res; what buffer owns; the buffer's token; …]
-        assigns ! (addr ! (from ! (fld ! refl (hop ! (look-in ! 9 (sub ! 0 refl (whole !))) (stop !))))) (from ! (stop !)) (init ! 7 refl (tt, tt)) $
-        assigns ! (agg ! (and-then ! (load ! (from ! (stop !)) (look ! 7 refl)) (and-then ! (load ! (from ! (fld ! refl (stop !))) (look-in ! 9 (sub ! 1 refl (whole !)))) (no-more !)))) (from ! (stop !)) (init ! 5 refl (tt, (tt, (record { fits = gl .0 }, tt)))) $
+        assigns ! (addr ! (from ! (fld ! refl (hop ! (look-in ! 12 (sub ! 0 refl (whole !))) (stop !))))) (from ! (stop !)) (init ! 10 refl (tt, tt)) $
+        assigns ! (agg ! (and-then ! (load ! (from ! (stop !)) (look ! 10 refl)) (and-then ! (load ! (from ! (fld ! refl (stop !))) (look-in ! 12 (sub ! 1 refl (whole !)))) (no-more !)))) (from ! (stop !)) (init ! 8 refl (tt, (tt, (record { fits = gl .0 }, tt)))) $
         move ! (0 ∷ 18 ∷ 1 ∷ 17 ∷ []) $ join ! $ use3 W (raw (Call 𝓤 H A at-mem run .pre (to-call g))) (goes-call g was gn) $
-        calls-at ! fm (Call 𝓤 H A at-mem run) known (to-call g) (passes-store ! h b o 4 refl (and-then ! (load ! (from ! (stop !)) (look ! 10 refl)) (and-then ! (load ! (from ! (stop !)) (look ! 4 refl)) (no-more !)))) (λ u.
-        use1 W (later (some (λ (r : Answer). ((‵ (flft κ q) ⊛ ‵ (flft κ′ q′) ⊛ ‵ ftrue) ⊛ ‵ (R.the-row .own r (u ∷ []))) ⊛ raw (ensured 𝓤 H A call.ended (call.clauses 𝓤 H A at-mem run) (κ, (κ′, tt)) (passed g) tt r)))) (id⊢ 𝓤 _) $ await ! tt $ pick ! (λ r.
-        split ! $ move ! (1 ∷ []) $ use1 W (some (λ (zs : Unit {0} × (Unit {0} × (Unit {0} × (Unit {0} × (Unit {0} × (Unit {0} × (Unit {0} × (Unit {0} × (Unit {0} × (List ℕ × Unit {0})))))))))). ‵ (lasts call.ended (κ, (κ′, tt)) (passed g) zs) ⊛ raw (fact 𝓤 (Pages (lyingStore h) n ys r (zs .1 .1 .1 .1 .1 .1 .1 .1 .1 .0))))) (id⊢ 𝓤 _) $ pick ! (λ zs.
-        split ! $ move ! (1 ∷ []) $ heard ! (Pages (lyingStore h) n ys r (zs .1 .1 .1 .1 .1 .1 .1 .1 .1 .0)) (λ e. fsplit ! $ drop ! $ fsplit ! $ drop ! $ fsplit ! $ drop ! $ fsplit ! $ drop ! $ fsplit ! $ drop ! $ fsplit ! $ drop ! $ fsplit ! $ drop ! $ fsplit ! $ drop ! $ fsplit ! $ drop ! $ fsplit ! $ fsplit ! $ move ! (1 ∷ []) $ feqL ! (λ l.
-        move ! (2 ∷ []) $ split ! $ split ! $ move ! (2 ∷ []) $ peeks ! R.the-row (Is R.the-row) (shows 𝓤 H A R.the-row) r (u ∷ []) (λ ir.
-        -- [the answer; the store's token; the buffer's token; the last bytes; …; the fractured borrow; _13; …; _0; …; res; …]
-        land ! (from ! (stop !)) (init ! 17 refl (LL.lawful R.the-type R′.the-laws 𝓤 H A W .typed r _ ir .0)) $
-        returns ! (look ! 17 refl) $ forget ! 17 refl $ forget ! 6 refl $ forget ! 14 refl $ forget ! 12 refl $ forget ! 10 refl $ forget ! 8 refl $
-        move ! (17 ∷ 18 ∷ []) $ free1 ! $ move ! (6 ∷ 16 ∷ []) $ free1 ! $ move ! (13 ∷ 14 ∷ []) $ free1 ! $ move ! (11 ∷ 12 ∷ []) $ free1 ! $ move ! (6 ∷ []) $ free-store ! h b o $ move ! (8 ∷ 9 ∷ []) $ free1 ! $ move ! (6 ∷ 7 ∷ []) $ free1 ! $ free0 ! $
-        keep ! (0 ∷ 1 ∷ 2 ∷ 6 ∷ 5 ∷ 3 ∷ []) $ by ! (exits r u (zs .1 .1 .1 .1 .1 .1 .1 .1 .1 .0) gn (subst (λ (z : Store). Pages z n ys r (zs .1 .1 .1 .1 .1 .1 .1 .1 .1 .0)) (lying-same h) e) l)))))))))))))))
+        calling ! fm (Call 𝓤 H A at-mem run) known (to-call g) R.the-row (λ r u is. LL.lawful R.the-type R′.the-laws 𝓤 H A W .typed r (u ∷ []) is .0) (‵ (flft κ q) ⊛ ‵ (flft κ′ q′) ⊛ ‵ ftrue) (λ r. raw (ensured 𝓤 H A call.ended (call.clauses 𝓤 H A at-mem run) (κ, (κ′, tt)) (passed g) tt r)) (λ u. id⊢ 𝓤 _) (passes-store ! h b o 4 refl (and-then ! (load ! (from ! (stop !)) (look ! 13 refl)) (and-then ! (load ! (from ! (stop !)) (look ! 7 refl)) (no-more !)))) (λ u r.
+        -- [the tokens; the answer; what is said; the fractured borrow; the locals of the store; _13; _12; the cells of buffer and sample; res; …]
+        forget ! 11 refl $ forget ! 9 refl $ forget ! 7 refl $ forget ! 5 refl $ move ! (11 ∷ 12 ∷ []) $ free1 ! $ move ! (9 ∷ 10 ∷ []) $ free1 ! $ move ! (4 ∷ []) $ free-store ! h b o $ move ! (6 ∷ 7 ∷ []) $ free1 ! $ move ! (4 ∷ 5 ∷ []) $ free1 ! $ free0 ! $
+        keep ! (0 ∷ 1 ∷ 2 ∷ 3 ∷ 4 ∷ []) $ by ! (exits g r u gn))))))))))
 
 module _ {M : Type 1} (𝓤 : URA M) (H : Heap 𝓤) (A : Atoms 𝓤) (W : Given 𝓤 H A) (at-mem : Memory → SProp 𝓤) (run : Routine → Fun 𝓤) where
   f-walks : (C : Calls 𝓤 H) (Λ : Loops 𝓤 H) → FmC 𝓤 H (W .laws) C → Triple 𝓤 (C #page·page-lent) (Call 𝓤 H A at-mem run) → Walks 𝓤 H A f.ended stayed (WpFn 𝓤 H C Λ code.function) (f.clauses 𝓤 H A at-mem run)

@@ -48,7 +48,7 @@ use Rattle.image.proofs.save_lent.Symbol.{name as #image·save-lent}
 use Rattle.image.proofs.save_lent.Met as call-thm
 use Rattle.export.proofs.Values.{store-val}
 use Rattle.export.proofs.Columns.{Names, StoreArgs, storeArgs, storeVals, lyingStore, lying-same, sized, Lent, owns-store}
-use Rattle.export.proofs.Lending.{alloc-store, lending, passes-store, free-store}
+use Rattle.export.proofs.Lending.{alloc-store, lending, passes-store, calling, free-store}
 use Rattle.export.proofs.olipranj_save.Key.{name as #export·olipranj-save}
 use Rattle.export.proofs.olipranj_save as f
 use Rattle.export.proofs.olipranj_save.Statement as stated
@@ -94,12 +94,15 @@ module _ {M : Type 1} (𝓤 : URA M) (H : Heap 𝓤) (A : Atoms 𝓤) (W : Given
         qed W ((‵ (flft κ q) ⊛ ‵ (flft κ′ q′)) ∷ Lent 𝓤 H A κ b o h g ∷ ‵ Mine ∷ []) ∵ says ! (sized h is) $ split ! $ nothing ! $ move ! (2 ∷ 0 ∷ []) $ join ! $ move ! (1 ∷ 0 ∷ []) $ join ! $ frame ! $
         nothing ! $ move ! (2 ∷ 0 ∷ []) $ fjoin ! $ move ! (1 ∷ 0 ∷ []) $ by ! (owns-store 𝓤 H A W κ b o h g is (fsep Mine ftrue))
 
-  exits : (r : Answer) (u : Val) (zs : List ℕ) → Saves h ys r zs → length zs ≡ length ys
-      → ent 𝓤 (⋆ 𝓤 H A (‵ (R.the-row .own r (u ∷ [])) ∷ ‵ (flft κ q) ∷ (‵ (flft κ′ q′) ⊛ ‵ ftrue) ∷ ‵ (fres γ (S.the-row .coded .code h)) ∷ ‵ (fshr-bor κ (λ s. partAt S.the-row s h b o)) ∷ ‵ (finally u8 γ′ zs) ∷ [])) (Post u)
-  exits r u zs e l =
-      qed W (‵ (R.the-row .own r (u ∷ [])) ∷ ‵ (flft κ q) ∷ (‵ (flft κ′ q′) ⊛ ‵ ftrue) ∷ ‵ (fres γ (S.the-row .coded .code h)) ∷ ‵ (fshr-bor κ (λ s. partAt S.the-row s h b o)) ∷ ‵ (finally u8 γ′ zs) ∷ []) ∵
-      suffices ! _ (ends-at 𝓤 H A f.ended stayed (f.clauses 𝓤 H A at-mem run) W (((κ, (κ′, tt)), (q, (q′, tt)), tt, x, at), tt) u r (tt, (zs, tt)) (tt, (l, tt))) $ says ! e $
-      move ! (1 ∷ 2 ∷ []) $ join ! $ frame ! $ move ! (1 ∷ 2 ∷ []) $ feqI ! (List Val) (vptr b o ∷ []) (vptr b o ∷ []) refl $ fjoin3 ! $ nothing ! $ move ! (3 ∷ 0 ∷ []) $ fjoin ! $ move ! (1 ∷ 0 ∷ []) $ fjoin ! $ frame ! $ done !
+  exits : (g : Names) (r : Answer) (u : Val) → ent 𝓤 (⋆ 𝓤 H A ((‵ (flft κ q) ⊛ ‵ (flft κ′ q′) ⊛ ‵ ftrue) ∷ ‵ (R.the-row .own r (u ∷ [])) ∷ raw (ensured 𝓤 H A call.ended (call.clauses 𝓤 H A at-mem run) (κ, (κ′, tt)) (passed g) tt r) ∷ ‵ (fshr-bor κ (λ s. partAt S.the-row s h b o)) ∷ ‵ (fres γ (S.the-row .coded .code h)) ∷ [])) (Post u)
+  exits g r u =
+      qed W ((‵ (flft κ q) ⊛ ‵ (flft κ′ q′) ⊛ ‵ ftrue) ∷ ‵ (R.the-row .own r (u ∷ [])) ∷ raw (ensured 𝓤 H A call.ended (call.clauses 𝓤 H A at-mem run) (κ, (κ′, tt)) (passed g) tt r) ∷ ‵ (fshr-bor κ (λ s. partAt S.the-row s h b o)) ∷ ‵ (fres γ (S.the-row .coded .code h)) ∷ []) ∵ move ! (2 ∷ []) $
+      use1 W (some (λ (zs : Unit {0} × (Unit {0} × (Unit {0} × (Unit {0} × (Unit {0} × (Unit {0} × (Unit {0} × (Unit {0} × (List ℕ × Unit {0}))))))))). ‵ (lasts call.ended (κ, (κ′, tt)) (passed g) zs) ⊛ raw (fact 𝓤 (Saves (lyingStore h) ys r (zs .1 .1 .1 .1 .1 .1 .1 .1 .0))))) (id⊢ 𝓤 _) $ pick ! (λ zs.
+      split ! $ move ! (1 ∷ []) $ heard ! (Saves (lyingStore h) ys r (zs .1 .1 .1 .1 .1 .1 .1 .1 .0)) (λ e. fsplit ! $ drop ! $ fsplit ! $ drop ! $ fsplit ! $ drop ! $ fsplit ! $ drop ! $ fsplit ! $ drop ! $ fsplit ! $ drop ! $ fsplit ! $ drop ! $ fsplit ! $ drop ! $ fsplit ! $ fsplit ! $ move ! (1 ∷ []) $ feqL ! (λ l.
+      -- [the last bytes; …; the tokens; the answer; the fractured borrow; res]
+      keep ! (2 ∷ 3 ∷ 4 ∷ 5 ∷ 0 ∷ []) $
+      suffices ! _ (ends-at 𝓤 H A f.ended stayed (f.clauses 𝓤 H A at-mem run) W (((κ, (κ′, tt)), (q, (q′, tt)), tt, x, at), tt) u r (tt, ((zs .1 .1 .1 .1 .1 .1 .1 .1 .0), tt)) (tt, (l, tt))) $ says ! (subst (λ (y : Store). Saves y ys r (zs .1 .1 .1 .1 .1 .1 .1 .1 .0)) (lying-same h) e) $
+      frame ! $ move ! (2 ∷ 1 ∷ []) $ feqI ! (List Val) (vptr b o ∷ []) (vptr b o ∷ []) refl $ fjoin3 ! $ nothing ! $ move ! (3 ∷ 0 ∷ []) $ fjoin ! $ move ! (1 ∷ 0 ∷ []) $ fjoin ! $ frame ! $ done !)))
 
   module _ (C : Calls 𝓤 H) (Λ : Loops 𝓤 H) (fm : FmC 𝓤 H (W .laws) C) (known : Triple 𝓤 (C #image·save-lent) (Call 𝓤 H A at-mem run)) where
     walk : Room u8 (length ys) → ent 𝓤 (onEntry 𝓤 H A f.signature (κ, (κ′, tt)) (q, (q′, tt)) x at) (WpFn 𝓤 H C Λ code.function (vptr b o ∷ v ∷ []) Post)
@@ -110,21 +113,15 @@ module _ {M : Type 1} (𝓤 : URA M) (H : Heap 𝓤) (A : Atoms 𝓤) (W : Given
         enter ! C Λ code.function (vptr b o ∷ v ∷ []) _ $
         alloc1 ! (λ l₀. alloc1 ! (λ l₁. alloc1 ! (λ l₂. alloc-store ! (λ ls. alloc1 ! (λ l₃. alloc1 ! (λ l₄. alloc0 ! $ params1 ! $
         pass1 ! (init ! 7 refl (tt, tt)) $ pass1 ! (init ! 5 refl (tt, (tt, (record { fits = gl .0 }, tt)))) $ pass0 ! $
-        move ! (11 ∷ 12 ∷ 7 ∷ 4 ∷ []) $ lending ! h b o 3 refl refl (λ g was.
+        move ! (11 ∷ 12 ∷ 7 ∷ 4 ∷ 9 ∷ 10 ∷ 8 ∷ []) $ lending ! h b o 3 refl refl (λ g was.
         -- [the store's token; the columns' &; the fractured borrow; the pointer; the locals of the store; _12; _11; the buffer's cell; …; res; what buffer owns; the buffer's token; …]
-        assigns ! (addr ! (from ! (fld ! refl (hop ! (look-in ! 9 (sub ! 0 refl (whole !))) (stop !))))) (from ! (stop !)) (init ! 7 refl (tt, tt)) $
-        assigns ! (agg ! (and-then ! (load ! (from ! (stop !)) (look ! 7 refl)) (and-then ! (load ! (from ! (fld ! refl (stop !))) (look-in ! 9 (sub ! 1 refl (whole !)))) (no-more !)))) (from ! (stop !)) (init ! 5 refl (tt, (tt, (record { fits = gl .0 }, tt)))) $
+        assigns ! (addr ! (from ! (fld ! refl (hop ! (look-in ! 12 (sub ! 0 refl (whole !))) (stop !))))) (from ! (stop !)) (init ! 10 refl (tt, tt)) $
+        assigns ! (agg ! (and-then ! (load ! (from ! (stop !)) (look ! 10 refl)) (and-then ! (load ! (from ! (fld ! refl (stop !))) (look-in ! 12 (sub ! 1 refl (whole !)))) (no-more !)))) (from ! (stop !)) (init ! 8 refl (tt, (tt, (record { fits = gl .0 }, tt)))) $
         move ! (0 ∷ 16 ∷ 1 ∷ 15 ∷ []) $ join ! $ use3 W (raw (Call 𝓤 H A at-mem run .pre (to-call g))) (goes-call g was) $
-        calls-at ! fm (Call 𝓤 H A at-mem run) known (to-call g) (passes-store ! h b o 3 refl (and-then ! (load ! (from ! (stop !)) (look ! 4 refl)) (no-more !))) (λ u.
-        use1 W (later (some (λ (r : Answer). ((‵ (flft κ q) ⊛ ‵ (flft κ′ q′) ⊛ ‵ ftrue) ⊛ ‵ (R.the-row .own r (u ∷ []))) ⊛ raw (ensured 𝓤 H A call.ended (call.clauses 𝓤 H A at-mem run) (κ, (κ′, tt)) (passed g) tt r)))) (id⊢ 𝓤 _) $ await ! tt $ pick ! (λ r.
-        split ! $ move ! (1 ∷ []) $ use1 W (some (λ (zs : Unit {0} × (Unit {0} × (Unit {0} × (Unit {0} × (Unit {0} × (Unit {0} × (Unit {0} × (Unit {0} × (List ℕ × Unit {0}))))))))). ‵ (lasts call.ended (κ, (κ′, tt)) (passed g) zs) ⊛ raw (fact 𝓤 (Saves (lyingStore h) ys r (zs .1 .1 .1 .1 .1 .1 .1 .1 .0))))) (id⊢ 𝓤 _) $ pick ! (λ zs.
-        split ! $ move ! (1 ∷ []) $ heard ! (Saves (lyingStore h) ys r (zs .1 .1 .1 .1 .1 .1 .1 .1 .0)) (λ e. fsplit ! $ drop ! $ fsplit ! $ drop ! $ fsplit ! $ drop ! $ fsplit ! $ drop ! $ fsplit ! $ drop ! $ fsplit ! $ drop ! $ fsplit ! $ drop ! $ fsplit ! $ drop ! $ fsplit ! $ fsplit ! $ move ! (1 ∷ []) $ feqL ! (λ l.
-        move ! (2 ∷ []) $ split ! $ split ! $ move ! (2 ∷ []) $ peeks ! R.the-row (Is R.the-row) (shows 𝓤 H A R.the-row) r (u ∷ []) (λ ir.
-        -- [the answer; the store's token; the buffer's token; the last bytes; …; the fractured borrow; _12; …; _0; …; res; …]
-        land ! (from ! (stop !)) (init ! 15 refl (LL.lawful R.the-type R′.the-laws 𝓤 H A W .typed r _ ir .0)) $
-        returns ! (look ! 15 refl) $ forget ! 15 refl $ forget ! 6 refl $ forget ! 12 refl $ forget ! 10 refl $ forget ! 8 refl $
-        move ! (15 ∷ 16 ∷ []) $ free1 ! $ move ! (6 ∷ 14 ∷ []) $ free1 ! $ move ! (11 ∷ 12 ∷ []) $ free1 ! $ move ! (6 ∷ []) $ free-store ! h b o $ move ! (8 ∷ 9 ∷ []) $ free1 ! $ move ! (6 ∷ 7 ∷ []) $ free1 ! $ free0 ! $
-        keep ! (0 ∷ 1 ∷ 2 ∷ 6 ∷ 5 ∷ 3 ∷ []) $ by ! (exits r u (zs .1 .1 .1 .1 .1 .1 .1 .1 .0) (subst (λ (z : Store). Saves z ys r (zs .1 .1 .1 .1 .1 .1 .1 .1 .0)) (lying-same h) e) l))))))))))))))
+        calling ! fm (Call 𝓤 H A at-mem run) known (to-call g) R.the-row (λ r u is. LL.lawful R.the-type R′.the-laws 𝓤 H A W .typed r (u ∷ []) is .0) (‵ (flft κ q) ⊛ ‵ (flft κ′ q′) ⊛ ‵ ftrue) (λ r. raw (ensured 𝓤 H A call.ended (call.clauses 𝓤 H A at-mem run) (κ, (κ′, tt)) (passed g) tt r)) (λ u. id⊢ 𝓤 _) (passes-store ! h b o 3 refl (and-then ! (load ! (from ! (stop !)) (look ! 7 refl)) (no-more !))) (λ u r.
+        -- [the tokens; the answer; what is said; the fractured borrow; the locals of the store; _12; _11; the buffer's cell; res; …]
+        forget ! 9 refl $ forget ! 7 refl $ forget ! 5 refl $ move ! (9 ∷ 10 ∷ []) $ free1 ! $ move ! (4 ∷ []) $ free-store ! h b o $ move ! (6 ∷ 7 ∷ []) $ free1 ! $ move ! (4 ∷ 5 ∷ []) $ free1 ! $ free0 ! $
+        keep ! (0 ∷ 1 ∷ 2 ∷ 3 ∷ 4 ∷ []) $ by ! (exits g r u)))))))))
 
 module _ {M : Type 1} (𝓤 : URA M) (H : Heap 𝓤) (A : Atoms 𝓤) (W : Given 𝓤 H A) (at-mem : Memory → SProp 𝓤) (run : Routine → Fun 𝓤) where
   f-walks : (C : Calls 𝓤 H) (Λ : Loops 𝓤 H) → FmC 𝓤 H (W .laws) C → Triple 𝓤 (C #image·save-lent) (Call 𝓤 H A at-mem run) → Walks 𝓤 H A f.ended stayed (WpFn 𝓤 H C Λ code.function) (f.clauses 𝓤 H A at-mem run)

@@ -44,7 +44,7 @@ use Rattle.page.proofs.served_length_lent.Symbol.{name as #page·served-length-
 use Rattle.page.proofs.served_length_lent.Met as call-thm
 use Rattle.export.proofs.Values.{store-val}
 use Rattle.export.proofs.Columns.{Names, StoreArgs, storeArgs, storeVals, lyingStore, lying-same, sized, Lent, owns-store}
-use Rattle.export.proofs.Lending.{alloc-store, lending, passes-store, free-store}
+use Rattle.export.proofs.Lending.{alloc-store, lending, passes-store, calling, free-store}
 use Rattle.export.proofs.olipranj_serve.Key.{name as #export·olipranj-serve}
 use Rattle.export.proofs.olipranj_serve as f
 use Rattle.export.proofs.olipranj_serve.Statement as stated
@@ -90,12 +90,12 @@ module _ {M : Type 1} (𝓤 : URA M) (H : Heap 𝓤) (A : Atoms 𝓤) (W : Given
     said : (r : ℕ) → ent 𝓤 (ensured 𝓤 H A call.ended (call.clauses 𝓤 H A at-mem run) (κ, (κ′, tt)) passed tt r) (fact 𝓤 (ServesLength (lyingStore h) n (now bs) r))
     said r = exE 𝓤 _ (λ ws. snd∗ 𝓤 (sem 𝓤 H A (lasts call.ended (κ, (κ′, tt)) passed ws)) (fact 𝓤 (ServesLength (lyingStore h) n (now bs) r)))
 
-  exits : (r : ℕ) (u : Val) → n < 2 ^ 32 → ServesLength h n (now bs) r
-      → ent 𝓤 (⋆ 𝓤 H A (‵ (usize .own r (u ∷ [])) ∷ ‵ (flft κ q) ∷ (‵ (flft κ′ q′) ⊛ ‵ ftrue) ∷ ‵ (fres γ (S.the-row .coded .code h)) ∷ ‵ (fshr-bor κ (λ s. partAt S.the-row s h b o)) ∷ ‵ Own ∷ [])) (Post u)
-  exits r u gn e =
-      qed W (‵ (usize .own r (u ∷ [])) ∷ ‵ (flft κ q) ∷ (‵ (flft κ′ q′) ⊛ ‵ ftrue) ∷ ‵ (fres γ (S.the-row .coded .code h)) ∷ ‵ (fshr-bor κ (λ s. partAt S.the-row s h b o)) ∷ ‵ Own ∷ []) ∵
-      suffices ! _ (ends-at 𝓤 H A f.ended stayed (f.clauses 𝓤 H A at-mem run) W (((κ, (κ′, tt)), (q, (q′, tt)), tt, x, at), tt) u r (tt, (tt, (tt, tt))) (tt, (tt, (tt, tt)))) $ says ! e $
-      move ! (1 ∷ 2 ∷ []) $ join ! $ frame ! $ move ! (1 ∷ 2 ∷ []) $ feqI ! (List Val) (vptr b o ∷ []) (vptr b o ∷ []) refl $ fjoin3 ! $ nothing ! $ move ! (3 ∷ 0 ∷ []) $ fjoin ! $ owned ! u32 (Is u32) (uint-makes 𝓤 H A W w32) n _ (refl, gn) $ fjoin ! $ move ! (1 ∷ 0 ∷ []) $ fjoin ! $ frame ! $ done !
+  exits : (g : Names) (r : ℕ) (u : Val) → n < 2 ^ 32 → ent 𝓤 (⋆ 𝓤 H A ((‵ (flft κ q) ⊛ ‵ (flft κ′ q′) ⊛ ‵ ftrue) ∷ ‵ (usize .own r (u ∷ [])) ∷ raw (ensured 𝓤 H A call.ended (call.clauses 𝓤 H A at-mem run) (κ, (κ′, tt)) (passed g) tt r) ∷ ‵ (fshr-bor κ (λ s. partAt S.the-row s h b o)) ∷ ‵ (fres γ (S.the-row .coded .code h)) ∷ ‵ Own ∷ [])) (Post u)
+  exits g r u gn =
+      qed W ((‵ (flft κ q) ⊛ ‵ (flft κ′ q′) ⊛ ‵ ftrue) ∷ ‵ (usize .own r (u ∷ [])) ∷ raw (ensured 𝓤 H A call.ended (call.clauses 𝓤 H A at-mem run) (κ, (κ′, tt)) (passed g) tt r) ∷ ‵ (fshr-bor κ (λ s. partAt S.the-row s h b o)) ∷ ‵ (fres γ (S.the-row .coded .code h)) ∷ ‵ Own ∷ []) ∵ move ! (2 ∷ []) $
+      use1 W (raw (fact 𝓤 (ServesLength (lyingStore h) n (now bs) r))) (said g r) $ heard ! (ServesLength (lyingStore h) n (now bs) r) (λ e.
+      suffices ! _ (ends-at 𝓤 H A f.ended stayed (f.clauses 𝓤 H A at-mem run) W (((κ, (κ′, tt)), (q, (q′, tt)), tt, x, at), tt) u r (tt, (tt, (tt, tt))) (tt, (tt, (tt, tt)))) $ says ! (subst (λ (z : Store). ServesLength z n (now bs) r) (lying-same h) e) $
+      frame ! $ move ! (2 ∷ 1 ∷ []) $ feqI ! (List Val) (vptr b o ∷ []) (vptr b o ∷ []) refl $ fjoin3 ! $ nothing ! $ move ! (3 ∷ 0 ∷ []) $ fjoin ! $ owned ! u32 (Is u32) (uint-makes 𝓤 H A W w32) n _ (refl, gn) $ fjoin ! $ move ! (1 ∷ 0 ∷ []) $ fjoin ! $ frame ! $ done !)
 
   module _ (C : Calls 𝓤 H) (Λ : Loops 𝓤 H) (fm : FmC 𝓤 H (W .laws) C) (known : Triple 𝓤 (C #page·served-length-lent) (Call 𝓤 H A at-mem run)) where
     walk : n < 2 ^ 32 → Room u8 (length (bs .now)) → ent 𝓤 (onEntry 𝓤 H A f.signature (κ, (κ′, tt)) (q, (q′, tt)) x at) (WpFn 𝓤 H C Λ code.function (vptr b o ∷ vint w32 n ∷ v ∷ []) Post)
@@ -107,18 +107,13 @@ module _ {M : Type 1} (𝓤 : URA M) (H : Heap 𝓤) (A : Atoms 𝓤) (W : Given
         enter ! C Λ code.function (vptr b o ∷ vint w32 n ∷ v ∷ []) _ $
         alloc1 ! (λ l₀. alloc1 ! (λ l₁. alloc1 ! (λ l₂. alloc1 ! (λ l₃. alloc-store ! (λ ls. alloc0 ! $ params1 ! $
         pass1 ! (init ! 5 refl (tt, tt)) $ pass1 ! (init ! 3 refl (tt, record { fits = gn })) $ pass1 ! (init ! 1 refl (tt, (tt, (record { fits = gb .0 }, tt)))) $ pass0 ! $
-        move ! (9 ∷ 10 ∷ 5 ∷ 0 ∷ []) $ lending ! h b o 4 refl refl (λ g was.
+        move ! (9 ∷ 10 ∷ 5 ∷ 0 ∷ 7 ∷ 8 ∷ 6 ∷ []) $ lending ! h b o 4 refl refl (λ g was.
         -- [the store's token; the columns' &; the fractured borrow; the pointer; the locals of the store; the cells of kept and sample; …; res; what kept owns, twice; the kept bytes' token; …]
         move ! (0 ∷ 15 ∷ 1 ∷ 13 ∷ []) $ join ! $ use3 W (raw (Call 𝓤 H A at-mem run .pre (to-call g))) (goes-call g was gn) $
-        calls-at ! fm (Call 𝓤 H A at-mem run) known (to-call g) (passes-store ! h b o 4 refl (and-then ! (load ! (from ! (stop !)) (look ! 6 refl)) (and-then ! (load ! (from ! (stop !)) (look ! 4 refl)) (no-more !)))) (λ u.
-        use1 W (later (some (λ (r : ℕ). ((‵ (flft κ q) ⊛ ‵ (flft κ′ q′) ⊛ ‵ ftrue) ⊛ ‵ (usize .own r (u ∷ []))) ⊛ raw (ensured 𝓤 H A call.ended (call.clauses 𝓤 H A at-mem run) (κ, (κ′, tt)) (passed g) tt r)))) (id⊢ 𝓤 _) $ await ! tt $ pick ! (λ r.
-        split ! $ move ! (1 ∷ []) $ use1 W (raw (fact 𝓤 (ServesLength (lyingStore h) n (now bs) r))) (said g r) $ heard ! (ServesLength (lyingStore h) n (now bs) r) (λ e. split ! $ split ! $ move ! (2 ∷ []) $
-        peeks ! usize (Is usize) (shows 𝓤 H A usize) r (u ∷ []) (λ ir.
-        -- [the count; the store's token; the kept bytes' token; the fractured borrow; _11; …; _0; …; res; what kept owns; …]
-        land ! (from ! (stop !)) (init ! 11 refl (uint-lawful 𝓤 H A W w64 .typed r _ ir .0)) $
-        returns ! (look ! 11 refl) $ forget ! 11 refl $ forget ! 4 refl $ forget ! 8 refl $ forget ! 6 refl $
-        move ! (11 ∷ 12 ∷ []) $ free1 ! $ move ! (4 ∷ 10 ∷ []) $ free1 ! $ move ! (7 ∷ 8 ∷ []) $ free1 ! $ move ! (5 ∷ 6 ∷ []) $ free1 ! $ move ! (4 ∷ []) $ free-store ! h b o $ free0 ! $
-        keep ! (0 ∷ 1 ∷ 2 ∷ 4 ∷ 3 ∷ 5 ∷ []) $ by ! (exits r u gn (subst (λ (z : Store). ServesLength z n (now bs) r) (lying-same h) e))))))))))))
+        calling ! fm (Call 𝓤 H A at-mem run) known (to-call g) usize (λ r u is. uint-lawful 𝓤 H A W w64 .typed r (u ∷ []) is .0) (‵ (flft κ q) ⊛ ‵ (flft κ′ q′) ⊛ ‵ ftrue) (λ r. raw (ensured 𝓤 H A call.ended (call.clauses 𝓤 H A at-mem run) (κ, (κ′, tt)) (passed g) tt r)) (λ u. id⊢ 𝓤 _) (passes-store ! h b o 4 refl (and-then ! (load ! (from ! (stop !)) (look ! 9 refl)) (and-then ! (load ! (from ! (stop !)) (look ! 7 refl)) (no-more !)))) (λ u r.
+        -- [the tokens; the answer; what is said; the fractured borrow; the locals of the store; the cells of kept and sample; res; …]
+        forget ! 7 refl $ forget ! 5 refl $ move ! (7 ∷ 8 ∷ []) $ free1 ! $ move ! (5 ∷ 6 ∷ []) $ free1 ! $ move ! (4 ∷ []) $ free-store ! h b o $ free0 ! $
+        keep ! (0 ∷ 1 ∷ 2 ∷ 3 ∷ 4 ∷ 5 ∷ []) $ by ! (exits g r u gn))))))))
 
 module _ {M : Type 1} (𝓤 : URA M) (H : Heap 𝓤) (A : Atoms 𝓤) (W : Given 𝓤 H A) (at-mem : Memory → SProp 𝓤) (run : Routine → Fun 𝓤) where
   f-walks : (C : Calls 𝓤 H) (Λ : Loops 𝓤 H) → FmC 𝓤 H (W .laws) C → Triple 𝓤 (C #page·served-length-lent) (Call 𝓤 H A at-mem run) → Walks 𝓤 H A f.ended stayed (WpFn 𝓤 H C Λ code.function) (f.clauses 𝓤 H A at-mem run)
