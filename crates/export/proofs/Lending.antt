@@ -11,10 +11,10 @@ use mir.Syntax.{w32, Ty, tyInt, tyRef, tyArray, erased, imm, Step as PStep, dere
 use lib.Dec.{T}
 use mir.Val.{Val, WT, hasTy, vint, vptr}
 use base.Logic.{SProp, ent, via, id⊢}
-use base.Fml.{Lft, Share, flft, fshr-bor, fat, froom, fdies}
+use base.Fml.{Lft, Share, Fml, fsep, flft, fshr-bor, fat, froom, fdies}
 use prog.Wp.{Heap, Env, Spot, Calls, Loops, noLocal}
 use ghost.Atoms.{Atoms}
-use types.Kit.{Given, Item, ‵, raw, some, later, _⊛_, ⋆, mean, Post, atRet, Goal, prop, runs, allocs, frees, Seq, Sq, Step, step, cut, _$_, _∵_, Go, !, qed, by, move, use1, use2, split, pick, await, done}
+use types.Kit.{Given, Item, ‵, raw, some, later, _⊛_, ⋆, mean, Post, atRet, Goal, prop, runs, allocs, frees, Seq, Sq, Step, step, cut, _$_, _∵_, Go, !, qed, by, move, use1, use2, split, pick, fsplit, drop, await, done}
 use types.Part.{whole, sub, look-in}
 use types.Run.{Reads, Walks, Finds, Opd, Opds, look, init, forget, stop, hop, fld, from, load, addr, of-opd, assigns, and-then, land, returns, alloc1, free1}
 use sound.WpLaws.{FmC}
@@ -233,3 +233,9 @@ module _ {M : Type 1} {𝓤 : URA M} {H : Heap 𝓤} {A : Atoms 𝓤} {K : Type 
           -- [the answer; what is given back; what is said; i; the pointer; j; room for the answer; its end; the pointer's end]
           land ! (from ! (stop !)) (init ! 6 refl (typed r u is)) $ returns ! (look ! 6 refl) $ forget ! 6 refl $ forget ! 4 refl $
           move ! (6 ∷ 7 ∷ []) $ free1 ! $ move ! (4 ∷ 6 ∷ []) $ free1 ! $ move ! (1 ∷ 0 ∷ []) $ by ! (k u r .prf))))
+
+module _ {M : Type 1} {𝓤 : URA M} {H : Heap 𝓤} {A : Atoms 𝓤} {K : Type 0} {W : Given 𝓤 H A} {Γ : List (Item 𝓤)} {G : Goal 𝓤 H} where
+  -- What is said at exit of plan, clock, the columns and the slots is let go; what is said of the other parameters is left.
+  pub drop-store : K → {P₁ P₂ P₃ P₄ P₅ P₆ P₇ P₈ Q : Fml} → Step K W (‵ Q ∷ Γ) G (‵ (fsep P₁ (fsep P₂ (fsep P₃ (fsep P₄ (fsep P₅ (fsep P₆ (fsep P₇ (fsep P₈ Q)))))))) ∷ Γ) G
+  drop-store t = step (λ s. fsplit t $ drop t $ fsplit t $ drop t $ fsplit t $ drop t $ fsplit t $ drop t $ fsplit t $ drop t $ fsplit t $ drop t $ fsplit t $ drop t $
+      fsplit t $ drop t $ s)

@@ -1,5 +1,5 @@
--- `export::olipranj_page` meets its promise: a walk of its MIR, by hand. The columns are lent where they lie; the borrow is looked into for plan,
--- clock and slots, and shut again; the buffer is passed on to `page_lent`. Assumes nothing.
+-- `export::olipranj_page` meets its promise: a walk of its MIR by the laws of lending and calling (`Lending.antt`);
+-- the buffer is passed on to `page_lent`. Assumes nothing.
 use mathlib.Core.Path.{refl, subst}
 use Prim.Native.Nat.{ℕ, _<_, _^_}
 use mathlib.Core.List.{[], _∷_, List}
@@ -48,8 +48,8 @@ use Rattle.page.proofs.page_lent.Symbol.{name as #page·page-lent}
 use Rattle.page.proofs.page_lent.Met as call-thm
 use Rattle.export.proofs.Walking.{meets}
 use Rattle.export.proofs.Values.{store-val}
-use Rattle.export.proofs.Columns.{Names, StoreArgs, storeArgs, storeVals, lyingStore, lying-same, sized, Lent, owns-store}
-use Rattle.export.proofs.Lending.{alloc-store, lending, passes-store, calling, free-store}
+use Rattle.export.proofs.Columns.{Names, StoreArgs, storeArgs, storeVals, StoreLasts, lastsBeside, lyingStore, lying-same, sized, Lent, owns-store}
+use Rattle.export.proofs.Lending.{alloc-store, lending, passes-store, calling, free-store, drop-store}
 use Rattle.export.proofs.olipranj_page.Key.{name as #export·olipranj-page}
 use Rattle.export.proofs.olipranj_page as f
 use Rattle.export.proofs.olipranj_page.Statement as stated
@@ -98,11 +98,11 @@ module _ {M : Type 1} (𝓤 : URA M) (H : Heap 𝓤) (A : Atoms 𝓤) (W : Given
   exits : (g : Names) (r : Answer) (u : Val) → n < 2 ^ 32 → ent 𝓤 (⋆ 𝓤 H A ((‵ (flft κ q) ⊛ ‵ (flft κ′ q′) ⊛ ‵ ftrue) ∷ ‵ (R.the-row .own r (u ∷ [])) ∷ raw (ensured 𝓤 H A call.ended (call.clauses 𝓤 H A at-mem run) (κ, (κ′, tt)) (passed g) tt r) ∷ ‵ (fshr-bor κ (λ s. partAt S.the-row s h b o)) ∷ ‵ (fres γ (S.the-row .coded .code h)) ∷ [])) (Post u)
   exits g r u gn =
       qed W ((‵ (flft κ q) ⊛ ‵ (flft κ′ q′) ⊛ ‵ ftrue) ∷ ‵ (R.the-row .own r (u ∷ [])) ∷ raw (ensured 𝓤 H A call.ended (call.clauses 𝓤 H A at-mem run) (κ, (κ′, tt)) (passed g) tt r) ∷ ‵ (fshr-bor κ (λ s. partAt S.the-row s h b o)) ∷ ‵ (fres γ (S.the-row .coded .code h)) ∷ []) ∵ move ! (2 ∷ []) $
-      use1 W (some (λ (zs : Unit {0} × (Unit {0} × (Unit {0} × (Unit {0} × (Unit {0} × (Unit {0} × (Unit {0} × (Unit {0} × (Unit {0} × (List ℕ × Unit {0})))))))))). ‵ (lasts call.ended (κ, (κ′, tt)) (passed g) zs) ⊛ raw (fact 𝓤 (Pages (lyingStore h) n ys r (zs .1 .1 .1 .1 .1 .1 .1 .1 .1 .0))))) (id⊢ 𝓤 _) $ pick ! (λ zs.
-      split ! $ move ! (1 ∷ []) $ heard ! (Pages (lyingStore h) n ys r (zs .1 .1 .1 .1 .1 .1 .1 .1 .1 .0)) (λ e. fsplit ! $ drop ! $ fsplit ! $ drop ! $ fsplit ! $ drop ! $ fsplit ! $ drop ! $ fsplit ! $ drop ! $ fsplit ! $ drop ! $ fsplit ! $ drop ! $ fsplit ! $ drop ! $ fsplit ! $ drop ! $ fsplit ! $ fsplit ! $ move ! (1 ∷ []) $ feqL ! (λ l.
+      use1 W (some (λ (zs : StoreLasts (Unit {0} × (List ℕ × Unit {0}))). ‵ (lasts call.ended (κ, (κ′, tt)) (passed g) zs) ⊛ raw (fact 𝓤 (Pages (lyingStore h) n ys r (lastsBeside zs .1 .0))))) (id⊢ 𝓤 _) $ pick ! (λ zs.
+      split ! $ move ! (1 ∷ []) $ heard ! (Pages (lyingStore h) n ys r (lastsBeside zs .1 .0)) (λ e. drop-store ! $ fsplit ! $ drop ! $ fsplit ! $ fsplit ! $ move ! (1 ∷ []) $ feqL ! (λ l.
       -- [the last bytes; …; the tokens; the answer; the fractured borrow; res]
       keep ! (2 ∷ 3 ∷ 4 ∷ 5 ∷ 0 ∷ []) $
-      suffices ! _ (ends-at 𝓤 H A f.ended stayed (f.clauses 𝓤 H A at-mem run) W (((κ, (κ′, tt)), (q, (q′, tt)), tt, x, at), tt) u r (tt, (tt, ((zs .1 .1 .1 .1 .1 .1 .1 .1 .1 .0), tt))) (tt, (tt, (l, tt)))) $ says ! (subst (λ (y : Store). Pages y n ys r (zs .1 .1 .1 .1 .1 .1 .1 .1 .1 .0)) (lying-same h) e) $
+      suffices ! _ (ends-at 𝓤 H A f.ended stayed (f.clauses 𝓤 H A at-mem run) W (((κ, (κ′, tt)), (q, (q′, tt)), tt, x, at), tt) u r (tt, (tt, (lastsBeside zs .1 .0, tt))) (tt, (tt, (l, tt)))) $ says ! (subst (λ (y : Store). Pages y n ys r (lastsBeside zs .1 .0)) (lying-same h) e) $
       frame ! $ move ! (2 ∷ 1 ∷ []) $ feqI ! (List Val) (vptr b o ∷ []) (vptr b o ∷ []) refl $ fjoin3 ! $ nothing ! $ move ! (3 ∷ 0 ∷ []) $ fjoin ! $ owned ! u32 (Is u32) (uint-makes 𝓤 H A W w32) n _ (refl, gn) $ fjoin ! $ move ! (1 ∷ 0 ∷ []) $ fjoin ! $ frame ! $ done !)))
 
   module _ (C : Calls 𝓤 H) (Λ : Loops 𝓤 H) (fm : FmC 𝓤 H (W .laws) C) (known : Triple 𝓤 (C #page·page-lent) (Call 𝓤 H A at-mem run)) where
@@ -115,12 +115,12 @@ module _ {M : Type 1} (𝓤 : URA M) (H : Heap 𝓤) (A : Atoms 𝓤) (W : Given
         alloc1 ! (λ l₀. alloc1 ! (λ l₁. alloc1 ! (λ l₂. alloc1 ! (λ l₃. alloc-store ! (λ ls. alloc1 ! (λ l₄. alloc1 ! (λ l₅. alloc0 ! $ params1 ! $
         pass1 ! (init ! 9 refl (tt, tt)) $ pass1 ! (init ! 7 refl (tt, record { fits = gn })) $ pass1 ! (init ! 5 refl (tt, (tt, (record { fits = gl .0 }, tt)))) $ pass0 ! $
         move ! (13 ∷ 14 ∷ 9 ∷ 4 ∷ 11 ∷ 12 ∷ 10 ∷ []) $ lending ! h b o 4 refl refl (λ g was.
-        -- [the store's token; the columns' &; the fractured borrow; the pointer; the locals of the store; _13; _12; the cells of buffer and sample; …; res; what buffer owns; the buffer's token; …]
+        -- [the store's token; the columns' &; the fractured borrow; the pointer; the locals of the store; the locals of the buffer passed on; the cells of buffer and sample; …; res; what buffer owns; the buffer's token; …]
         assigns ! (addr ! (from ! (fld ! refl (hop ! (look-in ! 12 (sub ! 0 refl (whole !))) (stop !))))) (from ! (stop !)) (init ! 10 refl (tt, tt)) $
         assigns ! (agg ! (and-then ! (load ! (from ! (stop !)) (look ! 10 refl)) (and-then ! (load ! (from ! (fld ! refl (stop !))) (look-in ! 12 (sub ! 1 refl (whole !)))) (no-more !)))) (from ! (stop !)) (init ! 8 refl (tt, (tt, (record { fits = gl .0 }, tt)))) $
         move ! (0 ∷ 18 ∷ 1 ∷ 17 ∷ []) $ join ! $ use3 W (raw (Call 𝓤 H A at-mem run .pre (to-call g))) (goes-call g was gn) $
         calling ! fm (Call 𝓤 H A at-mem run) known (to-call g) R.the-row (λ r u is. LL.lawful R.the-type R′.the-laws 𝓤 H A W .typed r (u ∷ []) is .0) (‵ (flft κ q) ⊛ ‵ (flft κ′ q′) ⊛ ‵ ftrue) (λ r. raw (ensured 𝓤 H A call.ended (call.clauses 𝓤 H A at-mem run) (κ, (κ′, tt)) (passed g) tt r)) (λ u. id⊢ 𝓤 _) (passes-store ! h b o 4 refl (and-then ! (load ! (from ! (stop !)) (look ! 13 refl)) (and-then ! (load ! (from ! (stop !)) (look ! 7 refl)) (no-more !)))) (λ u r.
-        -- [the tokens; the answer; what is said; the fractured borrow; the locals of the store; _13; _12; the cells of buffer and sample; res; …]
+        -- [the tokens; the answer; what is said; the fractured borrow; the locals of the store; the locals of the buffer passed on; the cells of buffer and sample; res; …]
         forget ! 11 refl $ forget ! 9 refl $ forget ! 7 refl $ forget ! 5 refl $ move ! (11 ∷ 12 ∷ []) $ free1 ! $ move ! (9 ∷ 10 ∷ []) $ free1 ! $ move ! (4 ∷ []) $ free-store ! h b o $ move ! (6 ∷ 7 ∷ []) $ free1 ! $ move ! (4 ∷ 5 ∷ []) $ free1 ! $ free0 ! $
         keep ! (0 ∷ 1 ∷ 2 ∷ 3 ∷ 4 ∷ []) $ by ! (exits g r u gn))))))))))
 

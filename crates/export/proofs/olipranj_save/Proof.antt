@@ -1,5 +1,5 @@
--- `export::olipranj_save` meets its promise: a walk of its MIR, by hand. The columns are lent where they lie; the borrow is looked into for plan,
--- clock and slots, and shut again; the buffer is passed on to `save_lent`. Assumes nothing.
+-- `export::olipranj_save` meets its promise: a walk of its MIR by the laws of lending and calling (`Lending.antt`);
+-- the buffer is passed on to `save_lent`. Assumes nothing.
 use mathlib.Core.Path.{refl, subst}
 use Prim.Native.Nat.{ℕ}
 use mathlib.Core.List.{[], _∷_, List}
@@ -47,8 +47,8 @@ use Rattle.image.proofs.save_lent.Symbol.{name as #image·save-lent}
 use Rattle.image.proofs.save_lent.Met as call-thm
 use Rattle.export.proofs.Walking.{meets}
 use Rattle.export.proofs.Values.{store-val}
-use Rattle.export.proofs.Columns.{Names, StoreArgs, storeArgs, storeVals, lyingStore, lying-same, sized, Lent, owns-store}
-use Rattle.export.proofs.Lending.{alloc-store, lending, passes-store, calling, free-store}
+use Rattle.export.proofs.Columns.{Names, StoreArgs, storeArgs, storeVals, StoreLasts, lastsBeside, lyingStore, lying-same, sized, Lent, owns-store}
+use Rattle.export.proofs.Lending.{alloc-store, lending, passes-store, calling, free-store, drop-store}
 use Rattle.export.proofs.olipranj_save.Key.{name as #export·olipranj-save}
 use Rattle.export.proofs.olipranj_save as f
 use Rattle.export.proofs.olipranj_save.Statement as stated
@@ -97,11 +97,11 @@ module _ {M : Type 1} (𝓤 : URA M) (H : Heap 𝓤) (A : Atoms 𝓤) (W : Given
   exits : (g : Names) (r : Answer) (u : Val) → ent 𝓤 (⋆ 𝓤 H A ((‵ (flft κ q) ⊛ ‵ (flft κ′ q′) ⊛ ‵ ftrue) ∷ ‵ (R.the-row .own r (u ∷ [])) ∷ raw (ensured 𝓤 H A call.ended (call.clauses 𝓤 H A at-mem run) (κ, (κ′, tt)) (passed g) tt r) ∷ ‵ (fshr-bor κ (λ s. partAt S.the-row s h b o)) ∷ ‵ (fres γ (S.the-row .coded .code h)) ∷ [])) (Post u)
   exits g r u =
       qed W ((‵ (flft κ q) ⊛ ‵ (flft κ′ q′) ⊛ ‵ ftrue) ∷ ‵ (R.the-row .own r (u ∷ [])) ∷ raw (ensured 𝓤 H A call.ended (call.clauses 𝓤 H A at-mem run) (κ, (κ′, tt)) (passed g) tt r) ∷ ‵ (fshr-bor κ (λ s. partAt S.the-row s h b o)) ∷ ‵ (fres γ (S.the-row .coded .code h)) ∷ []) ∵ move ! (2 ∷ []) $
-      use1 W (some (λ (zs : Unit {0} × (Unit {0} × (Unit {0} × (Unit {0} × (Unit {0} × (Unit {0} × (Unit {0} × (Unit {0} × (List ℕ × Unit {0}))))))))). ‵ (lasts call.ended (κ, (κ′, tt)) (passed g) zs) ⊛ raw (fact 𝓤 (Saves (lyingStore h) ys r (zs .1 .1 .1 .1 .1 .1 .1 .1 .0))))) (id⊢ 𝓤 _) $ pick ! (λ zs.
-      split ! $ move ! (1 ∷ []) $ heard ! (Saves (lyingStore h) ys r (zs .1 .1 .1 .1 .1 .1 .1 .1 .0)) (λ e. fsplit ! $ drop ! $ fsplit ! $ drop ! $ fsplit ! $ drop ! $ fsplit ! $ drop ! $ fsplit ! $ drop ! $ fsplit ! $ drop ! $ fsplit ! $ drop ! $ fsplit ! $ drop ! $ fsplit ! $ fsplit ! $ move ! (1 ∷ []) $ feqL ! (λ l.
+      use1 W (some (λ (zs : StoreLasts (List ℕ × Unit {0})). ‵ (lasts call.ended (κ, (κ′, tt)) (passed g) zs) ⊛ raw (fact 𝓤 (Saves (lyingStore h) ys r (lastsBeside zs .0))))) (id⊢ 𝓤 _) $ pick ! (λ zs.
+      split ! $ move ! (1 ∷ []) $ heard ! (Saves (lyingStore h) ys r (lastsBeside zs .0)) (λ e. drop-store ! $ fsplit ! $ fsplit ! $ move ! (1 ∷ []) $ feqL ! (λ l.
       -- [the last bytes; …; the tokens; the answer; the fractured borrow; res]
       keep ! (2 ∷ 3 ∷ 4 ∷ 5 ∷ 0 ∷ []) $
-      suffices ! _ (ends-at 𝓤 H A f.ended stayed (f.clauses 𝓤 H A at-mem run) W (((κ, (κ′, tt)), (q, (q′, tt)), tt, x, at), tt) u r (tt, ((zs .1 .1 .1 .1 .1 .1 .1 .1 .0), tt)) (tt, (l, tt))) $ says ! (subst (λ (y : Store). Saves y ys r (zs .1 .1 .1 .1 .1 .1 .1 .1 .0)) (lying-same h) e) $
+      suffices ! _ (ends-at 𝓤 H A f.ended stayed (f.clauses 𝓤 H A at-mem run) W (((κ, (κ′, tt)), (q, (q′, tt)), tt, x, at), tt) u r (tt, (lastsBeside zs .0, tt)) (tt, (l, tt))) $ says ! (subst (λ (y : Store). Saves y ys r (lastsBeside zs .0)) (lying-same h) e) $
       frame ! $ move ! (2 ∷ 1 ∷ []) $ feqI ! (List Val) (vptr b o ∷ []) (vptr b o ∷ []) refl $ fjoin3 ! $ nothing ! $ move ! (3 ∷ 0 ∷ []) $ fjoin ! $ move ! (1 ∷ 0 ∷ []) $ fjoin ! $ frame ! $ done !)))
 
   module _ (C : Calls 𝓤 H) (Λ : Loops 𝓤 H) (fm : FmC 𝓤 H (W .laws) C) (known : Triple 𝓤 (C #image·save-lent) (Call 𝓤 H A at-mem run)) where
@@ -114,12 +114,12 @@ module _ {M : Type 1} (𝓤 : URA M) (H : Heap 𝓤) (A : Atoms 𝓤) (W : Given
         alloc1 ! (λ l₀. alloc1 ! (λ l₁. alloc1 ! (λ l₂. alloc-store ! (λ ls. alloc1 ! (λ l₃. alloc1 ! (λ l₄. alloc0 ! $ params1 ! $
         pass1 ! (init ! 7 refl (tt, tt)) $ pass1 ! (init ! 5 refl (tt, (tt, (record { fits = gl .0 }, tt)))) $ pass0 ! $
         move ! (11 ∷ 12 ∷ 7 ∷ 4 ∷ 9 ∷ 10 ∷ 8 ∷ []) $ lending ! h b o 3 refl refl (λ g was.
-        -- [the store's token; the columns' &; the fractured borrow; the pointer; the locals of the store; _12; _11; the buffer's cell; …; res; what buffer owns; the buffer's token; …]
+        -- [the store's token; the columns' &; the fractured borrow; the pointer; the locals of the store; the locals of the buffer passed on; the buffer's cell; …; res; what buffer owns; the buffer's token; …]
         assigns ! (addr ! (from ! (fld ! refl (hop ! (look-in ! 12 (sub ! 0 refl (whole !))) (stop !))))) (from ! (stop !)) (init ! 10 refl (tt, tt)) $
         assigns ! (agg ! (and-then ! (load ! (from ! (stop !)) (look ! 10 refl)) (and-then ! (load ! (from ! (fld ! refl (stop !))) (look-in ! 12 (sub ! 1 refl (whole !)))) (no-more !)))) (from ! (stop !)) (init ! 8 refl (tt, (tt, (record { fits = gl .0 }, tt)))) $
         move ! (0 ∷ 16 ∷ 1 ∷ 15 ∷ []) $ join ! $ use3 W (raw (Call 𝓤 H A at-mem run .pre (to-call g))) (goes-call g was) $
         calling ! fm (Call 𝓤 H A at-mem run) known (to-call g) R.the-row (λ r u is. LL.lawful R.the-type R′.the-laws 𝓤 H A W .typed r (u ∷ []) is .0) (‵ (flft κ q) ⊛ ‵ (flft κ′ q′) ⊛ ‵ ftrue) (λ r. raw (ensured 𝓤 H A call.ended (call.clauses 𝓤 H A at-mem run) (κ, (κ′, tt)) (passed g) tt r)) (λ u. id⊢ 𝓤 _) (passes-store ! h b o 3 refl (and-then ! (load ! (from ! (stop !)) (look ! 7 refl)) (no-more !))) (λ u r.
-        -- [the tokens; the answer; what is said; the fractured borrow; the locals of the store; _12; _11; the buffer's cell; res; …]
+        -- [the tokens; the answer; what is said; the fractured borrow; the locals of the store; the locals of the buffer passed on; the buffer's cell; res; …]
         forget ! 9 refl $ forget ! 7 refl $ forget ! 5 refl $ move ! (9 ∷ 10 ∷ []) $ free1 ! $ move ! (4 ∷ []) $ free-store ! h b o $ move ! (6 ∷ 7 ∷ []) $ free1 ! $ move ! (4 ∷ 5 ∷ []) $ free1 ! $ free0 ! $
         keep ! (0 ∷ 1 ∷ 2 ∷ 3 ∷ 4 ∷ []) $ by ! (exits g r u)))))))))
 
