@@ -15,7 +15,7 @@ use prog.Wp.{Heap, Calls, Loops, WpFn, Tables}
 use ghost.Atoms.{Atoms, sem}
 use contract.Monad.{Fun, fact}
 use contract.Running.{givenOf, tables, tablesOf}
-use types.Kit.{Given, ‵, raw, _⊛_, ⋆, _$_, _∵_, !, qed, by, move, keep, drop, use1, split, join, fsplit, fsplit3, fjoin, fjoin3, feqI, suffices, frame, done, use3}
+use types.Kit.{Given, ‵, raw, _⊛_, ⋆, _$_, _∵_, !, qed, by, move, keep, drop, group, use1, split, fsplit, fsplit3, fjoin, fjoin3, feqI, suffices, frame, done, use3}
 use types.Run.{look, init, forget, stop, from, load, and-then, no-more, enter, alloc1, alloc0, params1, pass1, pass0, free1, free0}
 use sound.WpLaws.{FmC, fmOf}
 use denote.RattleType.{owns}
@@ -42,9 +42,8 @@ use Rattle.page.proofs.served_length_lent.Symbol as call-def
 use Rattle.page.proofs.served_length_lent.Symbol.{name as #page·served-length-lent}
 use Rattle.page.proofs.served_length_lent.Met as call-thm
 use Rattle.export.proofs.Walking.{meets}
-use Rattle.export.proofs.Values.{store-val}
-use Rattle.export.proofs.Columns.{Names, StoreArgs, storeArgs, storeVals, lyingStore, lying-same, sized, Lent, owns-store}
-use Rattle.export.proofs.Lending.{alloc-store, lending, passes-store, calling, free-store}
+use Rattle.export.proofs.Columns.{Names, StoreArgs, storeArgs, storeVals, lyingStore, lying-same}
+use Rattle.export.proofs.Lending.{alloc-store, lending, asks, passes-store, calling, free-store}
 use Rattle.export.proofs.olipranj_serve.Key.{name as #export·olipranj-serve}
 use Rattle.export.proofs.olipranj_serve as f
 use Rattle.export.proofs.olipranj_serve.Statement as stated
@@ -82,11 +81,6 @@ module _ {M : Type 1} (𝓤 : URA M) (H : Heap 𝓤) (A : Atoms 𝓤) (W : Given
     abbrev to-call : Call 𝓤 H A at-mem run .Ghost
     to-call = (((κ, (κ′, tt)), (q, (q′, tt)), tt, passed, storeVals b o h (vint w32 n ∷ [], (v ∷ [], tt))), tt)
 
-    goes-call : Is S.the-row h (store-val h ∷ []) → n < 2 ^ 32 → ent 𝓤 (⋆ 𝓤 H A ((‵ (flft κ q) ⊛ ‵ (flft κ′ q′)) ∷ Lent 𝓤 H A κ b o h g ∷ ‵ Own ∷ [])) (Call 𝓤 H A at-mem run .pre to-call)
-    goes-call is gn =
-        qed W ((‵ (flft κ q) ⊛ ‵ (flft κ′ q′)) ∷ Lent 𝓤 H A κ b o h g ∷ ‵ Own ∷ []) ∵ says ! (sized h is) $ split ! $ nothing ! $ move ! (2 ∷ 0 ∷ []) $ join ! $ move ! (1 ∷ 0 ∷ []) $ join ! $ frame ! $
-        nothing ! $ move ! (2 ∷ 0 ∷ []) $ fjoin ! $ owned ! u32 (Is u32) (uint-makes 𝓤 H A W w32) n _ (refl, gn) $ fjoin ! $ move ! (1 ∷ 0 ∷ []) $ by ! (owns-store 𝓤 H A W κ b o h g is (fsep (u32 .own n (vint w32 n ∷ [])) (fsep Own ftrue)))
-
     said : (r : ℕ) → ent 𝓤 (ensured 𝓤 H A call.ended (call.clauses 𝓤 H A at-mem run) (κ, (κ′, tt)) passed tt r) (fact 𝓤 (ServesLength (lyingStore h) n (now bs) r))
     said r = exE 𝓤 _ (λ ws. snd∗ 𝓤 (sem 𝓤 H A (lasts call.ended (κ, (κ′, tt)) passed ws)) (fact 𝓤 (ServesLength (lyingStore h) n (now bs) r)))
 
@@ -109,7 +103,9 @@ module _ {M : Type 1} (𝓤 : URA M) (H : Heap 𝓤) (A : Atoms 𝓤) (W : Given
         pass1 ! (init ! 5 refl (tt, tt)) $ pass1 ! (init ! 3 refl (tt, record { fits = gn })) $ pass1 ! (init ! 1 refl (tt, (tt, (record { fits = gb .0 }, tt)))) $ pass0 ! $
         move ! (9 ∷ 10 ∷ 5 ∷ 0 ∷ 7 ∷ 8 ∷ 6 ∷ []) $ lending ! h b o 4 refl refl (λ g was.
         -- [the store's token; the columns' &; the fractured borrow; the pointer; the locals of the store; the cells of kept and sample; …; res; what kept owns, twice; the kept bytes' token; …]
-        move ! (0 ∷ 15 ∷ 1 ∷ 13 ∷ []) $ join ! $ use3 W (raw (Call 𝓤 H A at-mem run .pre (to-call g))) (goes-call g was gn) $
+        nothing ! $ move ! (1 ∷ 16 ∷ 0 ∷ []) $ group ! 3 $ nothing ! $ move ! (14 ∷ 0 ∷ []) $ fjoin ! $ owned ! u32 (Is u32) (uint-makes 𝓤 H A W w32) n _ (refl, gn) $ fjoin ! $
+        -- [what the parameters beside the store own; the tokens; the columns' &; the fractured borrow; …]
+        move ! (1 ∷ 2 ∷ 0 ∷ []) $ use3 W (raw (Call 𝓤 H A at-mem run .pre (to-call g))) (asks 𝓤 H A W κ b o h g was (‵ (flft κ q) ⊛ ‵ (flft κ′ q′) ⊛ ‵ ftrue) (fsep (u32 .own n (vint w32 n ∷ [])) (fsep Own ftrue))) $
         calling ! fm (Call 𝓤 H A at-mem run) known (to-call g) usize (λ r u is. uint-lawful 𝓤 H A W w64 .typed r (u ∷ []) is .0) (‵ (flft κ q) ⊛ ‵ (flft κ′ q′) ⊛ ‵ ftrue) (λ r. raw (ensured 𝓤 H A call.ended (call.clauses 𝓤 H A at-mem run) (κ, (κ′, tt)) (passed g) tt r)) (λ u. id⊢ 𝓤 _) (passes-store ! h b o 4 refl (and-then ! (load ! (from ! (stop !)) (look ! 9 refl)) (and-then ! (load ! (from ! (stop !)) (look ! 7 refl)) (no-more !)))) (λ u r.
         -- [the tokens; the answer; what is said; the fractured borrow; the locals of the store; the cells of kept and sample; res; …]
         forget ! 7 refl $ forget ! 5 refl $ move ! (7 ∷ 8 ∷ []) $ free1 ! $ move ! (5 ∷ 6 ∷ []) $ free1 ! $ move ! (4 ∷ []) $ free-store ! h b o $ free0 ! $
