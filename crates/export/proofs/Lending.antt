@@ -15,7 +15,7 @@ use base.Fml.{Lft, Share, Fml, fsep, flft, fshr-bor, fat, froom, fdies}
 use prog.Wp.{Heap, Env, Spot, Calls, Loops, noLocal}
 use ghost.Atoms.{Atoms, sem}
 use contract.Monad.{fact}
-use types.Kit.{Given, Item, ‵, raw, some, later, _⊛_, ⋆, mean, Post, atRet, Goal, prop, runs, allocs, frees, Seq, Sq, Step, step, cut, _$_, _∵_, Go, !, qed, by, move, use1, use2, split, pick, fsplit, drop, frame, await, done}
+use types.Kit.{Given, Item, ‵, raw, some, later, _⊛_, ⋆, mean, Post, atRet, Goal, prop, runs, allocs, frees, Seq, Sq, Step, step, cut, _$_, _∵_, Go, !, qed, by, move, use1, use2, use3, split, pick, fsplit, drop, frame, await, done}
 use types.Part.{whole, sub, look-in}
 use types.Run.{Reads, Walks, Finds, Opd, Opds, look, init, forget, stop, hop, fld, from, load, addr, of-opd, assigns, and-then, land, returns, alloc1, free1}
 use sound.WpLaws.{FmC}
@@ -23,7 +23,7 @@ use denote.RattleType.{RattleType}
 use denote.Triple.Statement.{Contract, Triple}
 use denote.Triple.Call.{calls-at}
 use denote.Triple.Walked.{says}
-use denote.Laws.{Is, shows}
+use denote.Laws.{Typed, Is, Lawful, shows}
 use denote.Array.{array-lawful}
 use denote.Memory.{cellAt, partAt}
 use denote.Steps.{looks, shuts, peeks}
@@ -215,25 +215,38 @@ module _ {M : Type 1} {𝓤 : URA M} {H : Heap 𝓤} {A : Atoms 𝓤} {K : Type 
             (qed W (held 𝓤 H A b o h l ++ (i ∷ j ∷ k ∷ Γ)) ∵ cut (held 𝓤 H A b o h l) (Filled 𝓤 H A b o h l ∷ []) (i ∷ j ∷ k ∷ Γ) (id⊢ 𝓤 _) $ move ! (1 ∷ 2 ∷ 3 ∷ []) $ done !) after));
       }
 
-module _ {M : Type 1} {𝓤 : URA M} {H : Heap 𝓤} {A : Atoms 𝓤} {K : Type 0} {W : Given 𝓤 H A} {Γ : List (Item 𝓤)} {C : Calls 𝓤 H} {Λ : Loops 𝓤 H} {E : Env 𝓤 H} {τ₀ τ₁ : Ty} {l₀ l₁ : ℕ} {v : Val} {i j : Item 𝓤} {f : Name} {xs : List Operand} {Kf : Val → SProp 𝓤} where
+module _ {M : Type 1} (𝓤 : URA M) (H : Heap 𝓤) (A : Atoms 𝓤) (κ : Lft) (b o : ℕ) (h : Store) (g : Names) (Tokens : Item 𝓤) (rest : Fml) where
+  -- What the worker asks: the tokens, what its parameters own, and that the columns have their lengths.
+  abbrev pub Asked : SProp 𝓤
+  Asked = sep 𝓤 (sep 𝓤 (mean 𝓤 H A Tokens) (sem 𝓤 H A (OwnsStore (OwnRef κ) b o h g rest)))
+      (fact 𝓤 (Sized (lying (h .counts)) (lying (h .keys)) (lying (h .kinds)) (lying (h .values)) (lying (h .stamps))))
+
+  asks : (W : Given 𝓤 H A) → Is S.the-row h (store-val h ∷ []) → ent 𝓤 (⋆ 𝓤 H A (Tokens ∷ Lent 𝓤 H A κ b o h g ∷ ‵ rest ∷ [])) Asked
+  asks W is = qed W (Tokens ∷ Lent 𝓤 H A κ b o h g ∷ ‵ rest ∷ []) ∵ says ! (sized h is) $ frame ! $ by ! (owns-store 𝓤 H A W κ b o h g is rest)
+
+module _ {M : Type 1} {𝓤 : URA M} {H : Heap 𝓤} {A : Atoms 𝓤} {K : Type 0} {W : Given 𝓤 H A} {Γ : List (Item 𝓤)} {C : Calls 𝓤 H} {Λ : Loops 𝓤 H} {E : Env 𝓤 H} {τ₀ τ₁ : Ty} {l₀ l₁ : ℕ} {v : Val} {i j : Item 𝓤} {f : Name} {xs : List Operand} {Kf : Val → SProp 𝓤} {κ : Lft} {Tokens : Item 𝓤} {rest : Fml} where
   -- The worker is called, and what it answers is the answer. The answer's local and the pointer's are freed; what is left is to free the others,
-  -- with what the worker gave back and said.
-  pub calling : K → FmC 𝓤 H (W .laws) C → (c : Contract 𝓤) → Triple 𝓤 (C f) c → (x : c .Ghost)
-      → (R : RattleType) → ((r : R .Denot) (u : Val) → Is R r (u ∷ []) → T (hasTy τ₀ u) × WT u) → (Back : Item 𝓤) (Said : R .Denot → Item 𝓤)
-      → ((u : Val) → ent 𝓤 (c .post x u) (mean 𝓤 H A (later (some (λ (r : R .Denot). (Back ⊛ ‵ (R .own r (u ∷ []))) ⊛ Said r)))))
+  -- with the tokens, the answer and what the worker said.
+  pub calling : K → (h : Store) (b o : ℕ) (g : Names) → Is S.the-row h (store-val h ∷ []) → FmC 𝓤 H (W .laws) C → (c : Contract 𝓤) → Triple 𝓤 (C f) c → (x : c .Ghost)
+      → ent 𝓤 (Asked 𝓤 H A κ b o h g Tokens rest) (c .pre x) → (R : RattleType) → Lawful 𝓤 H A R → R .mir ≡ τ₀ ∷ [] → (Said : R .Denot → Item 𝓤)
+      → ((u : Val) → ent 𝓤 (c .post x u) (mean 𝓤 H A (later (some (λ (r : R .Denot). (Tokens ⊛ ‵ (R .own r (u ∷ []))) ⊛ Said r)))))
       → Opds K W (raw (c .pre x) ∷ i ∷ ‵ (fat fullShare τ₁ l₁ zero v) ∷ j ∷ ‵ (froom τ₀ l₀ zero) ∷ ‵ (fdies τ₀ l₀) ∷ ‵ (fdies τ₁ l₁) ∷ Γ) ((τ₀, l₀) ∷ (τ₁, l₁) ∷ E) xs (c .args x)
-      → ((u : Val) (r : R .Denot) → Seq K W (Back ∷ ‵ (R .own r (u ∷ [])) ∷ Said r ∷ i ∷ j ∷ Γ) (frees E (prop (Kf u))))
-      → Seq K W (raw (c .pre x) ∷ i ∷ ‵ (fat fullShare τ₁ l₁ zero v) ∷ j ∷ ‵ (froom τ₀ l₀ zero) ∷ ‵ (fdies τ₀ l₀) ∷ ‵ (fdies τ₁ l₁) ∷ Γ)
+      → ((u : Val) (r : R .Denot) → Seq K W (Tokens ∷ ‵ (R .own r (u ∷ [])) ∷ Said r ∷ i ∷ j ∷ Γ) (frees E (prop (Kf u))))
+      → Seq K W (‵ rest ∷ Tokens ∷ Lent 𝓤 H A κ b o h g ∷ i ∷ ‵ (fat fullShare τ₁ l₁ zero v) ∷ j ∷ ‵ (froom τ₀ l₀ zero) ∷ ‵ (fdies τ₀ l₀) ∷ ‵ (fdies τ₁ l₁) ∷ Γ)
       (runs C Λ ((τ₀, l₀) ∷ (τ₁, l₁) ∷ E) (seq (call f xs (place 0 [])) return) (atRet ((τ₀, l₀) ∷ (τ₁, l₁) ∷ E) Kf))
-  calling t fm c known x R typed Back Said back os k = record { prf = script .prf }
+  calling t h b o g was fm c known x asked R lawful one Said back os k = record { prf = script .prf }
     where
-      script : Sq W (raw (c .pre x) ∷ i ∷ ‵ (fat fullShare τ₁ l₁ zero v) ∷ j ∷ ‵ (froom τ₀ l₀ zero) ∷ ‵ (fdies τ₀ l₀) ∷ ‵ (fdies τ₁ l₁) ∷ Γ)
+      typed : (r : R .Denot) (u : Val) → Is R r (u ∷ []) → T (hasTy τ₀ u) × WT u
+      typed r u is = subst (λ (τs : List Ty). Typed τs (u ∷ [])) one (lawful .typed r (u ∷ []) is) .0
+
+      script : Sq W (‵ rest ∷ Tokens ∷ Lent 𝓤 H A κ b o h g ∷ i ∷ ‵ (fat fullShare τ₁ l₁ zero v) ∷ j ∷ ‵ (froom τ₀ l₀ zero) ∷ ‵ (fdies τ₀ l₀) ∷ ‵ (fdies τ₁ l₁) ∷ Γ)
           (runs C Λ ((τ₀, l₀) ∷ (τ₁, l₁) ∷ E) (seq (call f xs (place 0 [])) return) (atRet ((τ₀, l₀) ∷ (τ₁, l₁) ∷ E) Kf))
       script =
+          move ! (1 ∷ 2 ∷ 0 ∷ []) $ use3 W (raw (c .pre x)) (via 𝓤 (Asked 𝓤 H A κ b o h g Tokens rest) (asks 𝓤 H A κ b o h g Tokens rest W was) asked) $
           calls-at ! fm c known x (record { go = os .go }) (λ u.
-          use1 W (later (some (λ (r : R .Denot). (Back ⊛ ‵ (R .own r (u ∷ []))) ⊛ Said r))) (back u) $ await ! tt $ pick ! (λ r.
+          use1 W (later (some (λ (r : R .Denot). (Tokens ⊛ ‵ (R .own r (u ∷ []))) ⊛ Said r))) (back u) $ await ! tt $ pick ! (λ r.
           split ! $ split ! $ move ! (1 ∷ []) $ peeks ! R (Is R) (shows 𝓤 H A R) r (u ∷ []) (λ is.
-          -- [the answer; what is given back; what is said; i; the pointer; j; room for the answer; its end; the pointer's end]
+          -- [the answer; the tokens; what is said; i; the pointer; j; room for the answer; its end; the pointer's end]
           land ! (from ! (stop !)) (init ! 6 refl (typed r u is)) $ returns ! (look ! 6 refl) $ forget ! 6 refl $ forget ! 4 refl $
           move ! (6 ∷ 7 ∷ []) $ free1 ! $ move ! (4 ∷ 6 ∷ []) $ free1 ! $ move ! (1 ∷ 0 ∷ []) $ by ! (k u r .prf))))
 
@@ -242,11 +255,3 @@ module _ {M : Type 1} {𝓤 : URA M} {H : Heap 𝓤} {A : Atoms 𝓤} {K : Type 
   pub drop-store : K → {P₁ P₂ P₃ P₄ P₅ P₆ P₇ P₈ Q : Fml} → Step K W (‵ Q ∷ Γ) G (‵ (fsep P₁ (fsep P₂ (fsep P₃ (fsep P₄ (fsep P₅ (fsep P₆ (fsep P₇ (fsep P₈ Q)))))))) ∷ Γ) G
   drop-store t = step (λ s. fsplit t $ drop t $ fsplit t $ drop t $ fsplit t $ drop t $ fsplit t $ drop t $ fsplit t $ drop t $ fsplit t $ drop t $ fsplit t $ drop t $
       fsplit t $ drop t $ s)
-
-module _ {M : Type 1} (𝓤 : URA M) (H : Heap 𝓤) (A : Atoms 𝓤) (W : Given 𝓤 H A) where
-  -- What the worker asks: the tokens, what its parameters own, and that the columns have their lengths.
-  pub asks : (κ : Lft) (b o : ℕ) (h : Store) (g : Names) → Is S.the-row h (store-val h ∷ []) → (Tokens : Item 𝓤) (rest : Fml)
-      → ent 𝓤 (⋆ 𝓤 H A (Tokens ∷ Lent 𝓤 H A κ b o h g ∷ ‵ rest ∷ [])) (sep 𝓤 (sep 𝓤 (mean 𝓤 H A Tokens) (sem 𝓤 H A (OwnsStore (OwnRef κ) b o h g rest)))
-      (fact 𝓤 (Sized (lying (h .counts)) (lying (h .keys)) (lying (h .kinds)) (lying (h .values)) (lying (h .stamps)))))
-  asks κ b o h g is Tokens rest =
-      qed W (Tokens ∷ Lent 𝓤 H A κ b o h g ∷ ‵ rest ∷ []) ∵ says ! (sized h is) $ frame ! $ by ! (owns-store 𝓤 H A W κ b o h g is rest)
