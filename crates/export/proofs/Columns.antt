@@ -232,6 +232,13 @@ abbrev pub storeArgs : {X : Type 0} (b o : ℕ) (h : Store) → Names → X → 
 storeArgs b o h g x =
     (h .plan, (h .clock, (countsRef b o h g, (keysRef b o h g, (kindsRef b o h g, (valuesRef b o h g, (stampsRef b o h g, (h .slots, x))))))))
 
+-- What is bound at exit of a call so: nothing of the store.
+abbrev pub StoreLasts : Type 0 → Type 0
+StoreLasts X = Unit {0} × (Unit {0} × (Unit {0} × (Unit {0} × (Unit {0} × (Unit {0} × (Unit {0} × (Unit {0} × X)))))))
+
+abbrev pub lastsBeside : {X : Type 0} → StoreLasts X → X
+lastsBeside zs = zs .1 .1 .1 .1 .1 .1 .1 .1
+
 abbrev pub StoreVals : Type 0 → Type 0
 StoreVals X = List Val × (List Val × (List Val × (List Val × (List Val × (List Val × (List Val × (List Val × X)))))))
 

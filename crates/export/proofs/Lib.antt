@@ -1,4 +1,6 @@
+pub mod Walking
 pub mod Values
 pub mod Columns
+pub mod Lending
 pub mod AtOnce
 pub mod Uniqueness
