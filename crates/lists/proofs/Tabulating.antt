@@ -1,4 +1,4 @@
--- Laws of runs: their length and elements, when a list is one, and tests at each of some numbers in a row. Assumes nothing.
+-- Laws of tabulated lists: their length and elements, when a list is one, and tests at each of some numbers in a row. Assumes nothing.
 use mathlib.Core.Path.{_≡_, refl, sym, ap, _∙_}
 use mathlib.Core.Bool.{Bool, true, false, _&&_}
 use mathlib.Core.List.{List, [], _∷_, _++_, map}
@@ -33,7 +33,7 @@ module _ {A : Type 0} (f : ℕ → A) where
   as-tabulate l i n d h k =
       ext-getD d l (tabulate i n f) (h ∙ sym (length-tabulate i n)) (λ j g. let m : j < n = omega arith in k j m ∙ sym (getD-tabulate i n j d m))
 
--- Two runs with the same elements are one.
+-- Two tabulated lists with the same elements are one.
 pub same-tabulate : {A : Type 0} (f g : ℕ → A) (i n : ℕ) → ((j : ℕ) → i ≤ j → j < i + n → f j ≡ g j) → tabulate i n f ≡ tabulate i n g
 unfolding tabulate
 same-tabulate f g i zero h = refl
@@ -92,7 +92,7 @@ all-end f i n h = let s : n - i ≡ 0 = omega arith in rw s
 pub as-tabulate-0 : {A : Type 0} (f : ℕ → A) (l : List A) (n : ℕ) (d : A) → length l ≡ n → ((j : ℕ) → j < n → getD l j d ≡ f j) → l ≡ tabulate 0 n f
 as-tabulate-0 f l n d h k = as-tabulate f l 0 n d h (λ j g. k j g ∙ ap f (sym (zero-add j)))
 
--- Past a run's end stands the default.
+-- Past its end stands the default.
 pub getD-tabulate-past : {A : Type 0} (f : ℕ → A) (i n j : ℕ) (d : A) → n ≤ j → getD (tabulate i n f) j d ≡ d
 getD-tabulate-past f i n j d h = List·getD-eq-default (tabulate i n f) d (omega (arith, length-tabulate f i n))
 

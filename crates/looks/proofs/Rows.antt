@@ -20,5 +20,5 @@ module _ (z : Store) (good : goodStore z ≡ true) (edges : List ℕ) (lows high
     (h : highs ≡ gridOf (λ (w : Edge). w .highest) (planNumbered (z .plan)))
     (t : targets ≡ gridOf (λ (w : Edge). w .target) (planNumbered (z .plan)))
   where
-  pub good-rows : RowsOf (planOf z) (size (planOf z)) edges lows highs targets
-  good-rows = own-count (rows-known z (plan-good z good) (size (planNumbered (z .plan))) edges lows highs targets refl e l h t)
+    pub good-rows : RowsOf (planOf z) (size (planOf z)) edges lows highs targets
+    good-rows = own-count (rows-known z (plan-good z good) (size (planNumbered (z .plan))) edges lows highs targets refl e l h t)

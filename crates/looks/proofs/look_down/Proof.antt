@@ -25,7 +25,7 @@ node-within l =
     omega (arith, l .loop .inv .1 .by (w .plan) (own-count (w .rows)) .0, w .rows .rules .nodes-within)
 
 loop-holds : tie.Need-loop-holds Inv-loop μ-loop
-loop-holds c =(omega arith, looking-starts)
+loop-holds c = (omega arith, looking-starts)
 
 add-visits : tie.Need-add-visits Inv-loop μ-loop
 add-visits c = omega (arith, node-within c)
@@ -61,16 +61,16 @@ loop-less : tie.Need-loop-less Inv-loop μ-loop
 loop-less c =
     let w = (c .before .before .before .before .before .before .before .before) .pre .1 in
     let d = looking-down ((c .before .before .before .before .before .before .before .loop) .inv .1)
-        ((c .before .before .before .before .before .before .look-at) .result) ((c .before .before .before .before .before .before .look-at) .ensures) ((c .before .before .before .before .enum-told) .given .1)
-        ((c .before .before .before .next-in) .result) ((c .before .before .before .next-in) .ensures) ((c .before .to) .given .0 .0) ((c .before .to) .given .1) (w .plan) (own-count (w .rows)) in
+    ((c .before .before .before .before .before .before .look-at) .result) ((c .before .before .before .before .before .before .look-at) .ensures) ((c .before .before .before .before .enum-told) .given .1)
+    ((c .before .before .before .next-in) .result) ((c .before .before .before .next-in) .ensures) ((c .before .to) .given .0 .0) ((c .before .to) .given .1) (w .plan) (own-count (w .rows)) in
     omega (arith, node-within (c .before .before .before .before .before .before .before))
 
 loop-again : tie.Need-loop-again Inv-loop μ-loop
 loop-again c =
     let w = (c .before .before .before .before .before .before .before .before) .pre .1 in
     let d = looking-down ((c .before .before .before .before .before .before .before .loop) .inv .1)
-        ((c .before .before .before .before .before .before .look-at) .result) ((c .before .before .before .before .before .before .look-at) .ensures) ((c .before .before .before .before .enum-told) .given .1)
-        ((c .before .before .before .next-in) .result) ((c .before .before .before .next-in) .ensures) ((c .before .to) .given .0 .0) ((c .before .to) .given .1) (w .plan) (own-count (w .rows)) in (
+    ((c .before .before .before .before .before .before .look-at) .result) ((c .before .before .before .before .before .before .look-at) .ensures) ((c .before .before .before .before .enum-told) .given .1)
+    ((c .before .before .before .next-in) .result) ((c .before .before .before .next-in) .ensures) ((c .before .to) .given .0 .0) ((c .before .to) .given .1) (w .plan) (own-count (w .rows)) in (
       omega arith,
       looking-on ((c .before .before .before .before .before .before .before .loop) .inv .1)
           ((c .before .before .before .before .before .before .look-at) .result) ((c .before .before .before .before .before .before .look-at) .ensures) ((c .before .before .before .before .enum-told) .given .1)

@@ -60,9 +60,10 @@ targets-of-requires c κs = search needs
 
 look-down-requires : tie.Need-look-down-requires
 look-down-requires c κs =
-    let z = asked (c .before .before .before .before .before .before .before .before .before .before) in
-    (size (planOf z),
-    good-lookable z (good-here (c .before .before .before .before .before .before .before .before)) (rows-here (c .before .before .before .before)))
+    let z = asked (c .before .before .before .before .before .before .before .before .before .before) in (
+      size (planOf z),
+      good-lookable z (good-here (c .before .before .before .before .before .before .before .before)) (rows-here (c .before .before .before .before)),
+    )
 
 returns-2 : tie.Need-returns-2
 returns-2 c =
