@@ -48,7 +48,8 @@ placeOver i (some j) = j
 -- By analyte, the place of its copy in a node, over the place that stood there before.
 unfoldable pub laidOver : List ℕ → List ℕ → ℕ → ℕ → List ℕ → List ℕ
 laidOver counts keys node sample before =
-    tabulate 0 analytes (λ a. placeOver (getD before a 0) (find (numberIn keys) (tabulate (width * node) (getD counts node 0) itself) (keyFor sample a)))
+    tabulate 0 analytes λ a.
+    placeOver (getD before a 0) (find (numberIn keys) (tabulate (width * node) (getD counts node 0) itself) (keyFor sample a))
 
 -- The copy at a place; none past the last.
 abbrev pub copyThere : List ℕ → List ℕ → List ℕ → List ℕ → ℕ → Option Copy

@@ -30,8 +30,8 @@ pub data StepsStop (s : List ℕ) (most from number at : ℕ) : Type 0 where
 pub data InStep (s : List ℕ) (start : ℕ) : ℕ → Type 0 where
   itsNumber : InStep s start start
   itsFirst : {number at : ℕ} → numberAt narrow s start ≡ got number at → knownStep number ≡ true → InStep s start at
-  itsSecond : {number a x at : ℕ} → numberAt narrow s start ≡ got number a → knownStep number ≡ true → numberAt narrow s a ≡ got x at → hasTwo number ≡ true
-      → InStep s start at
+  itsSecond : {number a x at : ℕ} → numberAt narrow s start ≡ got number a → knownStep number ≡ true → numberAt narrow s a ≡ got x at
+      → hasTwo number ≡ true → InStep s start at
 
 -- OP: the number at a step's start is read, and is no step's.
 pub record UnknownAt (s : List ℕ) (start at : ℕ) : Type 0 where

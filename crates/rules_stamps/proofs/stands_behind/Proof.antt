@@ -54,8 +54,9 @@ stands-later-requires c κs = search needs
 returns-2 : tie.Need-returns-2
 returns-2 c =
     let a = c .before .before .before .before .before .args in
-    c .stands-later .ensures
-    ∙ behind-later (a .counts .now) (a .stamps .now) (a .n) (a .at) (sym (c .before .before .stands .ensures) ∙ c .before .if1 .left)
+    behind-later (a .counts .now) (a .stamps .now) (a .n) (a .at) (sym (c .before .before .stands .ensures) ∙ c .before .if1 .left)
+    (c .stands-later .result)
+    (c .stands-later .ensures)
 
 pub stands-behind-spec : {M : Type 1} → statement M
 stands-behind-spec =
