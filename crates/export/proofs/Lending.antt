@@ -42,7 +42,7 @@ use Rattle.export.proofs.Values.{store-val, slots-val}
 use Rattle.export.proofs.Columns.{countsAt, keysAt, kindsAt, valuesAt, stampsAt, lying, Names, sized, slots-are, OwnRef, Lent, lends, OwnsStore, owns-store}
 
 -- Where the locals lie: plan, clock, counts, keys, kinds, values, stamps, slots.
-abbrev pub Blocks : Type 0
+abbrev Blocks : Type 0
 Blocks = ℕ × (ℕ × (ℕ × (ℕ × (ℕ × (ℕ × (ℕ × ℕ))))))
 
 -- Their types.
@@ -56,13 +56,13 @@ abbrev slots : Ty
 slots = tyArray Q′.mir slotCount
 
 -- The locals, before the others;
-abbrev pub storeLocals : List Local → List Local
+abbrev storeLocals : List Local → List Local
 storeLocals ls =
     local number valueLocal ∷ local number valueLocal ∷ local (numbers mostNodes) valueLocal ∷ local (numbers places) valueLocal
     ∷ local (numbers places) valueLocal ∷ local (numbers places) valueLocal ∷ local (numbers places) valueLocal ∷ local slots valueLocal ∷ ls
 
 -- the same once they lie somewhere.
-abbrev pub storeEnv : Blocks → List (Ty × ℕ) → List (Ty × ℕ)
+abbrev storeEnv : Blocks → List (Ty × ℕ) → List (Ty × ℕ)
 storeEnv l E =
     (number, l .0) ∷ (number, l .1 .0) ∷ (numbers mostNodes, l .1 .1 .0) ∷ (numbers places, l .1 .1 .1 .0) ∷ (numbers places, l .1 .1 .1 .1 .0)
     ∷ (numbers places, l .1 .1 .1 .1 .1 .0) ∷ (numbers places, l .1 .1 .1 .1 .1 .1 .0) ∷ (slots, l .1 .1 .1 .1 .1 .1 .1) ∷ E
@@ -72,7 +72,7 @@ abbrev fieldAt : ℕ → Place
 fieldAt k = place 1 (deref S′.mir ∷ field k ∷ [])
 
 -- The code that fills the locals from n on.
-abbrev pub lendingCode : ℕ → Body → Body
+abbrev lendingCode : ℕ → Body → Body
 lendingCode n rest =
     seq (assign (place n []) (rvOpd (copy (fieldAt 0)))) (seq (assign (place (n + 1) []) (rvOpd (copy (fieldAt 1))))
     (seq (assign (place (n + 2) []) (addrOf (fieldAt 2))) (seq (assign (place (n + 3) []) (addrOf (fieldAt 3)))
@@ -80,19 +80,18 @@ lendingCode n rest =
     (seq (assign (place (n + 6) []) (addrOf (fieldAt 6))) (seq (assign (place (n + 7) []) (rvOpd (copy (fieldAt 7)))) rest)))))))
 
 -- The operands that pass them on, before others.
-abbrev pub storeOpds : ℕ → List Operand → List Operand
+abbrev storeOpds : ℕ → List Operand → List Operand
 storeOpds n xs =
     copy (place n []) ∷ copy (place (n + 1) []) ∷ copy (place (n + 2) []) ∷ copy (place (n + 3) []) ∷ copy (place (n + 4) []) ∷ copy (place (n + 5) [])
     ∷ copy (place (n + 6) []) ∷ copy (place (n + 7) []) ∷ xs
 
-abbrev pub storeOpdVals : (b o : ℕ) (h : Store) → List Val → List Val
+abbrev storeOpdVals : (b o : ℕ) (h : Store) → List Val → List Val
 storeOpdVals b o h vs =
     vint w32 (h .plan) ∷ vint w32 (h .clock) ∷ vptr b (o + countsAt) ∷ vptr b (o + keysAt) ∷ vptr b (o + kindsAt) ∷ vptr b (o + valuesAt)
     ∷ vptr b (o + stampsAt) ∷ slots-val h ∷ vs
 
 module _ {M : Type 1} (𝓤 : URA M) (H : Heap 𝓤) (A : Atoms 𝓤) where
-  -- The locals from n on are these.
-  abbrev pub localAt : Env 𝓤 H → ℕ → Ty × ℕ
+  abbrev localAt : Env 𝓤 H → ℕ → Ty × ℕ
   localAt E i = getD E i (noLocal 𝓤 H)
 
   abbrev localsFrom : Env 𝓤 H → ℕ → List (Ty × ℕ)
@@ -100,30 +99,28 @@ module _ {M : Type 1} (𝓤 : URA M) (H : Heap 𝓤) (A : Atoms 𝓤) where
       localAt E n ∷ localAt E (n + 1) ∷ localAt E (n + 2) ∷ localAt E (n + 3) ∷ localAt E (n + 4) ∷ localAt E (n + 5) ∷ localAt E (n + 6)
       ∷ localAt E (n + 7) ∷ []
 
-  abbrev pub Lie : Env 𝓤 H → ℕ → Blocks → Type 0
+  -- The locals from n on are these.
+  abbrev Lie : Env 𝓤 H → ℕ → Blocks → Type 0
   Lie E n l = localsFrom E n ≡ storeEnv l []
 
   lies : (E : Env 𝓤 H) (n : ℕ) (l : Blocks) → Lie E n l → (i : ℕ) → getD (localsFrom E n) i (noLocal 𝓤 H) ≡ getD (storeEnv l []) i (noLocal 𝓤 H)
   lies E n l lie i = ap (λ (ls : List (Ty × ℕ)). getD ls i (noLocal 𝓤 H)) lie
 
-  abbrev room : Ty → ℕ → List (Item 𝓤) → List (Item 𝓤)
-  room τ b Γ = ‵ (froom τ b zero) ∷ ‵ (fdies τ b) ∷ Γ
+  -- Room for locals; locals that hold values. Each has its end beside it.
+  abbrev roomsOf : List (Ty × ℕ) → List (Item 𝓤)
+  roomsOf [] = []
+  roomsOf (e ∷ E) = ‵ (froom (e .0) (e .1) zero) ∷ ‵ (fdies (e .0) (e .1)) ∷ roomsOf E
 
-  abbrev cell : Ty → ℕ → Val → List (Item 𝓤) → List (Item 𝓤)
-  cell τ b v Γ = ‵ (fat fullShare τ b zero v) ∷ ‵ (fdies τ b) ∷ Γ
+  abbrev cellsOf : List (Ty × ℕ) → List Val → List (Item 𝓤)
+  cellsOf [] vs = []
+  cellsOf (e ∷ E) [] = []
+  cellsOf (e ∷ E) (v ∷ vs) = ‵ (fat fullShare (e .0) (e .1) zero v) ∷ ‵ (fdies (e .0) (e .1)) ∷ cellsOf E vs
 
   abbrev roomed : Blocks → List (Item 𝓤)
-  roomed l =
-      room number (l .0) (room number (l .1 .0) (room (numbers mostNodes) (l .1 .1 .0) (room (numbers places) (l .1 .1 .1 .0)
-      (room (numbers places) (l .1 .1 .1 .1 .0) (room (numbers places) (l .1 .1 .1 .1 .1 .0) (room (numbers places) (l .1 .1 .1 .1 .1 .1 .0)
-      (room slots (l .1 .1 .1 .1 .1 .1 .1) [])))))))
+  roomed l = roomsOf (storeEnv l [])
 
   abbrev held : (b o : ℕ) (h : Store) → Blocks → List (Item 𝓤)
-  held b o h l =
-      cell number (l .0) (vint w32 (h .plan)) (cell number (l .1 .0) (vint w32 (h .clock))
-      (cell (numbers mostNodes) (l .1 .1 .0) (vptr b (o + countsAt)) (cell (numbers places) (l .1 .1 .1 .0) (vptr b (o + keysAt))
-      (cell (numbers places) (l .1 .1 .1 .1 .0) (vptr b (o + kindsAt)) (cell (numbers places) (l .1 .1 .1 .1 .1 .0) (vptr b (o + valuesAt))
-      (cell (numbers places) (l .1 .1 .1 .1 .1 .1 .0) (vptr b (o + stampsAt)) (cell slots (l .1 .1 .1 .1 .1 .1 .1) (slots-val h) [])))))))
+  held b o h l = cellsOf (storeEnv l []) (storeOpdVals b o h [])
 
   -- Room for them, and they once they are filled: one entry of a context.
   pub Rooms : Blocks → Item 𝓤
@@ -217,7 +214,7 @@ module _ {M : Type 1} {𝓤 : URA M} {H : Heap 𝓤} {A : Atoms 𝓤} {K : Type 
 
 module _ {M : Type 1} (𝓤 : URA M) (H : Heap 𝓤) (A : Atoms 𝓤) (κ : Lft) (b o : ℕ) (h : Store) (g : Names) (Tokens : Item 𝓤) (rest : Fml) where
   -- What the worker asks: the tokens, what its parameters own, and that the columns have their lengths.
-  abbrev pub Asked : SProp 𝓤
+  abbrev Asked : SProp 𝓤
   Asked = sep 𝓤 (sep 𝓤 (mean 𝓤 H A Tokens) (sem 𝓤 H A (OwnsStore (OwnRef κ) b o h g rest)))
       (fact 𝓤 (Sized (lying (h .counts)) (lying (h .keys)) (lying (h .kinds)) (lying (h .values)) (lying (h .stamps))))
 
