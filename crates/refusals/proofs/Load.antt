@@ -6,7 +6,6 @@ use mathlib.Core.Logic.{_≢_, _↔_, _⊎_, inl, inr, ⊎-elim}
 use Prim.Native.Nat.{ℕ, zero, suc, _<_, _≤_}
 use native.Mathlib.Decide.{decLt}
 use native.Mathlib.Omega.{arith}
-use lib.Dec.{eqb}
 use lib.ListN.{length}
 use borrow.Author.Tests.{eqb-true, eqb-false, ne-eqb, ltb-false, le-ltb}
 use Rattle.lists.proofs.Truths.{bool?, not-both}
@@ -17,7 +16,7 @@ use Rattle.store.specs.declared.Copy.{Copy}
 use Rattle.store.specs.declared.Outcome.{Outcome}
 use Rattle.store.specs.declared.Store.{Store}
 use Rattle.store.specs.Answers.{DONE, PLAN, CUT, NUMBER, FORMAT, RULE, TRAIL, answer}
-use Rattle.store.specs.Copies.{hasValue, RESULT, copy, member}
+use Rattle.store.specs.Copies.{hasValue, copy, member}
 use Rattle.store.specs.StoreRules.{goodStore}
 use Rattle.wire.specs.Reading.{Got, got, fault, bind, numberAt}
 use Rattle.wire.proofs.Chains.{got-or-fault, bind-got, bind-fault, check-holds, check-fails}
@@ -80,7 +79,7 @@ module _ (s : List ℕ) where
   kindRest key a = bind (numberAt narrow s a) λ kind b. cond (passes theKind kind) (valueRest key kind b) (fault RULE a)
 
   copy-stops : {start number at : ℕ} → readCopy s start ≡ fault number at → StopsAt s (InCopy s start) number at
-  unfolding readCopy readValue hasValue stampRest valueRest kindRest
+  unfolding readCopy readValue stampRest valueRest kindRest
   copy-stops {start} {number} {at} e = inKey (stage s nothing start kindRest e)
     where
       Stop : Type 0
@@ -91,14 +90,14 @@ module _ (s : List ℕ) where
       inStamp r p v (here h f) = record { own = nothing; place = subst (InCopy s start nothing) h (itsStamp r p v); fails = f }
       inStamp r p v (later q g) = absurd (got-or-fault refl g)
 
-      inValue : {key a kind b : ℕ} → numberAt narrow s start ≡ got key a → Passes s theKind a kind b → (eqb kind RESULT ≡ true) ⊎ (eqb kind RESULT ≡ false)
+      inValue : {key a kind b : ℕ} → numberAt narrow s start ≡ got key a → Passes s theKind a kind b → (hasValue kind ≡ true) ⊎ (hasValue kind ≡ false)
           → (readValue s kind b ≡ fault number at) ⊎ After (readValue s kind b) (stampRest key kind) number at → Stop
       inValue {kind = kind} {b} r p (inl t) (inl g) =
           let q : numberAt narrow s b ≡ fault number at = rw t at g in
           let h = number-fault-at s b q in
           record {
             own = nothing;
-            place = subst (InCopy s start nothing) h (itsValue r (p .read ∙ ap (λ (k : ℕ). got k b) (eqb-true kind RESULT t)));
+            place = subst (InCopy s start nothing) h (itsValue r p t);
             fails = inl (ap (numberAt narrow s) (sym h) ∙ q);
           }
       inValue {b = b} r p (inr f) (inl g) = absurd (got-or-fault {A = ℕ} refl (rw f at g))
@@ -106,21 +105,20 @@ module _ (s : List ℕ) where
 
       inKind : {key a : ℕ} → numberAt narrow s start ≡ got key a → Staged s theKind a (valueRest key) number at → Stop
       inKind r (here h f) = record { own = theKind; place = subst (InCopy s start theKind) h (itsKind r); fails = f }
-      inKind {key} r (later {v = kind} {next = b} p g) = inValue r p (bool? (eqb kind RESULT)) (first-fault (readValue s kind b) (stampRest key kind) .0 g)
+      inKind {key} r (later {v = kind} {next = b} p g) = inValue r p (bool? (hasValue kind)) (first-fault (readValue s kind b) (stampRest key kind) .0 g)
 
       inKey : Staged s nothing start kindRest number at → Stop
       inKey (here h f) = record { own = nothing; place = subst (InCopy s start nothing) h itsKey; fails = f }
       inKey (later {v = key} {next = a} p g) = inKind (p .read) (stage s theKind a (valueRest key) g)
 
   copy-fails : {start number at : ℕ} {own : Own} → InCopy s start own at → Fails s own at number → readCopy s start ≡ fault number at
-  unfolding readCopy readValue hasValue stampRest valueRest kindRest
+  unfolding readCopy readValue stampRest valueRest kindRest
   copy-fails {start} itsKey f = stage-here s nothing start kindRest f
   copy-fails {start} {at = at} (itsKind {key} r) f =
       stage-later s nothing start kindRest (record { read = r; passed = refl }) ∙ stage-here s theKind at (valueRest key) f
-  copy-fails {start} {at = at} (itsValue {key} {a} r p) f =
-      stage-later s nothing start kindRest (record { read = r; passed = refl })
-      ∙ stage-later s theKind a (valueRest key) (record { read = p; passed = refl })
-      ∙ stage-here s nothing at (stampRest key RESULT) f
+  copy-fails {start} {number} {at} (itsValue {key} {a} {kind} r p t) f =
+      let reads : valueRest key kind at ≡ fault number at = rw t (stage-here s nothing at (stampRest key kind) f) in
+      stage-later s nothing start kindRest (record { read = r; passed = refl }) ∙ stage-later s theKind a (valueRest key) p ∙ reads
   copy-fails {start} {at = at} (itsStamp {key} {a} {kind} {b} {value} r p v) f =
       stage-later s nothing start kindRest (record { read = r; passed = refl }) ∙ stage-later s theKind a (valueRest key) p ∙ bind-got _ _ v
       ∙ stage-here s nothing at (λ stamp d. got (copy key kind value stamp) d) f
@@ -235,7 +233,7 @@ module _ (s : List ℕ) where
 copy-rule : {s : List ℕ} {start at : ℕ} {own : Own} → InCopy s start own at → refusal own ≡ RULE
 copy-rule itsKey = refl
 copy-rule (itsKind r) = refl
-copy-rule (itsValue r p) = refl
+copy-rule (itsValue r p t) = refl
 copy-rule (itsStamp r p v) = refl
 
 copies-rule : (s : List ℕ) (n start at : ℕ) (own : Own) → InCopies s n start own at → refusal own ≡ RULE

@@ -13,7 +13,7 @@ use Rattle.plan_table.specs.PlanTable.{planNumbered}
 use Rattle.store.specs.declared.Copy.{Copy}
 use Rattle.store.specs.declared.Store.{Store}
 use Rattle.store.specs.Answers.{PLAN, FORMAT, RULE, TRAIL}
-use Rattle.store.specs.Copies.{RESULT}
+use Rattle.store.specs.Copies.{lastKind, hasValue}
 use Rattle.store.specs.StoreRules.{planNumberTest, goodStore}
 use Rattle.wire.specs.Reading.{got, fault, numberAt}
 use Rattle.image_writing.specs.Image.{formatNumber}
@@ -36,7 +36,7 @@ passes theFormat v = eqb v formatNumber
 passes thePlan v = planNumberTest v
 passes theClock v = ltb 0 v
 passes (theCount capacity) v = ltb v (suc capacity)
-passes theKind v = ltb v 2
+passes theKind v = ltb v (suc lastKind)
 passes nothing v = true
 
 -- Its refusal. (A number checked for nothing is never refused so.)
@@ -69,7 +69,8 @@ Fails s own at number = (numberAt narrow s at ≡ fault number at) ⊎ Breaks s 
 pub data InCopy (s : List ℕ) (start : ℕ) : Own → ℕ → Type 0 where
   itsKey : InCopy s start nothing start
   itsKind : {key at : ℕ} → numberAt narrow s start ≡ got key at → InCopy s start theKind at
-  itsValue : {key a at : ℕ} → numberAt narrow s start ≡ got key a → numberAt narrow s a ≡ got RESULT at → InCopy s start nothing at
+  itsValue : {key a kind at : ℕ} → numberAt narrow s start ≡ got key a → Passes s theKind a kind at → hasValue kind ≡ true
+      → InCopy s start nothing at
   itsStamp : {key a kind b value at : ℕ} → numberAt narrow s start ≡ got key a → Passes s theKind a kind b → readValue s kind b ≡ got value at
       → InCopy s start nothing at
 
@@ -125,7 +126,7 @@ pub record BadPlan (s : List ℕ) (at : ℕ) : Type 0 where
 pub data RuleAt (s : List ℕ) (at : ℕ) : Type 0 where
   clock-0 : {next : ℕ} → InImage s theClock at → numberAt narrow s at ≡ got 0 next → RuleAt s at
   count-above : {capacity count next : ℕ} → InImage s (theCount capacity) at → numberAt narrow s at ≡ got count next → capacity < count → RuleAt s at
-  kind-above : {kind next : ℕ} → InImage s theKind at → numberAt narrow s at ≡ got kind next → 1 < kind → RuleAt s at
+  kind-above : {kind next : ℕ} → InImage s theKind at → numberAt narrow s at ≡ got kind next → lastKind < kind → RuleAt s at
 
 -- TRAIL: "bytes after the image".
 pub record Trails (s : List ℕ) (at : ℕ) : Type 0 where

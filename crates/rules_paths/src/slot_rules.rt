@@ -33,10 +33,10 @@ fn slot_good<'a>(
 ) -> bool
     ensures { λ r. ⌜ EachPlan nodes edges lows highs targets (λ p. r ≡ slotTest p slot) ⌝ }
 {
-    if slot.running == 0 {
+    if slot.running == Slot::IDLE {
         return rests(slot);
     }
-    if slot.running != 1 {
+    if slot.running != Slot::RUNNING {
         return false;
     }
     paths::stands_at(

@@ -57,9 +57,10 @@ fn shuffled(mut stamps: Vec<u32>) -> Vec<u32> {
     stamps
 }
 
-/// The stamps measured, with a word for each.
-fn orders() -> [(&'static str, Vec<u32>); 5] {
-    let nodes: Vec<usize> = places(&make(1, Fill::Full)).iter().map(Vec::len).collect();
+/// The stores measured, with a word for the stamps of each.
+fn orders() -> [(&'static str, model::Store); 6] {
+    let full = make(1, Fill::Full);
+    let nodes: Vec<usize> = places(&full).iter().map(Vec::len).collect();
     let copies = nodes.iter().sum::<usize>() as u32;
     let rising: Vec<u32> = (1..=copies).collect();
     let mut falling = rising.clone();
@@ -69,12 +70,15 @@ fn orders() -> [(&'static str, Vec<u32>); 5] {
         node.reverse();
         rest = later;
     }
+    let numbers: Vec<u32> = std::iter::repeat_with(random()).take(copies as usize).collect();
+    let multiples: Vec<u32> = (1..=copies).map(|i| MARKS * i).collect();
     [
-        ("in a row, rising with the key", rising.clone()),
-        ("in a row, falling in each node", falling),
-        ("in a row, in random order", shuffled(rising)),
-        ("random numbers", std::iter::repeat_with(random()).take(copies as usize).collect()),
-        ("all of one remainder", (1..=copies).map(|i| MARKS * i).collect()),
+        ("as entries and carries leave them", full),
+        ("in a row, rising with the key", stamped(&rising)),
+        ("in a row, falling in each node", stamped(&falling)),
+        ("in a row, in random order", stamped(&shuffled(rising))),
+        ("random numbers", stamped(&numbers)),
+        ("all of one remainder", stamped(&multiples)),
     ]
 }
 
@@ -82,8 +86,7 @@ fn orders() -> [(&'static str, Vec<u32>); 5] {
 pub fn print() {
     println!("\n| stamps of a full store of plan 1 | the check: library / model = ratio |");
     println!("|---|---|");
-    for (name, stamps) in orders() {
-        let store = stamped(&stamps);
+    for (name, store) in orders() {
         let library = raw(&store);
         assert_eq!(library.clone().cancel(IDLE).number, model::cancel(&mut store.clone(), IDLE).number);
         let (ours, plain) = both(

@@ -38,7 +38,7 @@ add-stands-2 : tie.Need-add-stands-2
 add-stands-2 c = omega (arith, within (c .before .before))
 
 stands-requires : tie.Need-stands-requires
-stands-requires c κs = let s = c .before .before in (omega (arith, s .pre .0 .1), omega (arith, within s))
+stands-requires c κs = let s = c .before .before in (omega (arith, s .pre .0 .2), omega (arith, within s))
 
 returns : tie.Need-returns
 returns c =
