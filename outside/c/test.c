@@ -70,10 +70,10 @@ static olipranj_store scheduled(void)
     olipranj_store store = empty(1);
     store.clock = 3;
     store.counts[1] = 1;
-    store.keys[64] = 33;
-    store.kinds[64] = 1;
-    store.values[64] = 210;
-    store.stamps[64] = 2;
+    store.keys[OLIPRANJ_NODE_PLACES] = 33;
+    store.kinds[OLIPRANJ_NODE_PLACES] = 1;
+    store.values[OLIPRANJ_NODE_PLACES] = 210;
+    store.stamps[OLIPRANJ_NODE_PLACES] = 2;
     return store;
 }
 
@@ -166,7 +166,7 @@ static void bad_store(void)
 {
     olipranj_store store = scheduled(), before;
     uint8_t buffer[16], untouched[16];
-    store.stamps[64] = 3;
+    store.stamps[OLIPRANJ_NODE_PLACES] = 3;
     before = store;
     memset(untouched, 0xEE, sizeof untouched);
     memcpy(buffer, untouched, sizeof untouched);

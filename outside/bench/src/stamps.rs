@@ -4,6 +4,8 @@
 
 use std::hint::black_box;
 
+use model::NODE_PLACES;
+
 use crate::calls::raw;
 use crate::measure::both;
 use crate::stores::{make, Fill};
@@ -15,7 +17,7 @@ const IDLE: u32 = 7;
 
 /// The places of all copies, from the last node to the root, in a node by rising key; a list for each node.
 fn places(store: &model::Store) -> Vec<Vec<usize>> {
-    let node = |n: usize| (64 * n..64 * n + store.counts[n] as usize).collect();
+    let node = |n: usize| (NODE_PLACES * n..NODE_PLACES * n + store.counts[n] as usize).collect();
     (0..store.counts.len()).rev().map(node).collect()
 }
 

@@ -46,7 +46,8 @@ pub fn step(random: &mut Random, keys: &[u32], carries: usize) -> Call {
         21 if random.once_in(4) => random.pick(&[0, 7, 8, u32::MAX]),
         _ => 3,
     };
-    let slot = if random.once_in(20) { random.pick(&[8, 9, 255, u32::MAX]) } else { random.small(8) };
+    let slots = model::SLOTS as u32;
+    let slot = if random.once_in(20) { random.pick(&[slots, slots + 1, 255, u32::MAX]) } else { random.small(slots) };
     let unused = if random.once_in(4) { random.number() } else { 0 };
     match number {
         1 => Call::Step(1, key(random, keys), random.number()),
