@@ -153,18 +153,9 @@ pub fn load_nodes<'a>(
         stamps,
         at,
     );
+    let at = end.at;
     if !end.ok {
-        return refuse(end.fault, end.at, counts, keys, kinds, values, stamps);
+        return refuse(end.fault, at, counts, keys, kinds, values, stamps);
     }
-    finish(
-        bytes,
-        end.at,
-        plan,
-        clock,
-        counts,
-        keys,
-        kinds,
-        values,
-        stamps,
-    )
+    finish(bytes, at, plan, clock, counts, keys, kinds, values, stamps)
 }

@@ -1,39 +1,62 @@
--- A table with a row for each plan, and row 0 for numbers that no plan has, gives what is said of the plan by its number. Assumes nothing.
-use mathlib.Core.Path.{_≡_, sym, ap, _∙_}
-use mathlib.Core.List.{List, [], _∷_, map}
-use Prim.Native.Nat.{ℕ, zero, suc, _<_, _≤_}
+-- What is said of a plan by its number, row by row of the table.
+use mathlib.Core.Path.{_≡_, refl, sym, ap, _∙_}
+use mathlib.Core.Bool.{cond}
+use mathlib.Core.List.{List, [], map}
+use Prim.Native.Nat.{ℕ, zero, suc, _+_, _<_, _≤_}
 use native.Mathlib.Omega.{arith}
 use native.Mathlib.Decide.{decLt}
+use lib.Dec.{leb}
 use lib.ListN.{getD}
 use borrow.Author.Tests.{le-leb, lt-leb}
 use Rattle.lists.proofs.Storing.{getD-map}
 use Rattle.plan.specs.Plan.{Plan}
-use Rattle.plan_table.specs.PlanTable.{planTable, plans, planNumbered, rowOf}
+use Rattle.plan_table.specs.PlanTable.{planTable, plans, planNumbered}
 use Rattle.plan_table.proofs.TableLaws.{no-plan}
 
--- The row of a number is its own, or row 0.
+-- The plan with this number, if its row is among so many first ones; else a plan without nodes.
+unfoldable pub among : ℕ → ℕ → Plan
+among rows plan = cond (leb plan rows) (planNumbered plan) []
+
 module _ (plan : ℕ) where
-  pub row-own : plan ≤ plans → rowOf plan ≡ plan
-  unfolding rowOf
-  row-own h = rw (le-leb plan plans h)
+  own : (rows : ℕ) → plan ≤ rows → among rows plan ≡ planNumbered plan
+  unfolding among
+  own rows h = rw (le-leb plan rows h)
 
-  pub row-none : plans < plan → rowOf plan ≡ 0
-  unfolding rowOf
-  row-none h = rw (lt-leb plan plans h)
+  other : (rows : ℕ) → rows < plan → among rows plan ≡ []
+  unfolding among
+  other rows h = rw (lt-leb plan rows h)
 
--- The plan in the row of a number is the number's.
-row-plan : (plan : ℕ) → getD ([] ∷ planTable) (rowOf plan) [] ≡ planNumbered plan
-unfolding planNumbered
-row-plan plan = go plan (decLt plans plan)
-  where
-    go : (plan : ℕ) → Dec (plans < plan) → getD ([] ∷ planTable) (rowOf plan) [] ≡ planNumbered plan
-    go plan (yes h) = rw (row-none plan h) (sym (no-plan plan h))
-    go zero (no h) = rw (row-own zero (omega arith))
-    go (suc p) (no h) = rw (row-own (suc p) (omega arith))
+-- Said of a plan, before any row,
+module _ {A : Type 0} (f : Plan → A) (plan : ℕ) where
+  pub no-row : f [] ≡ f (among 0 plan)
+  unfolding planNumbered
+  no-row = go (decLt 0 plan)
+    where
+      go : Dec (0 < plan) → f [] ≡ f (among 0 plan)
+      go (yes h) = ap f (sym (other plan 0 h))
+      go (no h) = let none : 0 ≡ plan = omega arith in ap (λ (n : ℕ). f (planNumbered n)) none ∙ ap f (sym (own plan 0 (omega arith)))
 
--- A table of what is said of each plan says it of the plan by its number.
-pub at-row : {A : Type 0} (f : Plan → A) (rows : List A) (none : A) (plan r : ℕ) → rows ≡ map f ([] ∷ planTable) → r ≡ rowOf plan → r ≤ plans
-    → getD rows r none ≡ f (planNumbered plan)
-unfolding plans
-at-row f rows none plan r e i h =
-    ap (λ (l : List _). getD l r none) e ∙ getD-map f ([] ∷ planTable) r [] none (omega arith) ∙ ap f (ap (λ (j : ℕ). getD ([] ∷ planTable) j []) i ∙ row-plan plan)
+  -- at its own row,
+  pub own-row : (rows : List A) (none : A) (row : ℕ) → rows ≡ map f planTable → row < plans → row + 1 ≡ plan
+      → getD rows row none ≡ f (among (row + 1) plan)
+  unfolding plans planNumbered
+  own-row rows none row e h i =
+      let next : suc row ≡ plan = omega arith in
+      ap (λ (l : List A). getD l row none) e ∙ getD-map f planTable row [] none h ∙ ap (λ (n : ℕ). f (planNumbered n)) next
+      ∙ ap f (sym (own plan (row + 1) (omega arith)))
+
+  -- at another's,
+  pub other-row : (row : ℕ) → (row + 1 ≡ plan → ⊥) → f (among row plan) ≡ f (among (row + 1) plan)
+  other-row row i = go (decLt row plan)
+    where
+      go : Dec (row < plan) → f (among row plan) ≡ f (among (row + 1) plan)
+      go (yes h) = ap f (other plan row h ∙ sym (other plan (row + 1) (omega arith)))
+      go (no h) = ap f (own plan row (omega arith) ∙ sym (own plan (row + 1) (omega arith)))
+
+  -- and past the last.
+  pub last-row : (row : ℕ) → plans ≤ row → f (among row plan) ≡ f (planNumbered plan)
+  last-row row h = go (decLt row plan)
+    where
+      go : Dec (row < plan) → f (among row plan) ≡ f (planNumbered plan)
+      go (yes g) = ap f (other plan row g ∙ sym (no-plan plan (omega arith)))
+      go (no g) = ap f (own plan row (omega arith))

@@ -1,8 +1,6 @@
 -- The three plans. Document 01: "The three plans are a fixed table, with edges numbered from 0 in this order".
-use mathlib.Core.Bool.{cond}
 use mathlib.Core.List.{List, [], _∷_}
 use Prim.Native.Nat.{ℕ, zero, suc}
-use lib.Dec.{leb}
 use lib.ListN.{length, getD}
 use Rattle.plan.specs.declared.Edge.{Edge}
 use Rattle.plan.specs.Sizes.{lastKey}
@@ -43,7 +41,3 @@ plans = length planTable
 unfoldable pub planNumbered : ℕ → Plan
 planNumbered zero = []
 planNumbered (suc p) = getD planTable p []
-
--- The row of a number in a table with a row for each: its own, or row 0 where no plan has the number.
-unfoldable pub rowOf : ℕ → ℕ
-rowOf plan = cond (leb plan plans) plan 0

@@ -1,27 +1,58 @@
--- `plan_table::nodes` meets its contract: the node counts of the table are those of the plans, computed. Assumes nothing.
-use mathlib.Core.Path.{refl}
+-- `plan_table::nodes` meets its contract: the numbers of nodes of the table are those of the plans, computed.
+use mathlib.Core.Path.{_≡_, refl, _∙_}
+use mathlib.Core.Logic.{⊎-elim}
+use Prim.Native.Nat.{_-_, _≤_}
 use native.Mathlib.Omega.{arith}
 use Rattle.plan.specs.Plan.{size}
 use Rattle.plan_table.specs.PlanTable.{planTable, plans}
-use Rattle.plan_table.proofs.TableRows.{at-row}
+use Rattle.plan_table.proofs.TableRows.{among, no-row, own-row, other-row, last-row}
 use borrow.Author.Needs.{needs}
 use Rattle.plan_table.proofs.nodes.Statement.{statement}
 use Rattle.plan_table.proofs.nodes.Tie as tie
 
-row-requires : tie.Need-row-requires
-row-requires c κs = search needs
+abbrev Inv-loop : tie.InvT-loop
+Inv-loop plan found₀ row₀ found row = (row ≤ plans) × (found ≡ size (among row plan))
 
-mul-result : tie.Need-mul-result
+abbrev μ-loop : tie.MeasureT-loop
+μ-loop plan found₀ row₀ found row = plans - row
+
+loop-holds : tie.Need-loop-holds Inv-loop μ-loop
 unfolding plans planTable
-mul-result c = let h = c .row .ensures .1 in omega arith
+loop-holds c = (omega arith, no-row (λ p. size p) (c .args .plan))
 
-array-read-result : tie.Need-array-read-result
+add-if1 : tie.Need-add-if1 Inv-loop μ-loop
 unfolding plans planTable
-array-read-result c = let h = c .row .ensures .1 in omega arith
+add-if1 c = search needs
 
-returns : tie.Need-returns
-unfolding planTable
-returns c = at-row (λ p. size p) _ 0 (c .before .args .plan) (c .row .result) refl (c .row .ensures .0) (c .row .ensures .1)
+mul-found : tie.Need-mul-found Inv-loop μ-loop
+unfolding plans planTable
+mul-found c = search needs
+
+array-read-found : tie.Need-array-read-found Inv-loop μ-loop
+unfolding plans planTable
+array-read-found c = search needs
+
+add-row : tie.Need-add-row Inv-loop μ-loop
+unfolding plans planTable
+add-row c = search needs
+
+loop-less : tie.Need-loop-less Inv-loop μ-loop
+unfolding plans planTable
+loop-less c = search needs
+
+loop-again : tie.Need-loop-again Inv-loop μ-loop
+unfolding plans planTable
+loop-again c =
+    let l = c .before .before in
+    let plan = l .before .args .plan in
+    let own = own-row (λ p. size p) plan _ 0 (l .loop .row) refl (c .before .loop-test .taken) in
+    let other = other-row (λ p. size p) plan (l .loop .row) in
+    (omega arith, ⊎-elim (λ w. w .1 ∙ own (w .0 .taken)) (λ w. w .1 ∙ l .loop .inv .1 ∙ other (w .0 .left)) (c .if1 .came))
+
+returns : tie.Need-returns Inv-loop μ-loop
+unfolding plans planTable
+returns c = c .before .loop .inv .1 ∙ last-row (λ p. size p) (c .before .before .args .plan) (c .before .loop .row) (let past = c .loop-test .left in omega arith)
 
 pub nodes-spec : {M : Type 1} → statement M
-nodes-spec = tie.close (tie.spec row-requires mul-result array-read-result returns)
+nodes-spec =
+    tie.close (tie.spec Inv-loop μ-loop loop-holds add-if1 mul-found array-read-found add-row loop-less loop-again returns)
