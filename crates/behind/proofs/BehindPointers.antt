@@ -1,7 +1,7 @@
 -- What stands behind the pointer after a sequence of calls of the C interface is what the public calls in their places leave: by the promises
 -- of crate `export` alone. Assumes nothing.
 use mathlib.Core.Path.{_≡_, refl, sym, ap, _∙_}
-use mathlib.Core.Bool.{Bool, true, false, cond}
+use mathlib.Core.Bool.{true, false}
 use mathlib.Core.Logic.{_⊎_, inl, inr}
 use mathlib.Core.List.{List, [], _∷_, map}
 use Prim.Native.Nat.{ℕ}
@@ -21,7 +21,7 @@ use Rattle.schedule.specs.Running.{runOutcome}
 use Rattle.export.specs.Promises.{Gives}
 use Rattle.story.specs.PublicCalls.{Call, accepted, replaced, storeAfter, storeAfterAll}
 use Rattle.story.specs.PublicCalls.Call.{fresh, load}
-use Rattle.behind.specs.Behind.{CallBehind, Does, DoAll, orFresh, publicCall}
+use Rattle.behind.specs.Behind.{CallBehind, MeetsPromise, AllMeet, orFresh, publicCall}
 use Rattle.behind.specs.Behind.CallBehind.{freshens, steps, looks, saves, loads, pages, serves}
 
 -- A refused fresh or load gives a fresh store of plan 1,
@@ -52,17 +52,17 @@ fresh-one z = rw (le-both 1 1 1 plans (omega arith) (omega (arith, first-plan)))
 taken-or-fresh : (o : Outcome) (c : Call) → ((z : Store) → storeAfter c z ≡ replaced o z)
     → (accepted (o .answer) ≡ false → o .store ≡ freshStore 1) → (r : Answer) (z leaves : Store) → Gives o r leaves
     → leaves ≡ storeAfter (orFresh r c) z
-taken-or-fresh o c gives refused r z leaves given = go (accepted r) refl
+taken-or-fresh o c gives refused r z leaves given = go (bool? (accepted r))
   where
     same : accepted r ≡ accepted (o .answer)
     same = ap accepted (given .0)
 
-    go : (b : Bool) → accepted r ≡ b → leaves ≡ storeAfter (cond b c (fresh 1)) z
-    go true e = given .1 ∙ sym (gives z ∙ rw (sym same ∙ e))
-    go false e = given .1 ∙ refused (sym same ∙ e) ∙ sym (fresh-one z)
+    go : (accepted r ≡ true) ⊎ (accepted r ≡ false) → leaves ≡ storeAfter (orFresh r c) z
+    go (inl t) = rw t (given .1 ∙ sym (gives z ∙ rw (sym same ∙ t)))
+    go (inr f) = rw f (given .1 ∙ refused (sym same ∙ f) ∙ sym (fresh-one z))
 
 -- After every call the store behind the pointer is what the call in its place leaves,
-pub call-behind : (c : CallBehind) (z leaves : Store) → Does c z leaves → leaves ≡ storeAfter (publicCall c) z
+pub call-behind : (c : CallBehind) (z leaves : Store) → MeetsPromise c z leaves → leaves ≡ storeAfter (publicCall c) z
 unfolding publicCall storeAfter runOutcome
 call-behind (freshens plan r) z leaves does =
     taken-or-fresh (freshOutcome plan) (fresh plan) (λ y. refl) (fresh-refused plan) r z leaves does
@@ -75,7 +75,7 @@ call-behind (pages sample before r after) z leaves does = does .1
 call-behind (serves sample kept n) z leaves does = does .1
 
 -- and so after every sequence.
-pub calls-behind : (cs : List CallBehind) (z leaves : Store) → DoAll cs z leaves → leaves ≡ storeAfterAll (map publicCall cs) z
+pub calls-behind : (cs : List CallBehind) (z leaves : Store) → AllMeet cs z leaves → leaves ≡ storeAfterAll (map publicCall cs) z
 unfolding storeAfterAll
 calls-behind [] z leaves all = all
 calls-behind (c ∷ cs) z leaves all =

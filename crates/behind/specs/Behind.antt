@@ -24,20 +24,20 @@ pub data CallBehind : Type 0 where
   pages : (sample : ℕ) (before : List ℕ) (answer : Answer) (after : List ℕ) → CallBehind
   serves : (sample : ℕ) (kept : List ℕ) (length : ℕ) → CallBehind
 
--- A call does what its promise says: it finds a store behind the pointer and leaves one there. What is lent to be read is left as it was.
-abbrev pub Does : CallBehind → Store → Store → Type 0
-Does (freshens plan r) finds leaves = FreshensBehind plan r leaves
-Does (steps number x y r) finds leaves = StepsBehind finds number x y r leaves
-Does (looks k r) finds leaves = Looks finds k r × (leaves ≡ finds)
-Does (saves before r after) finds leaves = Saves finds before r after × (leaves ≡ finds)
-Does (loads bytes r) finds leaves = LoadsBehind bytes r leaves
-Does (pages sample before r after) finds leaves = Pages finds sample before r after × (leaves ≡ finds)
-Does (serves sample kept n) finds leaves = ServesLength finds sample kept n × (leaves ≡ finds)
+-- A call meets its promise: it finds a store behind the pointer and leaves one there. What is lent to be read is left as it was.
+abbrev pub MeetsPromise : CallBehind → Store → Store → Type 0
+MeetsPromise (freshens plan r) finds leaves = FreshensBehind plan r leaves
+MeetsPromise (steps number x y r) finds leaves = StepsBehind finds number x y r leaves
+MeetsPromise (looks k r) finds leaves = Looks finds k r × (leaves ≡ finds)
+MeetsPromise (saves before r after) finds leaves = Saves finds before r after × (leaves ≡ finds)
+MeetsPromise (loads bytes r) finds leaves = LoadsBehind bytes r leaves
+MeetsPromise (pages sample before r after) finds leaves = Pages finds sample before r after × (leaves ≡ finds)
+MeetsPromise (serves sample kept n) finds leaves = ServesLength finds sample kept n × (leaves ≡ finds)
 
--- So does each call of a sequence, on the store that the one before it left.
-abbrev pub DoAll : List CallBehind → Store → Store → Type 0
-DoAll [] finds leaves = leaves ≡ finds
-DoAll (c ∷ cs) finds leaves = (next : Store) × Does c finds next × DoAll cs next leaves
+-- Each call of a sequence meets its promise, on the store that the one before it left.
+abbrev pub AllMeet : List CallBehind → Store → Store → Type 0
+AllMeet [] finds leaves = leaves ≡ finds
+AllMeet (c ∷ cs) finds leaves = (next : Store) × MeetsPromise c finds next × AllMeet cs next leaves
 
 -- A fresh or load by its answer: itself if it is accepted, else `fresh 1`.
 abbrev pub orFresh : Answer → Call → Call

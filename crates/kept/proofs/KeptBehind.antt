@@ -17,7 +17,7 @@ use Rattle.story.specs.PublicCalls.{Call, storeAfterAll}
 use Rattle.story.specs.DeclaredNumbers.{DeclaredCalls}
 use Rattle.story.proofs.Follows.{calls-keep-good}
 use Rattle.story.proofs.KeepsDeclared.{calls-keep-declared}
-use Rattle.behind.specs.Behind.{CallBehind, DoAll, publicCall}
+use Rattle.behind.specs.Behind.{CallBehind, AllMeet, publicCall}
 use Rattle.behind.proofs.BehindPointers.{calls-behind}
 use Rattle.kept.specs.Shows.{shows, ShowsSame}
 use Rattle.kept.specs.Kept.{KeptOf, LengthIf}
@@ -27,7 +27,7 @@ use Rattle.kept.proofs.AmendedPages.{not-again, untouched-again, same-e
 
 -- Page wrote into a buffer, calls were made on the store behind the pointer through which it goes on, and what was written was served.
 module _ (z : Store) (declared : Declared z) (sample : ℕ) (before : List ℕ) (r : Answer) (after : List ℕ) (paged : Pages z sample before r after)
-    (done : r .number ≡ DONE) (cs : List CallBehind) (y : Store) (all : DoAll cs z y) (ds : DeclaredCalls (map publicCall cs))
+    (done : r .number ≡ DONE) (cs : List CallBehind) (y : Store) (all : AllMeet cs z y) (ds : DeclaredCalls (map publicCall cs))
     (on : StoreGoesOn (map publicCall cs) z) (kept : List ℕ) (begun : KeptOf r after kept) (n : ℕ) (gives : ServesLength y sample kept n) where
   -- The length that serve gives is what page wrote exactly when every line of the sample shows again what it showed, and 0 exactly otherwise.
   pub page-calls-length : LengthIf (SampleShowsAgain z (map publicCall cs) sample) r n
