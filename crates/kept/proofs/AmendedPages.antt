@@ -29,7 +29,7 @@ use Rattle.story.specs.DeclaredNumbers.{DeclaredCalls}
 use Rattle.story.proofs.Follows.{calls-keep-good, first-stays, rest-stays}
 use Rattle.story.proofs.KeepsDeclared.{calls-keep-declared}
 use Rattle.kept.specs.Shows.{shownOf, shows, ShowsSame}
-use Rattle.kept.specs.Kept.{KeptFrom, ServedExactly, LengthExactly, KeptOf, ServedIf}
+use Rattle.kept.specs.Kept.{KeptFrom, ServedExactly, LengthExactly, ServeSame, KeptOf, ServedIf}
 use Rattle.kept.specs.Amended.{
   StoreGoesOn,
   EntersLine,
@@ -44,7 +44,7 @@ use Rattle.kept.specs.Amended.{
 }
 use Rattle.kept.specs.Amended.ShowsAgain.{untouched, hidden-again}
 use Rattle.kept.proofs.ShownLines.{store-bounded}
-use Rattle.kept.proofs.ExactlyServed.{served-exactly, length-exactly}
+use Rattle.kept.proofs.ExactlyServed.{serve-same, served-exactly, length-exactly}
 use Rattle.kept.proofs.PagesKept.{page-done, from-page-to-serve}
 use Rattle.kept.proofs.LastEntries.{current-after-all, last-late, last-enters, LastOf, entered-then-last}
 
@@ -137,6 +137,11 @@ module _ (z : Store) (good : goodStore z ≡ true) (declared : Declared z) (cs :
     λ same a g. again-if-same (keyFor sample a) (same a g),
     λ again a g. same-if-again (keyFor sample a) (again a g),
   )
+
+  -- Entries of other samples, carries, searches and refused calls change nothing, nor does a load of what was saved.
+  pub untouched-serves-same : (sample : ℕ) → SampleUntouched cs z sample → ServeSame z (storeAfterAll cs z) sample
+  untouched-serves-same sample none-of-it =
+      serve-same z (storeAfterAll cs z) good (calls-keep-good cs z good) sample (same-exactly sample .1 (untouched-again cs z sample none-of-it))
 
   -- Exactly.
   pub served-after-calls : (sample : ℕ) → sample ≤ lastSample → (kept notice : RefT (List ℕ)) → KeptFrom z sample (kept .now)

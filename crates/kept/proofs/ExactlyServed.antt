@@ -14,13 +14,23 @@ use Rattle.store.specs.Layout.{planOf, stateOf}
 use Rattle.store.specs.StoreRules.{goodStore}
 use Rattle.trips.specs.Trips.{Declared}
 use Rattle.page_lines.specs.PageLine.{lastSample}
-use Rattle.page.specs.Promises.{pageNow, stillTrue, servedLength}
+use Rattle.page.specs.Promises.{pageNow, stillTrue, servedLength, served}
 use Rattle.page.proofs.PageLength.{page-some}
 use Rattle.page.proofs.Served.{serves-kept, serves-notice}
 use Rattle.refusals.proofs.Page.{true-exactly}
 use Rattle.kept.specs.Shows.{ShowsSame}
-use Rattle.kept.specs.Kept.{KeptFrom, ServesPage, NoticeIsOther, ServedExactly, LengthExactly}
+use Rattle.kept.specs.Kept.{KeptFrom, ServesPage, NoticeIsOther, ServedExactly, LengthExactly, ServeSame}
 use Rattle.kept.proofs.ShownLines.{page-if-same, same-if-pages}
+
+-- Two good stores that show the same of a sample make the same of any kept bytes.
+pub serve-same : (z y : Store) → goodStore z ≡ true → goodStore y ≡ true → (sample : ℕ) → ShowsSame z y sample → ServeSame z y sample
+unfolding stillTrue served servedLength
+serve-same z y good-z good-y sample same =
+    record {
+      page-same = sym (page-if-same z y sample same);
+      served-same = λ kept notice. rw (good-z, good-y, page-if-same z y sample same);
+      length-same = λ kept. rw (good-z, good-y, page-if-same z y sample same);
+    }
 
 -- The kept bytes are still true exactly when all shows the same.
 true-if-same : (z y : Store) → goodStore y ≡ true → (sample : ℕ) → sample ≤ lastSample → (kept : List ℕ) → KeptFrom z sample kept

@@ -18,7 +18,7 @@ use Rattle.store.specs.Layout.{planOf, stateOf}
 use Rattle.store.specs.StoreRules.{goodStore}
 use Rattle.store.proofs.WhichPlan.{plan-numbered}
 use Rattle.store.proofs.Lifting.{plan-good, state-good}
-use Rattle.theory.specs.Events.{Event, after}
+use Rattle.theory.specs.Events.{after}
 use Rattle.theory.proofs.EventSteps.{entry-stamp, event-clock}
 use Rattle.image_writing.specs.Image.{image}
 use Rattle.trips.specs.Trips.{Declared, idled}

@@ -17,13 +17,13 @@ use Rattle.image_loading.specs.Loading.{loadOutcome}
 use Rattle.image.specs.Promises.{saveBuffer}
 use Rattle.trips.specs.Trips.{loadedAsItself}
 use Rattle.page_lines.specs.PageLine.{analytes, keyFor}
-use Rattle.page.specs.Promises.{pageNow, servedLength, served}
+use Rattle.page.specs.Promises.{pageNow, servedLength}
 use Rattle.story.specs.PublicCalls.{Call, storeAfter, storeAfterAll}
 use Rattle.story.specs.PublicCalls.Call.{load}
 use Rattle.story.specs.Following.{eventOf, replacement, enteredBy}
 use Rattle.story.specs.DeclaredNumbers.{DeclaredCall}
 use Rattle.kept.specs.Shows.{shows}
-use Rattle.kept.specs.Kept.{ServesPage, ServesNotice, NoticeIsOther}
+use Rattle.kept.specs.Kept.{ServesPage, ServesNotice, NoticeIsOther, ServeSame}
 
 -- ---- the calls
 
@@ -101,9 +101,5 @@ pub record SavedAndLoaded (z : Store) : Type 0 where
   pub saved-bytes : (before : List ℕ) → length (image z) ≤ length before → take (length (image z)) (saveBuffer z before) ≡ image z
   -- In place of any other store it is loaded as in its own,
   pub anywhere : (other : Store) → storeAfter (load (image z)) other ≡ storeAfter (load (image z)) z
-  -- and of any sample, and of any kept bytes, it hands back what z does.
-  pub page-same : (other : Store) (sample : ℕ) → pageNow (storeAfter (load (image z)) other) sample ≡ pageNow z sample
-  pub served-same : (other : Store) (sample : ℕ) (kept notice : RefT (List ℕ))
-      → served (storeAfter (load (image z)) other) sample kept notice ≡ served z sample kept notice
-  pub length-same : (other : Store) (sample : ℕ) (kept : List ℕ)
-      → servedLength (storeAfter (load (image z)) other) sample kept ≡ servedLength z sample kept
+  -- and of any sample, and of any kept bytes, it makes what z does.
+  pub serves-same : (other : Store) (sample : ℕ) → ServeSame (storeAfter (load (image z)) other) z sample

@@ -56,6 +56,12 @@ pub record LengthExactly (z y : Store) (sample : ℕ) (kept : List ℕ) : Type 0
   -- and 0 exactly otherwise.
   pub none-exactly : (servedLength y sample kept ≡ 0) ↔ (ShowsSame z y sample → ⊥)
 
+-- Two stores make the same of any kept bytes of a sample.
+pub record ServeSame (z y : Store) (sample : ℕ) : Type 0 where
+  pub page-same : pageNow z sample ≡ pageNow y sample
+  pub served-same : (kept notice : RefT (List ℕ)) → served z sample kept notice ≡ served y sample kept notice
+  pub length-same : (kept : List ℕ) → servedLength z sample kept ≡ servedLength y sample kept
+
 -- ---- from page to serve, by their promises
 
 -- What an accepted page says, and what it leaves in its buffer.
