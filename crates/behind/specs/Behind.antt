@@ -24,7 +24,7 @@ pub data CallBehind : Type 0 where
   pages : (sample : ℕ) (before : List ℕ) (answer : Answer) (after : List ℕ) → CallBehind
   serves : (sample : ℕ) (kept : List ℕ) (length : ℕ) → CallBehind
 
--- A call meets its promise: it finds a store behind the pointer and leaves one there. What is lent to be read is left as it was.
+-- A call meets its promise: it finds a store behind the pointer and leaves one there. A store that is lent to be read is left as it was.
 abbrev pub MeetsPromise : CallBehind → Store → Store → Type 0
 MeetsPromise (freshens plan r) finds leaves = FreshensBehind plan r leaves
 MeetsPromise (steps number x y r) finds leaves = StepsBehind finds number x y r leaves

@@ -4,17 +4,19 @@ use mathlib.Core.Bool.{true, false, cond}
 use mathlib.Core.List.{List, [], _∷_, _++_}
 use mathlib.Core.Logic.{_⊎_}
 use mathlib.Core.Option.{Option, none, some}
-use Prim.Native.Nat.{ℕ, _<_, _≤_}
+use Prim.Native.Nat.{ℕ, _<_}
 use lib.ListN.{length, take}
 use denote.Ref.{RefT}
+use Rattle.store.specs.declared.Answer.{Answer}
 use Rattle.store.specs.declared.Copy.{Copy}
 use Rattle.store.specs.declared.Store.{Store}
+use Rattle.store.specs.Answers.{DONE}
 use Rattle.store.specs.Copies.{hasValue}
 use Rattle.store.specs.State.{orElse}
 use Rattle.theory.specs.Events.{ofLine}
 use Rattle.image_writing.specs.Image.{image}
 use Rattle.image_loading.specs.Loading.{loadOutcome}
-use Rattle.image.specs.Promises.{saveBuffer}
+use Rattle.image.specs.Promises.{Saves}
 use Rattle.trips.specs.Trips.{loadedAsItself}
 use Rattle.page_lines.specs.PageLine.{analytes, keyFor}
 use Rattle.page.specs.Promises.{pageNow, servedLength}
@@ -97,8 +99,8 @@ pub record SavedAndLoaded (z : Store) : Type 0 where
   pub loads : loadOutcome (image z) ≡ loadedAsItself z
   -- Its image is of bytes, so the load is a call with numbers of their declared types.
   pub of-bytes : DeclaredCall (load (image z))
-  -- The bytes that save leaves in a buffer that is long enough begin with its image.
-  pub saved-bytes : (before : List ℕ) → length (image z) ≤ length before → take (length (image z)) (saveBuffer z before) ≡ image z
+  -- What an accepted save wrote is its image: its answer says how many bytes of the buffer that is.
+  pub saved : (before : List ℕ) (r : Answer) (after : List ℕ) → Saves z before r after → r .number ≡ DONE → take (r .a) after ≡ image z
   -- In place of any other store it is loaded as in its own,
   pub anywhere : (other : Store) → storeAfter (load (image z)) other ≡ storeAfter (load (image z)) z
   -- and of any sample, and of any kept bytes, it makes what z does.
