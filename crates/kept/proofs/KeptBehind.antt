@@ -59,7 +59,9 @@ module _ (z : Store) (declared : Declared z) (sample : ℕ) (before : List ℕ) 
         }
       where
         same : ShowsSame z y sample ↔ SampleShowsAgain z calls sample
-        same = subst (λ (w : Store). ShowsSame z w sample ↔ SampleShowsAgain z calls sample) (sym left) (same-exactly z good declared calls ds on sample)
+        same =
+            subst (λ (w : Store). ShowsSame z w sample ↔ SampleShowsAgain z calls sample) (sym left)
+            (same-exactly z good declared calls ds on sample)
 
         f : LengthIf (ShowsSame z y sample) r n
         f = from-page-to-length z y declared good-left declared-left sample before r after paged done kept begun n gives

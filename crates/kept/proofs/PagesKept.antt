@@ -39,7 +39,8 @@ done-at z sample before done = go (bool? (goodStore z)) (decLt lastSample sample
     go (inl g) (no l) (no s) =
         let fits : length (pageNow z sample) ≤ length before = omega arith in
         let t = le-leb sample lastSample (omega arith) in
-        let says : pageAnswer z sample before ≡ answer DONE (length (pageNow z sample)) 0 0 0 = rw (g, t) (done-answer (pageNow z sample) before fits) in
+        let says : pageAnswer z sample before ≡ answer DONE (length (pageNow z sample)) 0 0 0 =
+        rw (g, t) (done-answer (pageNow z sample) before fits) in
         record {
           good = g;
           sample-known = omega arith;

@@ -86,7 +86,8 @@ module _ (z y : Store) (sample : ℕ) where
       → (a b : List ℕ) → pageNow z sample ++ a ≡ pageNow y sample ++ b → ShowsSame z y sample
   same-if-pages good-z declared-z good-y declared-y h a b e n g =
       let lines =
-      same-lines (planOf z) (planOf y) (stateOf z) (stateOf y) sample h (store-bounded z good-z declared-z) (store-bounded y good-y declared-y) a b e in
+      same-lines (planOf z) (planOf y) (stateOf z) (stateOf y) sample h (store-bounded z good-z declared-z)
+      (store-bounded y good-y declared-y) a b e in
       sym (line-shows n (currentIn z (keyFor sample n)))
       ∙ ap valueAndStamp (same-line (planOf z) (planOf y) (stateOf z) (stateOf y) sample lines n g)
       ∙ line-shows n (currentIn y (keyFor sample n))
