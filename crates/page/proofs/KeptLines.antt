@@ -1,6 +1,6 @@
--- Bytes that were a sample's page and still begin with it show the same lines. So a page that is kept goes stale with the first result
--- entered or withdrawn on it. Assumes nothing.
-use mathlib.Core.Path.{_≡_, refl}
+-- Two pages of a sample, of two states of any plans: where they begin one byte string they have the same lines, and where the same is shown of
+-- every analyte they are one page. Assumes nothing.
+use mathlib.Core.Path.{_≡_, refl, ap, _∙_}
 use mathlib.Core.Bool.{Bool, true, false, cond}
 use mathlib.Core.List.{List, _∷_, _++_}
 use mathlib.Core.Option.{Option, none, some}
@@ -12,8 +12,8 @@ use Rattle.store.specs.Copies.{hasValue}
 use Rattle.store.specs.State.{State, lastClock, current}
 use Rattle.page_lines.specs.PageLine.{analytes, lastSample, keyFor, PageLine, pageLine, shown, pageLinesFrom, pageLines}
 use Rattle.page_lines.proofs.LineLaws.{lines-few}
-use Rattle.page.specs.PageBytes.{pageOf, begins}
-use Rattle.page.proofs.PagesApart.{AllSmall, page-apart, begins-rest}
+use Rattle.page.specs.PageBytes.{pageBytes, pageOf}
+use Rattle.page.proofs.PagesApart.{AllSmall, page-apart}
 
 -- Current results have 32-bit values, and stamps below a clock of 32 bits.
 pub record Bounded (p : Plan) (s : State) : Type 0 where
@@ -45,12 +45,28 @@ module _ (p : Plan) (s : State) (sample : ℕ) (bounded : Bounded p s) where
           )
           cases false = q
 
--- Bytes that were the sample's page and that begin with its page as it is now show the same lines.
-pub same-lines : (p : Plan) (s t : State) (sample : ℕ) → sample ≤ lastSample → Bounded p s → Bounded p t → (rest : List ℕ)
-    → begins (pageOf p s sample ++ rest) (pageOf p t sample) ≡ true → pageLines p s sample ≡ pageLines p t sample
-same-lines p s t sample h bs bt rest e =
-    let w = begins-rest (pageOf p s sample ++ rest) (pageOf p t sample) e in
-    page-apart sample sample (pageLines p s sample) (pageLines p t sample) (omega arith) (omega arith)
-    (omega (arith, lines-few p s sample 0 analytes)) (omega (arith, lines-few p t sample 0 analytes))
-    (lines-small p s sample bs 0 analytes (omega arith)) (lines-small p t sample bt 0 analytes (omega arith)) rest (w .0) (w .1)
-    .1
+module _ (p q : Plan) (s t : State) (sample : ℕ) where
+  -- Two pages that begin one byte string have the same lines.
+  pub same-lines : sample ≤ lastSample → Bounded p s → Bounded q t → (a b : List ℕ) → pageOf p s sample ++ a ≡ pageOf q t sample ++ b
+      → pageLines p s sample ≡ pageLines q t sample
+  same-lines h bs bt a b e =
+      page-apart sample sample (pageLines p s sample) (pageLines q t sample) (omega arith) (omega arith)
+      (omega (arith, lines-few p s sample 0 analytes)) (omega (arith, lines-few q t sample 0 analytes))
+      (lines-small p s sample bs 0 analytes (omega arith)) (lines-small q t sample bt 0 analytes (omega arith)) a b e
+      .1
+
+  -- Where the same is shown of so many analytes, the lines are the same;
+  same-lines-from : (b n : ℕ)
+      → ((a : ℕ) → a < b + n → (ls : List PageLine) → shown a (current p s (keyFor sample a)) ls ≡ shown a (current q t (keyFor sample a)) ls)
+      → pageLinesFrom p s sample b n ≡ pageLinesFrom q t sample b n
+  unfolding pageLinesFrom
+  same-lines-from b zero same = refl
+  same-lines-from b (suc n) same =
+      ap (λ (ls : List PageLine). shown b (current p s (keyFor sample b)) ls) (same-lines-from (suc b) n (λ a h. same a (omega arith)))
+      ∙ same b (omega arith) (pageLinesFrom q t sample (suc b) n)
+
+  -- where it is of every analyte, the pages are.
+  pub same-page :
+      ((a : ℕ) → a < analytes → (ls : List PageLine) → shown a (current p s (keyFor sample a)) ls ≡ shown a (current q t (keyFor sample a)) ls)
+      → pageOf p s sample ≡ pageOf q t sample
+  same-page same = ap (pageBytes sample) (same-lines-from 0 analytes (λ a h. same a (omega arith)))

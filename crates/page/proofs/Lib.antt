@@ -1,6 +1,6 @@
 pub mod PagesApart
 pub mod KeptLines
-pub mod Stale
+pub mod Served
 pub mod PageLength
 pub mod LongestPage
 pub mod PageWriting

@@ -27,7 +27,8 @@ use Rattle.page.specs.PageBytes.{mostPageBytes, pageOf, begins}
 use Rattle.page.specs.Promises.{pageNow, pageAnswer, pageBuffer, Pages, stillTrue, servedLength, ServesLength, Handed, served, Serves}
 use Rattle.page.proofs.PageLength.{page-length, page-some}
 use Rattle.page.proofs.PageWriting.{begins-long}
-use Rattle.page.proofs.Stale.{same-page, serves-notice}
+use Rattle.page.proofs.KeptLines.{same-page}
+use Rattle.page.proofs.Served.{serves-notice}
 
 -- ---- the check
 
@@ -56,7 +57,7 @@ lent-page : (z : Store) (sample nodes : ℕ) → nodes ≡ size (planOf z)
     → pageOf (planOf z) (stateIn nodes 0 (z .counts) (z .keys) (z .kinds) (z .values) (z .stamps) []) sample ≡ pageNow z sample
 unfolding stateOf inReach
 lent-page z sample nodes e =
-    same-page (planOf z) (stateOf z) (stateIn nodes 0 (z .counts) (z .keys) (z .kinds) (z .values) (z .stamps) []) (λ k. rw e) sample
+    same-page (planOf z) (planOf z) (stateIn nodes 0 (z .counts) (z .keys) (z .kinds) (z .values) (z .stamps) []) (stateOf z) sample (λ a h ls. rw e)
 
 -- A page as it is now that was written into a scratch with room for the longest is held there.
 pub page-held : (z : Store) (sample nodes : ℕ) {before : List ℕ} {n : ℕ} {after : List ℕ} → sample ≤ lastSample → mostPageBytes ≤ length before

@@ -87,9 +87,9 @@ module _ (p : Plan) (s : State) (sample : ℕ) where
           cases true = omega arith
           cases false = omega arith
 
--- Pages with the same lines show the same of every analyte.
-pub same-line : (p : Plan) (s t : State) (sample : ℕ) → pageLines p s sample ≡ pageLines p t sample → (a : ℕ) → a < analytes
-    → pageLineOf a (current p s (keyFor sample a)) ≡ pageLineOf a (current p t (keyFor sample a))
-same-line p s t sample e a h =
+-- Pages with the same lines, of two states of any plans, show the same of every analyte.
+pub same-line : (p q : Plan) (s t : State) (sample : ℕ) → pageLines p s sample ≡ pageLines q t sample → (a : ℕ) → a < analytes
+    → pageLineOf a (current p s (keyFor sample a)) ≡ pageLineOf a (current q t (keyFor sample a))
+same-line p q s t sample e a h =
     sym (lines-find p s sample a 0 analytes (omega arith) (omega arith)) ∙ ap (λ (ls : List PageLine). find analyteOf ls a) e
-    ∙ lines-find p t sample a 0 analytes (omega arith) (omega arith)
+    ∙ lines-find q t sample a 0 analytes (omega arith) (omega arith)

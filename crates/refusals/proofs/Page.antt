@@ -24,7 +24,7 @@ use Rattle.page_lines.specs.PageLine.{lastSample, pageLines}
 use Rattle.page.specs.PageBytes.{pageLinesBytes, pageBytes, begins}
 use Rattle.page.specs.Promises.{pageNow, pageAnswer, pageBuffer, stillTrue, servedLength, served}
 use Rattle.page.proofs.PagesApart.{begins-rest, rest-begins}
-use Rattle.page.proofs.Stale.{serves-kept, serves-notice}
+use Rattle.page.proofs.Served.{serves-kept, serves-notice}
 use Rattle.refusals.specs.Given.{Among, StillTrue}
 
 -- ---- page

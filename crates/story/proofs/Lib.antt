@@ -8,6 +8,4 @@ pub mod ClockCounts
 pub mod Recalls
 pub mod Slots
 pub mod Finishes
-pub mod KeptPages
-pub mod BehindPointers
 pub mod Uniqueness

@@ -3,5 +3,3 @@ pub mod Following
 pub mod Recent
 pub mod DeclaredNumbers
 pub mod Counts
-pub mod Kept
-pub mod Behind

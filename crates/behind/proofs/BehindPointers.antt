@@ -1,0 +1,82 @@
+-- What stands behind the pointer after a sequence of calls of the C interface is what the public calls in their places leave: by the promises
+-- of crate `export` alone. Assumes nothing.
+use mathlib.Core.Path.{_≡_, refl, sym, ap, _∙_}
+use mathlib.Core.Bool.{true, false}
+use mathlib.Core.Logic.{_⊎_, inl, inr}
+use mathlib.Core.List.{List, [], _∷_, map}
+use Prim.Native.Nat.{ℕ}
+use native.Mathlib.Omega.{arith}
+use Rattle.lists.proofs.Truths.{bool?, not-both, le-both}
+use Rattle.plan_table.specs.PlanTable.{plans}
+use Rattle.plan_table.proofs.TableLaws.{first-plan}
+use Rattle.store.specs.declared.Answer.{Answer}
+use Rattle.store.specs.declared.Outcome.{Outcome}
+use Rattle.store.specs.declared.Store.{Store}
+use Rattle.store.specs.Layout.{freshStore}
+use Rattle.store.specs.StoreRules.{planNumberTest}
+use Rattle.store.specs.Promises.{freshOutcome}
+use Rattle.image_loading.specs.Loading.{loadOutcome}
+use Rattle.image_loading.proofs.LoadWays.{LoadWay, stops, trails, breaks, accepts, load-way}
+use Rattle.schedule.specs.Running.{runOutcome}
+use Rattle.export.specs.Promises.{Gives}
+use Rattle.story.specs.PublicCalls.{Call, accepted, replaced, storeAfter, storeAfterAll}
+use Rattle.story.specs.PublicCalls.Call.{fresh, load}
+use Rattle.behind.specs.Behind.{CallBehind, MeetsPromise, AllMeet, orFresh, publicCall}
+use Rattle.behind.specs.Behind.CallBehind.{freshens, steps, looks, saves, loads, pages, serves}
+
+-- A refused fresh or load gives a fresh store of plan 1,
+fresh-refused : (plan : ℕ) → accepted (freshOutcome plan .answer) ≡ false → freshOutcome plan .store ≡ freshStore 1
+unfolding freshOutcome
+fresh-refused plan = go (bool? (planNumberTest plan))
+  where
+    go : (planNumberTest plan ≡ true) ⊎ (planNumberTest plan ≡ false) → accepted (freshOutcome plan .answer) ≡ false
+        → freshOutcome plan .store ≡ freshStore 1
+    go (inl t) e = absurd (not-both (rw t) e)
+    go (inr t) e = rw t
+
+load-refused : (bytes : List ℕ) → accepted (loadOutcome bytes .answer) ≡ false → loadOutcome bytes .store ≡ freshStore 1
+load-refused bytes = go (load-way bytes)
+  where
+    go : LoadWay bytes → accepted (loadOutcome bytes .answer) ≡ false → loadOutcome bytes .store ≡ freshStore 1
+    go (stops e r) t = ap (λ (o : Outcome). o .store) r
+    go (trails r) t = ap (λ (o : Outcome). o .store) r
+    go (breaks r) t = ap (λ (o : Outcome). o .store) r
+    go (accepts e h g r) t = absurd (not-both (ap (λ (o : Outcome). accepted (o .answer)) r) t)
+
+-- which is what `fresh 1` leaves.
+fresh-one : (z : Store) → storeAfter (fresh 1) z ≡ freshStore 1
+unfolding storeAfter freshOutcome planNumberTest
+fresh-one z = rw (le-both 1 1 1 plans (omega arith) (omega (arith, first-plan)))
+
+-- An outcome in two parts, of a call that gives it and is refused with a fresh store of plan 1.
+taken-or-fresh : (o : Outcome) (c : Call) → ((z : Store) → storeAfter c z ≡ replaced o z)
+    → (accepted (o .answer) ≡ false → o .store ≡ freshStore 1) → (r : Answer) (z leaves : Store) → Gives o r leaves
+    → leaves ≡ storeAfter (orFresh r c) z
+taken-or-fresh o c gives refused r z leaves given = go (bool? (accepted r))
+  where
+    same : accepted r ≡ accepted (o .answer)
+    same = ap accepted (given .0)
+
+    go : (accepted r ≡ true) ⊎ (accepted r ≡ false) → leaves ≡ storeAfter (orFresh r c) z
+    go (inl t) = rw t (given .1 ∙ sym (gives z ∙ rw (sym same ∙ t)))
+    go (inr f) = rw f (given .1 ∙ refused (sym same ∙ f) ∙ sym (fresh-one z))
+
+-- After every call the store behind the pointer is what the call in its place leaves,
+pub call-behind : (c : CallBehind) (z leaves : Store) → MeetsPromise c z leaves → leaves ≡ storeAfter (publicCall c) z
+unfolding publicCall storeAfter runOutcome
+call-behind (freshens plan r) z leaves does =
+    taken-or-fresh (freshOutcome plan) (fresh plan) (λ y. refl) (fresh-refused plan) r z leaves does
+call-behind (loads bytes r) z leaves does =
+    taken-or-fresh (loadOutcome bytes) (load bytes) (λ y. refl) (load-refused bytes) r z leaves does
+call-behind (steps number x y r) z leaves does = does .1
+call-behind (looks k r) z leaves does = does .1
+call-behind (saves before r after) z leaves does = does .1
+call-behind (pages sample before r after) z leaves does = does .1
+call-behind (serves sample kept n) z leaves does = does .1
+
+-- and so after every sequence.
+pub calls-behind : (cs : List CallBehind) (z leaves : Store) → AllMeet cs z leaves → leaves ≡ storeAfterAll (map publicCall cs) z
+unfolding storeAfterAll
+calls-behind [] z leaves all = all
+calls-behind (c ∷ cs) z leaves all =
+    calls-behind cs (all .0) leaves (all .2) ∙ ap (storeAfterAll (map publicCall cs)) (call-behind c z (all .0) (all .1))

@@ -1,0 +1,107 @@
+-- Accepted entries of a line among calls on a store, and what they do to bytes that were kept before them.
+use mathlib.Core.Path.{_≡_}
+use mathlib.Core.Bool.{true, false, cond}
+use mathlib.Core.List.{List, [], _∷_, _++_}
+use mathlib.Core.Logic.{_⊎_}
+use mathlib.Core.Option.{Option, none, some}
+use Prim.Native.Nat.{ℕ, _<_}
+use lib.ListN.{length, take}
+use denote.Ref.{RefT}
+use Rattle.store.specs.declared.Answer.{Answer}
+use Rattle.store.specs.declared.Copy.{Copy}
+use Rattle.store.specs.declared.Store.{Store}
+use Rattle.store.specs.Answers.{DONE}
+use Rattle.store.specs.Copies.{hasValue}
+use Rattle.store.specs.State.{orElse}
+use Rattle.theory.specs.Events.{ofLine}
+use Rattle.image_writing.specs.Image.{image}
+use Rattle.image_loading.specs.Loading.{loadOutcome}
+use Rattle.image.specs.Promises.{Saves}
+use Rattle.trips.specs.Trips.{loadedAsItself}
+use Rattle.page_lines.specs.PageLine.{analytes, keyFor}
+use Rattle.page.specs.Promises.{pageNow, servedLength}
+use Rattle.story.specs.PublicCalls.{Call, storeAfter, storeAfterAll}
+use Rattle.story.specs.PublicCalls.Call.{load}
+use Rattle.story.specs.Following.{eventOf, replacement, enteredBy}
+use Rattle.story.specs.DeclaredNumbers.{DeclaredCall}
+use Rattle.kept.specs.Shows.{shows}
+use Rattle.kept.specs.Kept.{ServesPage, ServesNotice, NoticeIsOther, ServeSame}
+
+-- ---- the calls
+
+-- A call does not replace the store, unless by loading the very bytes that the store saves at that point.
+abbrev pub Stays : Call → Store → Type 0
+Stays c z = (replacement c ≡ none) ⊎ (c ≡ load (image z))
+
+-- A store goes on through calls: it stays through each.
+abbrev pub StoreGoesOn : List Call → Store → Type 0
+StoreGoesOn [] z = Unit {0}
+StoreGoesOn (c ∷ cs) z = Stays c z × StoreGoesOn cs (storeAfter c z)
+
+-- Among calls on a store, one is an accepted entry of the line: it enters the copy x.
+pub record EntersLine (cs : List Call) (z : Store) (k : ℕ) (x : Copy) : Type 0 where
+  pub before : List Call
+  pub call : Call
+  pub later : List Call
+  pub parts : cs ≡ before ++ call ∷ later
+  pub entered : enteredBy (eventOf call) (storeAfterAll before z) ≡ some x
+  pub of-line : x .key ≡ k
+
+-- No accepted entry among the calls is of one of the sample's lines.
+abbrev pub SampleUntouched : List Call → Store → ℕ → Type 0
+SampleUntouched cs z sample = (a : ℕ) → a < analytes → (x : Copy) → EntersLine cs z (keyFor sample a) x → ⊥
+
+-- No accepted entry among the calls withdraws the line: each has a value.
+abbrev pub NotWithdrawn : List Call → Store → ℕ → Type 0
+NotWithdrawn cs z k = (x : Copy) → EntersLine cs z k x → hasValue (x .kind) ≡ true
+
+-- A copy, if it is of the line.
+abbrev pub ifOfLine : ℕ → Option Copy → Option Copy
+ifOfLine k o = cond (ofLine k o) o none
+
+-- The last copy of a line that calls on a store enter, if they enter one.
+unfoldable pub lastEntry : ℕ → List Call → Store → Option Copy
+lastEntry k [] z = none
+lastEntry k (c ∷ cs) z = orElse (lastEntry k cs (storeAfter c z)) (ifOfLine k (enteredBy (eventOf c) z))
+
+-- After calls on the store z a line shows again what z showed of it: nothing was entered of it; or z did not show it, and the last that was
+-- entered of it withdraws it.
+pub data ShowsAgain (z : Store) (cs : List Call) (k : ℕ) : Type 0 where
+  untouched : lastEntry k cs z ≡ none → ShowsAgain z cs k
+  hidden-again : (x : Copy) → shows z k ≡ none → lastEntry k cs z ≡ some x → hasValue (x .kind) ≡ false → ShowsAgain z cs k
+
+-- So does every line of the sample.
+abbrev pub SampleShowsAgain : Store → List Call → ℕ → Type 0
+SampleShowsAgain z cs sample = (a : ℕ) → a < analytes → ShowsAgain z cs (keyFor sample a)
+
+-- ---- what is served
+
+-- The store y serves z's page, of the kept bytes.
+pub record PageServed (z y : Store) (sample : ℕ) (kept notice : RefT (List ℕ)) : Type 0 where
+  pub handed-back : ServesPage z y sample kept notice
+  pub length-given : servedLength y sample (kept .now) ≡ length (pageNow z sample)
+
+-- The store y serves none of the kept bytes.
+pub record PageNotServed (y : Store) (sample : ℕ) (kept notice : RefT (List ℕ)) : Type 0 where
+  pub handed-back : ServesNotice y sample kept notice
+  pub length-given : servedLength y sample (kept .now) ≡ 0
+
+-- After calls on the store z through which it goes on: bytes kept from z are served exactly when every line of the sample shows again what
+-- it showed.
+pub record ServedAfterCalls (z : Store) (cs : List Call) (sample : ℕ) (kept notice : RefT (List ℕ)) : Type 0 where
+  pub served-if-again : SampleShowsAgain z cs sample → PageServed z (storeAfterAll cs z) sample kept notice
+  pub page-only-if-again : NoticeIsOther z sample kept notice → ServesPage z (storeAfterAll cs z) sample kept notice → SampleShowsAgain z cs sample
+  pub length-only-if-again : servedLength (storeAfterAll cs z) sample (kept .now) ≡ length (pageNow z sample) → SampleShowsAgain z cs sample
+  pub notice-otherwise : (SampleShowsAgain z cs sample → ⊥) → PageNotServed (storeAfterAll cs z) sample kept notice
+
+-- A store z is saved and loaded, in place of any other.
+pub record SavedAndLoaded (z : Store) : Type 0 where
+  pub loads : loadOutcome (image z) ≡ loadedAsItself z
+  -- Its image is of bytes, so the load is a call with numbers of their declared types.
+  pub of-bytes : DeclaredCall (load (image z))
+  -- What an accepted save wrote is its image: its answer says how many bytes of the buffer that is.
+  pub saved : (before : List ℕ) (r : Answer) (after : List ℕ) → Saves z before r after → r .number ≡ DONE → take (r .a) after ≡ image z
+  -- In place of any other store it is loaded as in its own,
+  pub anywhere : (other : Store) → storeAfter (load (image z)) other ≡ storeAfter (load (image z)) z
+  -- and of any sample, and of any kept bytes, it makes what z does.
+  pub serves-same : (other : Store) (sample : ℕ) → ServeSame (storeAfter (load (image z)) other) z sample

@@ -1,0 +1,4 @@
+pub mod Shows
+pub mod Kept
+pub mod Amended
+pub mod Examples
