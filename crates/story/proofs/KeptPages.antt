@@ -6,6 +6,7 @@ use mathlib.Core.Bool.{true, false, _&&_, and-false}
 use mathlib.Core.List.{List, [], _++_, List·Memᴰ}
 use mathlib.Core.Option.{some}
 use Prim.Native.Nat.{ℕ, _<_, _≤_}
+use native.Mathlib.Omega.{arith}
 use lib.Dec.{leb}
 use denote.Ref.{RefT}
 use borrow.Author.Tests.{le-leb}
@@ -16,7 +17,7 @@ use Rattle.trips.specs.Trips.{Declared}
 use Rattle.plan.specs.PlanRules.{PlanRules}
 use Rattle.store.specs.declared.Copy.{Copy}
 use Rattle.store.specs.declared.Store.{Store}
-use Rattle.store.specs.Copies.{WITHDRAWN, RESULT}
+use Rattle.store.specs.Copies.{WITHDRAWN, RESULT, stampOf}
 use Rattle.store.specs.State.{State, current}
 use Rattle.store.specs.StateRules.{StateRules}
 use Rattle.store.specs.Layout.{planOf, stateOf}
@@ -29,7 +30,7 @@ use Rattle.page.proofs.PagesApart.{rest-begins}
 use Rattle.page.proofs.KeptLines.{Bounded}
 use Rattle.page.proofs.Stale.{stale-by-result, stale-by-withdrawal, same-page, serves-kept, serves-notice}
 use Rattle.theory.specs.Events.{stateAfterAll, enteredCopies, held}
-use Rattle.theory.specs.Paper.{History, Multicopy}
+use Rattle.theory.specs.Paper.{History, InHistory, Multicopy}
 use Rattle.theory.proofs.EventSteps.{events-keep}
 use Rattle.theory.proofs.Invariants.{history-in, multicopy-held, multicopy, entered-late, currents-stay}
 use Rattle.story.specs.PublicCalls.{Call, storeAfterAll}
@@ -42,11 +43,12 @@ use Rattle.story.proofs.Histories.{same-history}
 use Rattle.story.proofs.KeepsDeclared.{declared-small, history-small}
 
 -- A state with a history of 32-bit values: what a page can show of it has 32 bits.
-bounded : (p : Plan) (s : State) (h : History) → StateRules p s → Multicopy p s h → ((x : Copy) → List·Memᴰ x h → x .value ≤ lastValue) → Bounded p s
+bounded : (p : Plan) (s : State) (h : History) → StateRules p s → Multicopy p s (InHistory h)
+    → ((x : Copy) → List·Memᴰ x h → x .value ≤ lastValue) → Bounded p s
 bounded p s h good c small =
     record {
       values = λ k x e. small x (history-in h k (current p s k) x (c .invariant-1 k .in-history) e .1);
-      stamps = λ k x e. c .h-clock x (history-in h k (current p s k) x (c .invariant-1 k .in-history) e .1);
+      stamps = λ k x e. omega (arith, c .h-clock k (current p s k) (c .invariant-1 k .in-history), ap stampOf e);
       clock = good .clock-within .1;
     }
 

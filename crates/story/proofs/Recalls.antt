@@ -226,7 +226,7 @@ module _ (z : Store) (good : goodStore z ≡ true) (before : List Call) (c : Cal
     held-is-history : (x : Copy) → List·Memᴰ x (held (stateOf z₁)) → List·Memᴰ x h₁
     held-is-history x m =
         let w = held-in-line q (plan-good z₁ good₁) (stateOf z₁) (state-good z₁ good₁) x m in
-        let l : Multicopy q (stateOf z₁) h₁ = store-story before z good in
+        let l : Multicopy q (stateOf z₁) (InHistory h₁) = store-story before z good in
         history-in h₁ (x .key) (line (stateOf z₁) (x .key) (w .0)) x (l .invariant-3 (w .0) (x .key)) (w .1) .1
 
     past : (x : Copy) → List·Memᴰ x (held (stateOf z₁) ++ since) → List·Memᴰ x (h₁ ++ since)

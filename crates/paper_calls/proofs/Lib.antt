@@ -1,0 +1,5 @@
+pub mod Structures
+pub mod Running
+pub mod Carrying
+pub mod SinceReplaced
+pub mod Conserving
