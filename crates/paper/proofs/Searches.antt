@@ -160,7 +160,7 @@ module _ (p : Plan) (rules : PlanRules p) (s : State) (good : StateRules p s) (k
                   let w = in-reach-held p rules s′ k (f .node) x (f .inside) e in
                   history-in (held s ++ enteredCopies p between s) k (line s′ k (w .0)) x
                   (multicopy p rules between s good .invariant-3 (w .0) k) (w .2));
-              no-older = f .recent;
+              no-older = omega (arith, f .recent);
               in-time = running-in-time;
             }
         go (inr w) = absurd (omega (arith, w .1))

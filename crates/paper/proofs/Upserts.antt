@@ -3,7 +3,7 @@ use mathlib.Core.Path.{_≡_, refl, ap, _∙_, subst}
 use mathlib.Core.Logic.{_≢_}
 use mathlib.Core.List.{List, [], _∷_}
 use mathlib.Core.Option.{Option, none, some}
-use Prim.Native.Nat.{ℕ, suc, _+_, _<_}
+use Prim.Native.Nat.{ℕ, _+_, _<_}
 use native.Mathlib.Omega.{arith}
 use native.Mathlib.Decide.{ℕ-discrete}
 use lib.ListN.{length}
@@ -68,7 +68,8 @@ module _ (p : Plan) (rules : PlanRules p) (s : State) (t : ℕ) (H : CopySet) (m
         stamp = a .stamp ∙ m .clock;
         says = a .says ∙ ap (λ (c : ℕ). answer DONE c 0 0 0) (m .clock);
         mcs =
-            to-mcs p rules (after p e s) (event-keeps p rules e s good) (suc t) up (withCopies H (x ∷ []))
+            to-mcs p rules (after p e s) (event-keeps p rules e s good) _
+            (omega (arith, event-counts p e s, ap (λ (o : Option Copy). length (optionList o)) f, m .clock)) (withCopies H (x ∷ []))
             (subst (λ (o : Option Copy). Multicopy p (after p e s) (withCopies H (optionList o))) f
             (multicopy-event p rules s good e H (m .structure)));
         root-contents = λ j. ap (λ (z : State). line z j 0) (a .puts) ∙ at-root s some-node x j;
@@ -78,9 +79,6 @@ module _ (p : Plan) (rules : PlanRules p) (s : State) (t : ℕ) (H : CopySet) (m
     where
       a : EntersCopy s (effect p e s) x
       a = enters-copy p e s x f
-
-      up : after p e s .clock ≡ suc t
-      up = omega (arith, event-counts p e s, ap (λ (o : Option Copy). length (optionList o)) f, m .clock)
 
       some-node : 0 < length (s .nodes)
       some-node = omega (arith, good .a-list-for-each-node, rules .nodes-within)

@@ -6,9 +6,9 @@ use mathlib.Core.List.{List}
 use mathlib.Core.Option.{Option, none, some}
 use Prim.Native.Nat.{ℕ, _≤_}
 use native.Mathlib.Omega.{arith}
-use lib.ListN.{getD}
+use lib.ListN.{length, getD}
 use Rattle.lists.proofs.Options.{one-some}
-use Rattle.plan.specs.Plan.{Plan}
+use Rattle.plan.specs.Plan.{Plan, pathFrom}
 use Rattle.store.specs.declared.Answer.{Answer}
 use Rattle.store.specs.declared.Copy.{Copy}
 use Rattle.store.specs.declared.Slot.{Slot}
@@ -19,28 +19,32 @@ use Rattle.store.specs.StoreRules.{goodStore}
 use Rattle.store.proofs.Laying.{state-slots}
 use Rattle.store.proofs.Lifting.{of-good, plan-good, state-good}
 use Rattle.steps.specs.Searches.{running, ended, lookAnswer}
-use Rattle.theory.specs.Events.{Event, answerOf, stateAfterAll, held}
+use Rattle.theory.specs.Events.{Event, answerOf, stateAfterAll, held, ownSteps, notCancelled}
 use Rattle.theory.specs.Events.Event.{steps}
 use Rattle.theory.specs.Paper.{History, InHistory}
 use Rattle.theory.proofs.Looks.{look-answer}
 use Rattle.paper.specs.Specifications.{RunningSearch}
-use Rattle.paper.proofs.Searches.{running-slot, running-search}
+use Rattle.paper.proofs.Searches.{running-slot, running-search, running-ends}
 use Rattle.story.specs.PublicCalls.{Call, answerTo, Done, storeAfterAll}
 use Rattle.story.specs.PublicCalls.Call.{reads}
 use Rattle.story.specs.PublicCalls.Reading.{look}
-use Rattle.story.specs.Following.{eventOf, eventsOf}
-use Rattle.story.specs.Recent.{currentIn}
+use Rattle.story.specs.Following.{eventOf, eventsOf, sameStore}
+use Rattle.story.specs.Recent.{currentIn, EndsByCall}
 use Rattle.story.proofs.Follows.{acts-as, step-acts, event-answer, calls-keep-good, follows-events}
 use Rattle.story.proofs.Histories.{same-history}
+use Rattle.story.proofs.Recalls.{ends-by-call}
 use Rattle.paper_calls.specs.Structure.{RunsAtHand, RunningRecency}
+
+-- A slot of a store, in its state.
+in-state : (z : Store) (i : ℕ) → slotAt (stateOf z) i ≡ getD (z .slots) i idle
+in-state z i = ap (λ (qs : List Slot). getD qs i idle) (state-slots z)
 
 -- In a good store every slot in use is a search for its key at its node, after its visits.
 pub slot-in-use : (z : Store) → goodStore z ≡ true → (i : ℕ) → getD (z .slots) i idle .running ≢ 0
     → getD (z .slots) i idle ≡ running (getD (z .slots) i idle .key) (getD (z .slots) i idle .node) (getD (z .slots) i idle .visits)
 slot-in-use z good i r =
-    let in-state : slotAt (stateOf z) i ≡ getD (z .slots) i idle = ap (λ (qs : List Slot). getD qs i idle) (state-slots z) in
-    let its = running-slot (planOf z) (stateOf z) (state-good z good) i (subst (λ (q : Slot). q .running ≢ 0) (sym in-state) r) in
-    subst (λ (q : Slot). q ≡ running (q .key) (q .node) (q .visits)) in-state its
+    subst (λ (q : Slot). q ≡ running (q .key) (q .node) (q .visits)) (in-state z i)
+    (running-slot (planOf z) (stateOf z) (state-good z good) i (subst (λ (q : Slot). q .running ≢ 0) (sym (in-state z i)) r))
 
 -- What such a search finds, through any calls that do not replace the store.
 module _ (z : Store) (good : goodStore z ≡ true) (between : List Call) (k n visits i : ℕ) (runs : RunsAtHand z between k n visits i)
@@ -60,7 +64,7 @@ module _ (z : Store) (good : goodStore z ≡ true) (between : List Call) (k n vi
   on-states : RunningSearch p (stateOf z) es k n visits i
   on-states =
       running-search p (plan-good z good) (stateOf z) (state-good z good) k n visits i
-      (ap (λ (qs : List Slot). getD qs i idle) (state-slots z) ∙ runs .in-slot) es (runs .still-runs)
+      (in-state z i ∙ runs .in-slot) es (runs .still-runs)
       (ap (λ (a : Answer). a .number) (one-some says (done .1)) ∙ done .2)
 
   pub running-recency : RunningRecency z between d k n visits i
@@ -74,6 +78,14 @@ module _ (z : Store) (good : goodStore z ≡ true) (between : List Call) (k n vi
         no-older = on-states .no-older;
         in-time = on-states .in-time;
       }
+
+-- Not cancelled, it ends by a call within as many own steps as nodes remain on the key's path from its node on, whatever is called between.
+pub running-ends-by-call : (z : Store) → goodStore z ≡ true → (k n visits i : ℕ) → getD (z .slots) i idle ≡ running k n visits
+    → (cs : List Call) → sameStore cs ≡ true → notCancelled i (eventsOf cs) ≡ true
+    → length (pathFrom (planOf z) k n) ≤ ownSteps i (eventsOf cs) → EndsByCall z i cs
+running-ends-by-call z good k n visits i at cs stays alive enough =
+    ends-by-call z good i cs stays
+    (running-ends (planOf z) (plan-good z good) (stateOf z) (state-good z good) k n visits i (in-state z i ∙ at) (eventsOf cs) alive enough)
 
 -- A look of a good store makes at least one visit: d of its answer.
 pub look-visits : (z : Store) → goodStore z ≡ true → (k : ℕ) (r : Answer) → answerTo (reads (look k)) z ≡ some r → 1 ≤ r .d
