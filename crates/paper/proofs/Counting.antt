@@ -30,7 +30,7 @@ use Rattle.steps.proofs.LineSteps.{afterCarry}
 use Rattle.steps.proofs.CarryLaws.{carry-after, carried-counts, discarded-counts}
 use Rattle.theory.specs.Events.{Event, effect, entryOf, ofLine, carriesLine}
 use Rattle.theory.specs.Events.Event.{enters, carries, starts, steps, cancels, asks}
-use Rattle.paper.specs.Conserved.{discardsLine, replacesLine, KeysWith, CarryCounts, carryAnswer, replacesRoot}
+use Rattle.paper.specs.Conserved.{discardsLine, replacesLine, KeysWith, CountsLines, carryAnswer, replacesRoot}
 use Rattle.paper.proofs.Passing.{passing, passing-rises, passing-only, passing-all, passing-count}
 
 -- What stands in a list is found there.
@@ -142,7 +142,7 @@ module _ (p : Plan) (rules : PlanRules p) (s : State) (good : StateRules p s) (n
       go (merges d) e = subst (λ (o : Effect). Counts o) (sym e) (edge-counts d)
 
   -- A carry's answer, whatever node and edge it names: a lines carried, of them b with a copy discarded.
-  pub carry-counts : CarryCounts p n i s
+  pub carry-counts : CountsLines p n i s
   unfolding effect carriesLine discardsLine
   carry-counts = record { lines-carried = all-counts .carried-keys; lines-discarded = all-counts .discarded-keys }
 

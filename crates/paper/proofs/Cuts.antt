@@ -1,6 +1,6 @@
 -- Invariant 6, with edgesets cut to the keys that reach their node. Assumes nothing.
-use mathlib.Core.Path.{_≡_, refl, sym, ap, _∙_}
-use mathlib.Core.Bool.{Bool, true, false, cond}
+use mathlib.Core.Path.{_≡_, refl, sym, _∙_}
+use mathlib.Core.Bool.{true, false}
 use mathlib.Core.Logic.{_⊎_, inl, inr}
 use mathlib.Core.List.{List, [], _∷_}
 use mathlib.Core.Option.{Option, none, some}
@@ -70,7 +70,7 @@ module _ (p : Plan) (rules : PlanRules p) where
     cut-same n k i = rw (inset-member k n i)
 
     cut-none : (n k : ℕ) → member n (path p k) ≡ false → CutInReach p s n k ≡ none
-    cut-none n k e = ap (λ (b : Bool). cond b (ContentsInReach p s n k) none) e
+    cut-none n k e = rw e
 
     in-inset : (n k : ℕ) (x : Copy) → CutInReach p s n k ≡ some x → Inset p k n
     in-inset n k x e = go (bool? (member n (path p k)))

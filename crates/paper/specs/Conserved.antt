@@ -38,12 +38,12 @@ unfoldable pub replacesLine : Plan → ℕ → Event → State → Bool
 replacesLine p k e s = ofLine k (entryOf p e s) && isSome (line s k 0)
 
 -- The copies of a line replaced at the root.
-abbrev pub replaced : Plan → ℕ → List Event → State → ℕ
-replaced p k es s = summed p (λ e t. bit (replacesLine p k e t)) es s
+abbrev pub replacedAtRoot : Plan → ℕ → List Event → State → ℕ
+replacedAtRoot p k es s = summed p (λ e t. bit (replacesLine p k e t)) es s
 
 -- A line's copies over a sequence: held at the start and entered, they are held at the end, discarded by carries or replaced at the root.
 abbrev pub Conserved : Plan → ℕ → List Event → State → Type 0
-Conserved p k es s = heldOf k s + entries p k es s ≡ heldOf k (stateAfterAll p es s) + discarded p k es s + replaced p k es s
+Conserved p k es s = heldOf k s + entries p k es s ≡ heldOf k (stateAfterAll p es s) + discarded p k es s + replacedAtRoot p k es s
 
 -- So many keys pass a test: they can be listed, each once, in rising order.
 pub record KeysWith (test : ℕ → Bool) (number : ℕ) : Type 0 where
@@ -54,7 +54,7 @@ pub record KeysWith (test : ℕ → Bool) (number : ℕ) : Type 0 where
   pub counted : number ≡ length keys
 
 -- A carry's answer: a is the number of lines that it carries, b of those whose copy it discards.
-pub record CarryCounts (p : Plan) (n i : ℕ) (s : State) : Type 0 where
+pub record CountsLines (p : Plan) (n i : ℕ) (s : State) : Type 0 where
   pub lines-carried : KeysWith (λ k. carriesLine p k (carries n i) s) (answerOf p (carries n i) s .a)
   pub lines-discarded : KeysWith (λ k. discardsLine p k (carries n i) s) (answerOf p (carries n i) s .b)
 
@@ -108,5 +108,5 @@ pub record LineSums (p : Plan) (es : List Event) (s : State) (ks : List ℕ) : T
   pub of-entered : length (enteredCopies p es s) ≡ sumOver ks (λ k. entries p k es s)
   pub of-carried : allCarried p es s ≡ sumOver ks (λ k. carried p k es s)
   pub of-discarded : allDiscarded p es s ≡ sumOver ks (λ k. discarded p k es s)
-  pub of-replaced : allReplaced p es s ≡ sumOver ks (λ k. replaced p k es s)
+  pub of-replaced : allReplaced p es s ≡ sumOver ks (λ k. replacedAtRoot p k es s)
   pub most-carried-by-line : allCarried p es s ≤ sumOver ks (λ k. edgesOn p k * (heldOf k s + entries p k es s))

@@ -18,7 +18,7 @@ use Rattle.theory.specs.Events.{Event, answerOf, stateAfterAll, enteredCopies, 
 use Rattle.theory.specs.Events.Event.{enters, carries, starts, steps}
 use Rattle.theory.specs.Paper.{Contents, Edgeset, ContentsInReach, CopySet, withCopies, HInit}
 use Rattle.paper.specs.Graph.{Inset, UncutInReachInInset}
-use Rattle.paper.specs.Conserved.{discarded, replaced, allCarried, allDiscarded, allReplaced}
+use Rattle.paper.specs.Conserved.{discarded, replacedAtRoot, allCarried, allDiscarded, allReplaced}
 
 -- Plan 3: two ways down, which meet again.
 abbrev pub meeting : Plan
@@ -65,7 +65,7 @@ pub record Shown : Type 0 where
   pub three-entries : entries chain 5 threeEntries (fresh chain) ≡ 3
   pub one-held : heldOf 5 (stateAfterAll chain threeEntries (fresh chain)) ≡ 1
   pub one-discarded : discarded chain 5 threeEntries (fresh chain) ≡ 1
-  pub one-replaced : replaced chain 5 threeEntries (fresh chain) ≡ 1
+  pub one-replaced : replacedAtRoot chain 5 threeEntries (fresh chain) ≡ 1
   pub all-discarded : allDiscarded chain threeEntries (fresh chain) ≡ 1
   pub all-replaced : allReplaced chain threeEntries (fresh chain) ≡ 1
   -- (nodes − 1) × (copies held + accepted entries) is reached: 3 = 3 × (0 + 1)

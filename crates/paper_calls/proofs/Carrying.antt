@@ -1,7 +1,7 @@
 -- A carry's rise is at most its fall, so no count that its answer says is cut off at 0. Assumes nothing.
 use mathlib.Core.Path.{_≡_, ap, _∙_}
 use mathlib.Core.Bool.{true}
-use Prim.Native.Nat.{ℕ, _<_, _≤_}
+use Prim.Native.Nat.{ℕ, _<_}
 use lib.ListN.{length}
 use Rattle.plan.specs.Plan.{Plan, size, edgeOf}
 use Rattle.plan.specs.PlanRules.{IsEdge}
@@ -18,12 +18,12 @@ use Rattle.theory.specs.Events.Event.{carries}
 use Rattle.paper.proofs.Totals.{rise-in-fall}
 use Rattle.story.specs.PublicCalls.{Call, storeAfter}
 use Rattle.story.specs.Following.{eventOf}
-use Rattle.story.specs.Counts.{targetOf, fall, rise}
 use Rattle.story.proofs.Follows.{Acts, acts-as, carry-acts, event-keeps-plan, event-state}
+use Rattle.paper_calls.specs.Sums.{RiseWithinFall}
 
--- A carry along an edge of the store's plan, by a record run too: the target's count rises by at most what the node's falls by.
+-- So it is of a carry along an edge of the store's plan, by a record run too.
 pub rise-within-fall : (c : Call) (n i : ℕ) → eventOf c ≡ carries n i → (z : Store) → goodStore z ≡ true → IsEdge (planOf z) n i
-    → rise z c (targetOf z n i) ≤ fall z c n
+    → RiseWithinFall c n i z
 rise-within-fall c n i is z good d =
     rw (← (before t (down .1)), ← (before n (d .node)), ← (then t (down .1)), ← (then n (d .node)))
     (rise-in-fall p (plan-good z good) (stateOf z) (state-good z good) n i d (stateOf (storeAfter c z)) state)

@@ -15,7 +15,7 @@ use Rattle.store.specs.StoreRules.{goodStore}
 use Rattle.steps.specs.Carries.{bit}
 use Rattle.theory.specs.Events.{Event, entryOf, enteredCopies, held, copiesOf, heldOf}
 use Rattle.theory.proofs.Bound.{copies-append, copies-entered}
-use Rattle.paper.specs.Conserved.{discardsLine, replacesLine, carryAnswer, replacesRoot, discarded, replaced, allCarried, allDiscarded, allReplaced, AllKeys, LineSums}
+use Rattle.paper.specs.Conserved.{discardsLine, replacesLine, carryAnswer, replacesRoot, discarded, replacedAtRoot, allCarried, allDiscarded, allReplaced, AllKeys, LineSums}
 use Rattle.paper.proofs.Conservation.{conserved}
 use Rattle.paper.proofs.Totals.{all-conserved}
 use Rattle.paper.proofs.LineSums.{sum-same, sum-of-copies, line-sums, all-keys}
@@ -64,7 +64,7 @@ module _ (cs : List Call) (z : Store) (good : goodStore z ≡ true) where
   discarded-then : (k : ℕ) → discardedSince k cs z ≡ discarded p k es s
   discarded-then k = w .sums (λ c y. bit (discardedBy k (eventOf c) y)) (λ q e t. bit (discardsLine q k e t)) (discarded-agrees k)
 
-  replaced-then : (k : ℕ) → replacedSince k cs z ≡ replaced p k es s
+  replaced-then : (k : ℕ) → replacedSince k cs z ≡ replacedAtRoot p k es s
   replaced-then k = w .sums (λ c y. bit (replacedBy k (eventOf c) y)) (λ q e t. bit (replacesLine q k e t)) (replaced-agrees k)
 
   -- The copies so far: as many as were held and entered.

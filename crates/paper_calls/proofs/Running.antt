@@ -26,14 +26,12 @@ use Rattle.theory.proofs.Looks.{look-answer}
 use Rattle.paper.specs.Specifications.{RunningSearch}
 use Rattle.paper.proofs.Searches.{running-slot, running-search, running-ends}
 use Rattle.story.specs.PublicCalls.{Call, answerTo, Done, storeAfterAll}
-use Rattle.story.specs.PublicCalls.Call.{reads}
-use Rattle.story.specs.PublicCalls.Reading.{look}
 use Rattle.story.specs.Following.{eventOf, eventsOf, sameStore}
 use Rattle.story.specs.Recent.{currentIn, EndsByCall}
 use Rattle.story.proofs.Follows.{acts-as, step-acts, event-answer, calls-keep-good, follows-events}
 use Rattle.story.proofs.Histories.{same-history}
 use Rattle.story.proofs.Recalls.{ends-by-call}
-use Rattle.paper_calls.specs.Structure.{RunsAtHand, RunningRecency}
+use Rattle.paper_calls.specs.Structure.{RunsAtHand, RunningRecency, VisitsSome}
 
 -- A slot of a store, in its state.
 in-state : (z : Store) (i : ℕ) → slotAt (stateOf z) i ≡ getD (z .slots) i idle
@@ -87,8 +85,8 @@ running-ends-by-call z good k n visits i at cs stays alive enough =
     ends-by-call z good i cs stays
     (running-ends (planOf z) (plan-good z good) (stateOf z) (state-good z good) k n visits i (in-state z i ∙ at) (eventsOf cs) alive enough)
 
--- A look of a good store makes at least one visit: d of its answer.
-pub look-visits : (z : Store) → goodStore z ≡ true → (k : ℕ) (r : Answer) → answerTo (reads (look k)) z ≡ some r → 1 ≤ r .d
+-- A look of a good store makes at least one visit.
+pub look-visits : (z : Store) → goodStore z ≡ true → (k : ℕ) → VisitsSome z k
 unfolding answerTo
 look-visits z good k r e =
     let a = look-answer (planOf z) (plan-good z good) k (stateOf z) in

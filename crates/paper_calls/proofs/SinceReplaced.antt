@@ -43,7 +43,7 @@ use Rattle.story.proofs.Follows.{
 }
 use Rattle.story.proofs.Histories.{entered-same, carried-same, same-history, same-carries, replaced-history, replaced-carries}
 use Rattle.paper_calls.specs.Structure.{copiesSoFar}
-use Rattle.paper_calls.specs.Sums.{sumWith, summedSince, discardedBy, replacedBy, isCarry, numberIn, saidBy}
+use Rattle.paper_calls.specs.Sums.{sumWith, summedSince, discardedBy, replacedBy, isCarry, partSaid, saidBy}
 
 -- The last store that was laid down by a sequence, and the calls since.
 record LastReplaced (cs : List Call) (y : Store) (ds : List Call) : Type 0 where
@@ -174,9 +174,9 @@ pub said-agrees : (part : Answer → ℕ) → part (bare DONE) ≡ 0 → Agrees 
 unfolding isCarry saidBy carryAnswer
 said-agrees part nothing c z good = go (eventOf c) refl
   where
-    go : (e : Event) → eventOf c ≡ e → cond (isCarry e) (numberIn part (answerTo c z)) 0 ≡ part (carryAnswer (planOf z) e (stateOf z))
+    go : (e : Event) → eventOf c ≡ e → cond (isCarry e) (partSaid part (answerTo c z)) 0 ≡ part (carryAnswer (planOf z) e (stateOf z))
     go (carries n i) is =
-        ap (numberIn part) (acts-as c (carries n i) is (carry-acts n i) .answers z) ∙ ap part (event-answer (carries n i) z good)
+        ap (partSaid part) (acts-as c (carries n i) is (carry-acts n i) .answers z) ∙ ap part (event-answer (carries n i) z good)
     go (enters kind j v) is = sym nothing
     go (starts j) is = sym nothing
     go (steps i) is = sym nothing

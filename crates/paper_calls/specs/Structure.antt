@@ -8,6 +8,7 @@ use mathlib.Core.Option.{Option, some}
 use Prim.Native.Nat.{ℕ, suc, _+_, _≤_}
 use lib.ListN.{length, getD}
 use Rattle.plan.specs.Plan.{pathFrom}
+use Rattle.store.specs.declared.Answer.{Answer}
 use Rattle.store.specs.declared.Copy.{Copy}
 use Rattle.store.specs.declared.Store.{Store}
 use Rattle.store.specs.Answers.{DONE, answer}
@@ -19,6 +20,8 @@ use Rattle.theory.specs.Events.{held, stillRuns, ownSteps}
 use Rattle.theory.specs.Paper.{Contents, CopySet, withCopies, InHistory, upserted}
 use Rattle.paper.specs.Specifications.{MCS}
 use Rattle.story.specs.PublicCalls.{Call, storeAfter, answerTo, storeAfterAll}
+use Rattle.story.specs.PublicCalls.Call.{reads}
+use Rattle.story.specs.PublicCalls.Reading.{look}
 use Rattle.story.specs.Following.{eventsOf, sameStore, history}
 use Rattle.story.specs.Recent.{currentIn, reachStamp, atEnd, StoreRecency}
 
@@ -69,3 +72,7 @@ pub record RunningRecency (z : Store) (between : List Call) (d : Call) (k n visi
   pub no-older : reachStamp z n k ≤ stampOf found
   -- and the search took at most as many own steps as nodes remained on the key's path from n on.
   pub in-time : suc (ownSteps i (eventsOf between)) ≤ length (pathFrom (planOf z) k n)
+
+-- A look makes at least one visit: d of its answer.
+abbrev pub VisitsSome : Store → ℕ → Type 0
+VisitsSome z k = (r : Answer) → answerTo (reads (look k)) z ≡ some r → 1 ≤ r .d

@@ -15,8 +15,12 @@ use Rattle.theory.specs.Events.Event.{enters, carries, starts, steps, cancels, 
 use Rattle.paper.specs.Conserved.{replacesRoot, sumOver}
 use Rattle.story.specs.PublicCalls.{Call, storeAfter, answerTo, storeAfterAll}
 use Rattle.story.specs.Following.{eventOf, replacement, enteredBy, hasLine, carriedBy, carriesSince}
-use Rattle.story.specs.Counts.{targetOf}
+use Rattle.story.specs.Counts.{targetOf, fall, rise}
 use Rattle.paper_calls.specs.Structure.{copiesSoFar}
+
+-- A carry's rise is at most its fall: the target's count rises by at most what the node's falls by.
+abbrev pub RiseWithinFall : Call → ℕ → ℕ → Store → Type 0
+RiseWithinFall c n i z = rise z c (targetOf z n i) ≤ fall z c n
 
 -- What a call does to a sum: it starts again at an accepted fresh or load.
 abbrev pub sumWith : Option Store → ℕ → ℕ → ℕ
@@ -64,13 +68,13 @@ isCarry (cancels i) = false
 isCarry asks = false
 
 -- A number of an answer, if there is one.
-abbrev pub numberIn : (Answer → ℕ) → Option Answer → ℕ
-numberIn part none = 0
-numberIn part (some r) = part r
+abbrev pub partSaid : (Answer → ℕ) → Option Answer → ℕ
+partSaid part none = 0
+partSaid part (some r) = part r
 
 -- A number of the answer of a call that is a carry, by a record run too; nothing of any other.
 unfoldable pub saidBy : (Answer → ℕ) → Call → Store → ℕ
-saidBy part c z = cond (isCarry (eventOf c)) (numberIn part (answerTo c z)) 0
+saidBy part c z = cond (isCarry (eventOf c)) (partSaid part (answerTo c z)) 0
 
 -- What the carries' answers say to be carried, summed since the store was last replaced.
 abbrev pub saidCarried : List Call → Store → ℕ

@@ -222,7 +222,7 @@ module _ (p : Plan) (rules : PlanRules p) where
                 in-history =
                     in-history (held s) k (current p s k)
                     (λ x e. let w = in-reach-held p rules s k 0 x (root-in-plan p rules) e in its k (w .0) x (w .2));
-                greatest = newest k;
+                greatest = λ a i. omega (arith, newest k a i);
               };
           invariant-3 = λ n k. in-history (held s) k (line s k n) (its k n);
         }
