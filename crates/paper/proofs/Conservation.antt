@@ -35,7 +35,7 @@ use Rattle.theory.specs.Events.{Event, effect, after, stateAfterAll, entryOf, h
 use Rattle.theory.specs.Events.Event.{enters, carries, starts, steps, cancels, asks}
 use Rattle.theory.proofs.EventSteps.{event-keeps}
 use Rattle.theory.proofs.Bound.{copies-append}
-use Rattle.paper.specs.Conserved.{summed, discardsLine, replacesLine, Conserved}
+use Rattle.paper.specs.Conserved.{summed, intoNode, discardsLine, replacesLine, Conserved}
 
 -- 1 for each node that has the line.
 lineCount : ℕ → List (List Copy) → ℕ
@@ -200,7 +200,7 @@ module _ (p : Plan) (rules : PlanRules p) (k : ℕ) where
     pub event-conserves : (e : Event)
         → heldOf k s + bit (ofLine k (entryOf p e s))
         ≡ heldOf k (after p e s) + bit (discardsLine p k e s) + bit (replacesLine p k e s)
-    unfolding effect entryOf discardsLine replacesLine carriesLine
+    unfolding effect entryOf intoNode discardsLine replacesLine carriesLine
     event-conserves (enters kind j v) = entry-conserves (kindNumber kind) j (valueHeld kind v) (event-keeps p rules (enters kind j v) s good)
     event-conserves (carries n i) = omega (arith, carry-conserves n i (event-keeps p rules (carries n i) s good))
     event-conserves (starts j) = omega (arith, held-still s (after p (starts j) s) (start-still j p s .nodes))

@@ -30,7 +30,7 @@ use Rattle.steps.proofs.LineSteps.{afterCarry}
 use Rattle.steps.proofs.CarryLaws.{carry-after, carried-counts, discarded-counts}
 use Rattle.theory.specs.Events.{Event, effect, entryOf, ofLine, carriesLine}
 use Rattle.theory.specs.Events.Event.{enters, carries, starts, steps, cancels, asks}
-use Rattle.paper.specs.Conserved.{discardsLine, replacesLine, KeysWith, CountsLines, carryAnswer, replacesRoot}
+use Rattle.paper.specs.Conserved.{intoNode, discardsLine, replacesLine, KeysWith, CountsLines, carryAnswer, replacesRoot}
 use Rattle.paper.proofs.Passing.{passing, passing-rises, passing-only, passing-all, passing-count}
 
 -- What stands in a list is found there.
@@ -141,33 +141,22 @@ module _ (p : Plan) (rules : PlanRules p) (s : State) (good : StateRules p s) (n
       go (no-edge h f) e = refused-counts _ refl refl refl
       go (merges d) e = subst (λ (o : Effect). Counts o) (sym e) (edge-counts d)
 
-  -- A carry's answer, whatever node and edge it names: a lines carried, of them b with a copy discarded.
-  pub carry-counts : CountsLines p n i s
-  unfolding effect carriesLine discardsLine
-  carry-counts = record { lines-carried = all-counts .carried-keys; lines-discarded = all-counts .discarded-keys }
-
 -- The lines that an event carries or discards, or whose root copy it replaces, counted.
 module _ (p : Plan) (rules : PlanRules p) (s : State) (good : StateRules p s) where
   no-line : KeysWith (λ k. false) 0
   no-line = keys-none (λ k. false) 0 (λ k. refl) refl
 
-  pub event-carries : (e : Event) → KeysWith (λ k. carriesLine p k e s) (carryAnswer p e s .a)
-  unfolding carriesLine carryAnswer
-  event-carries (carries n i) = carry-counts p rules s good n i .lines-carried
-  event-carries (enters kind j v) = no-line
-  event-carries (starts j) = no-line
-  event-carries (steps i) = no-line
-  event-carries (cancels i) = no-line
-  event-carries asks = no-line
-
-  pub event-discards : (e : Event) → KeysWith (λ k. discardsLine p k e s) (carryAnswer p e s .b)
-  unfolding discardsLine carryAnswer
-  event-discards (carries n i) = carry-counts p rules s good n i .lines-discarded
-  event-discards (enters kind j v) = no-line
-  event-discards (starts j) = no-line
-  event-discards (steps i) = no-line
-  event-discards (cancels i) = no-line
-  event-discards asks = no-line
+  -- A carry's answer, whatever node and edge it names: a lines carried, of them b with a copy discarded.
+  pub counts-lines : (e : Event) → CountsLines p e s
+  unfolding effect carriesLine intoNode discardsLine carryAnswer
+  counts-lines (carries n i) =
+      let c = all-counts p rules s good n i in
+      record { lines-carried = c .carried-keys; lines-discarded = c .discarded-keys }
+  counts-lines (enters kind j v) = record { lines-carried = no-line; lines-discarded = no-line }
+  counts-lines (starts j) = record { lines-carried = no-line; lines-discarded = no-line }
+  counts-lines (steps i) = record { lines-carried = no-line; lines-discarded = no-line }
+  counts-lines (cancels i) = record { lines-carried = no-line; lines-discarded = no-line }
+  counts-lines asks = record { lines-carried = no-line; lines-discarded = no-line }
 
   pub event-replaces : (e : Event) → KeysWith (λ k. replacesLine p k e s) (bit (replacesRoot (entryOf p e s) s))
   unfolding replacesLine

@@ -21,13 +21,13 @@ use Rattle.theory.specs.Events.Event.{enters, carries as carriesAlong}
 use Rattle.theory.specs.Paper.{Edgeset, ContentsInReach}
 use Rattle.theory.proofs.EventSteps.{events-keep}
 use Rattle.paper.specs.Graph.{Inset}
-use Rattle.paper.specs.Conserved.{summed, discardsLine, replacesLine, carryAnswer}
+use Rattle.paper.specs.Conserved.{summed, intoNode, discardsLine, replacesLine, carryAnswer}
 use Rattle.paper.specs.Examples.{meeting, lowKeyCarriedDown, UncutFails, Shown}
 use Rattle.paper.proofs.Cuts.{inset-member}
 
 -- Whoever unfolds this unfolds all definitions that the examples are about.
 opened : Bool
-unfolding planNumbered planTable flatten holds firstEdge next walk pathFrom find member fresh firstOn inReach put room entered entry carries merge countHeld mergeAlong carriedTo carriedOut carryStep lowestIdle startStep withRunning stepStep effect stateAfterAll entryOf enteredCopies held copiesOf entries carriesLine summed discardsLine replacesLine carryAnswer
+unfolding planNumbered planTable flatten holds firstEdge next walk pathFrom find member fresh firstOn inReach put room entered entry carries merge countHeld mergeAlong carriedTo carriedOut carryStep lowestIdle startStep withRunning stepStep effect stateAfterAll entryOf enteredCopies held copiesOf entries carriesLine summed intoNode discardsLine replacesLine carryAnswer
 opened = true
 
 meeting-rules : PlanRules meeting

@@ -15,7 +15,7 @@ use Rattle.lists.proofs.Options.{option?}
 use Rattle.lists.proofs.Members.{place-member}
 use Rattle.lists.proofs.RisingKeys.{rising-later, neighbours-rising}
 use Rattle.lists.proofs.RisingKeys.Rising.{end}
-use Rattle.plan.specs.Plan.{Plan, edgeOf, edgesOn}
+use Rattle.plan.specs.Plan.{Plan, edgesOn}
 use Rattle.plan.specs.PlanRules.{PlanRules}
 use Rattle.store.specs.declared.Copy.{Copy}
 use Rattle.store.specs.Copies.{keyOf, find, isSome}
@@ -46,6 +46,7 @@ use Rattle.theory.proofs.Invariants.{line-in-held, held-in-line, option-member}
 use Rattle.theory.proofs.Bound.{copies-entered, bound}
 use Rattle.paper.specs.Conserved.{
   summed,
+  intoNode,
   discardsLine,
   replacesLine,
   KeysWith,
@@ -57,7 +58,7 @@ use Rattle.paper.specs.Conserved.{
   LineSums,
 }
 use Rattle.paper.proofs.Passing.{Rises, passing-rises, passing-only, passing-all, passing-count, same-length}
-use Rattle.paper.proofs.Counting.{one-key, event-carries, event-discards, event-replaces}
+use Rattle.paper.proofs.Counting.{one-key, counts-lines, event-replaces}
 
 -- Sums.
 sum-add : (ks : List ℕ) (f g : ℕ → ℕ) → sumOver ks (λ k. f k + g k) ≡ sumOver ks f + sumOver ks g
@@ -170,13 +171,7 @@ module _ (p : Plan) (rules : PlanRules p) (ks : List ℕ) (rises : Rises 0 ks) w
 
     discards-in : (e : Event) (k : ℕ) → discardsLine p k e s ≡ true → List·Memᴰ k ks
     unfolding discardsLine
-    discards-in (carries n i) k t =
-        carries-in (carries n i) k (and-left (carriesLine p k (carries n i) s) (isSome (line s k (edgeOf p n i .target))) t)
-    discards-in (enters kind j v) k t = absurd (not-both t refl)
-    discards-in (starts j) k t = absurd (not-both t refl)
-    discards-in (steps i) k t = absurd (not-both t refl)
-    discards-in (cancels i) k t = absurd (not-both t refl)
-    discards-in asks k t = absurd (not-both t refl)
+    discards-in e k t = carries-in e k (and-left (carriesLine p k e s) (isSome (line s k (intoNode p e))) t)
 
     replaces-in : (e : Event) (k : ℕ) → replacesLine p k e s ≡ true → List·Memᴰ k ks
     unfolding replacesLine
@@ -221,7 +216,7 @@ line-sums p rules es s good ks a =
           ∙ sum-same ks (λ k. copiesOf k (enteredCopies p es s)) (λ k. entries p k es s) (λ k. copies-entered p k es s);
       of-carried = by-line;
       of-discarded =
-          sum-by-line p rules ks rises (λ e t. carryAnswer p e t .b) (λ k. discardsLine p k) (event-discards p rules)
+          sum-by-line p rules ks rises (λ e t. carryAnswer p e t .b) (λ k. discardsLine p k) (λ t g e. counts-lines p rules t g e .lines-discarded)
           (discards-in p rules ks rises) es s good (a .every-key);
       of-replaced =
           sum-by-line p rules ks rises (λ e t. bit (replacesRoot (entryOf p e t) t)) (λ k. replacesLine p k) (event-replaces p rules)
@@ -239,7 +234,7 @@ line-sums p rules es s good ks a =
 
     by-line : allCarried p es s ≡ sumOver ks (λ k. carried p k es s)
     by-line =
-        sum-by-line p rules ks rises (λ e t. carryAnswer p e t .a) (λ k. carriesLine p k) (event-carries p rules) (carries-in p rules ks rises)
+        sum-by-line p rules ks rises (λ e t. carryAnswer p e t .a) (λ k. carriesLine p k) (λ t g e. counts-lines p rules t g e .lines-carried) (carries-in p rules ks rises)
         es s good (a .every-key)
         ∙ sum-same ks (λ k. summed p (λ e t. bit (carriesLine p k e t)) es s) (λ k. carried p k es s) (λ k. carried-summed p k es s)
 

@@ -20,14 +20,18 @@ unfoldable pub summed : Plan → (Event → State → ℕ) → List Event → St
 summed p f [] s = 0
 summed p f (e ∷ es) s = f e s + summed p f es (after p e s)
 
--- A carry discards a line's copy: it carries the line, and its edge's target had a copy of it.
+-- The node that a carry carries into: its edge's target. (No other event carries; the root stands for it.)
+unfoldable pub intoNode : Plan → Event → ℕ
+intoNode p (carries n i) = edgeOf p n i .target
+intoNode p (enters kind j v) = 0
+intoNode p (starts j) = 0
+intoNode p (steps i) = 0
+intoNode p (cancels i) = 0
+intoNode p asks = 0
+
+-- An event discards a line's copy: it carries the line, and the node that it carries into had a copy of it.
 unfoldable pub discardsLine : Plan → ℕ → Event → State → Bool
-discardsLine p k (carries n i) s = carriesLine p k (carries n i) s && isSome (line s k (edgeOf p n i .target))
-discardsLine p k (enters kind j v) s = false
-discardsLine p k (starts j) s = false
-discardsLine p k (steps i) s = false
-discardsLine p k (cancels i) s = false
-discardsLine p k asks s = false
+discardsLine p k e s = carriesLine p k e s && isSome (line s k (intoNode p e))
 
 -- The copies of a line discarded by carries.
 abbrev pub discarded : Plan → ℕ → List Event → State → ℕ
@@ -53,11 +57,6 @@ pub record KeysWith (test : ℕ → Bool) (number : ℕ) : Type 0 where
   pub all : (k : ℕ) → test k ≡ true → List·Memᴰ k keys
   pub counted : number ≡ length keys
 
--- A carry's answer: a is the number of lines that it carries, b of those whose copy it discards.
-pub record CountsLines (p : Plan) (n i : ℕ) (s : State) : Type 0 where
-  pub lines-carried : KeysWith (λ k. carriesLine p k (carries n i) s) (answerOf p (carries n i) s .a)
-  pub lines-discarded : KeysWith (λ k. discardsLine p k (carries n i) s) (answerOf p (carries n i) s .b)
-
 -- The answer of a carry; of any other event one with no number in it.
 unfoldable pub carryAnswer : Plan → Event → State → Answer
 carryAnswer p (carries n i) s = answerOf p (carries n i) s
@@ -66,6 +65,11 @@ carryAnswer p (starts j) s = bare DONE
 carryAnswer p (steps i) s = bare DONE
 carryAnswer p (cancels i) s = bare DONE
 carryAnswer p asks s = bare DONE
+
+-- The answer of a carry: a is the number of lines that it carries, b of those whose copy it discards; no other event carries or discards.
+pub record CountsLines (p : Plan) (e : Event) (s : State) : Type 0 where
+  pub lines-carried : KeysWith (λ k. carriesLine p k e s) (carryAnswer p e s .a)
+  pub lines-discarded : KeysWith (λ k. discardsLine p k e s) (carryAnswer p e s .b)
 
 -- What the carries' answers say to be carried, summed over a sequence.
 abbrev pub allCarried : Plan → List Event → State → ℕ

@@ -10,7 +10,7 @@ use native.Mathlib.Omega.{arith}
 use native.Mathlib.Nat.{zero-add, add-zero}
 use Rattle.lists.proofs.Truths.{bool?, not-both}
 use Rattle.lists.proofs.Options.{option?}
-use Rattle.plan.specs.Plan.{Plan, edgeOf}
+use Rattle.plan.specs.Plan.{Plan}
 use Rattle.plan.specs.PlanRules.{PlanRules}
 use Rattle.store.specs.declared.Answer.{Answer}
 use Rattle.store.specs.declared.Store.{Store}
@@ -25,7 +25,7 @@ use Rattle.steps.specs.Carries.{bit}
 use Rattle.theory.specs.Events.{Event, after, stateAfterAll, entryOf, enteredCopies, held, carried}
 use Rattle.theory.specs.Events.Event.{enters, carries, starts, steps, cancels, asks}
 use Rattle.theory.specs.Paper.{History}
-use Rattle.paper.specs.Conserved.{summed, discardsLine, replacesLine, carryAnswer, replacesRoot}
+use Rattle.paper.specs.Conserved.{summed, intoNode, discardsLine, replacesLine, carryAnswer, replacesRoot}
 use Rattle.story.specs.PublicCalls.{Call, storeAfter, answerTo, storeAfterAll}
 use Rattle.story.specs.Following.{eventOf, eventsOf, replacement, sameStore, enteredBy, carriedBy, historyWith, history, carriesWith, carriesSince}
 use Rattle.story.proofs.Follows.{
@@ -153,15 +153,8 @@ on-states cs z good = go (bool? (sameStore cs))
 -- The numbers of calls that are summed, by their events.
 pub discarded-agrees : (k : ℕ) → Agrees (λ c z. bit (discardedBy k (eventOf c) z)) (λ p e s. bit (discardsLine p k e s))
 unfolding discardedBy discardsLine
-discarded-agrees k c z good = ap bit (go (eventOf c))
-  where
-    go : (e : Event) → discardedBy k e z ≡ discardsLine (planOf z) k e (stateOf z)
-    go (carries n i) = ap (λ (b : Bool). b && isSome (line (stateOf z) k (edgeOf (planOf z) n i .target))) (carried-same k (carries n i) z good)
-    go (enters kind j v) = refl
-    go (starts j) = refl
-    go (steps i) = refl
-    go (cancels i) = refl
-    go asks = refl
+discarded-agrees k c z good =
+    ap (λ (b : Bool). bit (b && isSome (line (stateOf z) k (intoNode (planOf z) (eventOf c))))) (carried-same k (eventOf c) z good)
 
 pub replaced-agrees : (k : ℕ) → Agrees (λ c z. bit (replacedBy k (eventOf c) z)) (λ p e s. bit (replacesLine p k e s))
 unfolding replacedBy replacesLine

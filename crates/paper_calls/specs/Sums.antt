@@ -12,7 +12,7 @@ use Rattle.store.specs.Layout.{planOf, stateOf}
 use Rattle.steps.specs.Carries.{bit}
 use Rattle.theory.specs.Events.{Event, ofLine, held, copiesOf, heldOf}
 use Rattle.theory.specs.Events.Event.{enters, carries, starts, steps, cancels, asks}
-use Rattle.paper.specs.Conserved.{replacesRoot, sumOver}
+use Rattle.paper.specs.Conserved.{intoNode, replacesRoot, sumOver}
 use Rattle.story.specs.PublicCalls.{Call, storeAfter, answerTo, storeAfterAll}
 use Rattle.story.specs.Following.{eventOf, replacement, enteredBy, hasLine, carriedBy, carriesSince}
 use Rattle.story.specs.Counts.{targetOf, fall, rise}
@@ -32,14 +32,9 @@ unfoldable pub summedSince : (Call → Store → ℕ) → List Call → Store �
 summedSince f [] z n = n
 summedSince f (c ∷ cs) z n = summedSince f cs (storeAfter c z) (sumWith (replacement c) (f c z) n)
 
--- An event discards a line's copy: it is a carry that carries the line, and its edge's target had a copy of it.
+-- An event discards a line's copy: it carries the line, and the node that it carries into had a copy of it.
 unfoldable pub discardedBy : ℕ → Event → Store → Bool
-discardedBy k (carries n i) z = carriedBy k (carries n i) z && hasLine z k (targetOf z n i)
-discardedBy k (enters kind j v) z = false
-discardedBy k (starts j) z = false
-discardedBy k (steps i) z = false
-discardedBy k (cancels i) z = false
-discardedBy k asks z = false
+discardedBy k e z = carriedBy k e z && hasLine z k (intoNode (planOf z) e)
 
 -- An event replaces the root's copy of a line: it is an accepted entry of the line, and the root had one.
 unfoldable pub replacedBy : ℕ → Event → Store → Bool
