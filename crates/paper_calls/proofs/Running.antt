@@ -34,7 +34,7 @@ use Rattle.story.proofs.Recalls.{ends-by-call}
 use Rattle.paper_calls.specs.Structure.{RunsAtHand, RunningRecency, VisitsSome}
 
 -- A slot of a store, in its state.
-in-state : (z : Store) (i : ℕ) → slotAt (stateOf z) i ≡ getD (z .slots) i idle
+pub in-state : (z : Store) (i : ℕ) → slotAt (stateOf z) i ≡ getD (z .slots) i idle
 in-state z i = ap (λ (qs : List Slot). getD qs i idle) (state-slots z)
 
 -- In a good store every slot in use is a search for its key at its node, after its visits.

@@ -73,6 +73,14 @@ pub record RunningRecency (z : Store) (between : List Call) (d : Call) (k n visi
   -- and the search took at most as many own steps as nodes remained on the key's path from n on.
   pub in-time : suc (ownSteps i (eventsOf between)) ≤ length (pathFrom (planOf z) k n)
 
+-- A finished search that already ran in the store at hand, and what is said of it.
+pub record FinishedAtHand (z : Store) (cs : List Call) (d : Call) (i : ℕ) : Type 0 where
+  pub key : ℕ
+  pub node : ℕ
+  pub visits : ℕ
+  pub runs : RunsAtHand z cs key node visits i
+  pub recency : RunningRecency z cs d key node visits i
+
 -- A look makes at least one visit: d of its answer.
 abbrev pub VisitsSome : Store → ℕ → Type 0
 VisitsSome z k = (r : Answer) → answerTo (reads (look k)) z ≡ some r → 1 ≤ r .d
