@@ -2,7 +2,19 @@
 use mathlib.Core.Path.{_≡_, refl, sym, ap, _∙_, subst}
 use mathlib.Core.Bool.{Bool, true, not}
 use mathlib.Core.Logic.{_⊎_, inl, inr}
-use mathlib.Core.List.{List, [], _∷_, _++_, List·Memᴰ, List·Memᴰ·head, List·Memᴰ·tail, List·Memᴰ·not-nil, List·Memᴰ·append-cases, Memᴰ·append-left, Memᴰ·append-right}
+use mathlib.Core.List.{
+  List,
+  [],
+  _∷_,
+  _++_,
+  List·Memᴰ,
+  List·Memᴰ·head,
+  List·Memᴰ·tail,
+  List·Memᴰ·not-nil,
+  List·Memᴰ·append-cases,
+  Memᴰ·append-left,
+  Memᴰ·append-right,
+}
 use mathlib.Core.Option.{none, some}
 use Prim.Native.Nat.{ℕ, suc, _+_, _*_, _≤_}
 use native.Mathlib.Omega.{arith}
@@ -234,8 +246,8 @@ line-sums p rules es s good ks a =
 
     by-line : allCarried p es s ≡ sumOver ks (λ k. carried p k es s)
     by-line =
-        sum-by-line p rules ks rises (λ e t. carryAnswer p e t .a) (λ k. carriesLine p k) (λ t g e. counts-lines p rules t g e .lines-carried) (carries-in p rules ks rises)
-        es s good (a .every-key)
+        sum-by-line p rules ks rises (λ e t. carryAnswer p e t .a) (λ k. carriesLine p k) (λ t g e. counts-lines p rules t g e .lines-carried)
+        (carries-in p rules ks rises) es s good (a .every-key)
         ∙ sum-same ks (λ k. summed p (λ e t. bit (carriesLine p k e t)) es s) (λ k. carried p k es s) (λ k. carried-summed p k es s)
 
 -- The keys of some copies, each once.

@@ -15,7 +15,19 @@ use Rattle.store.specs.StoreRules.{goodStore}
 use Rattle.steps.specs.Carries.{bit}
 use Rattle.theory.specs.Events.{Event, entryOf, enteredCopies, held, copiesOf, heldOf}
 use Rattle.theory.proofs.Bound.{copies-append, copies-entered}
-use Rattle.paper.specs.Conserved.{discardsLine, replacesLine, carryAnswer, replacesRoot, discarded, replacedAtRoot, allCarried, allDiscarded, allReplaced, AllKeys, LineSums}
+use Rattle.paper.specs.Conserved.{
+  discardsLine,
+  replacesLine,
+  carryAnswer,
+  replacesRoot,
+  discarded,
+  replacedAtRoot,
+  allCarried,
+  allDiscarded,
+  allReplaced,
+  AllKeys,
+  LineSums,
+}
 use Rattle.paper.proofs.Conservation.{conserved}
 use Rattle.paper.proofs.Totals.{all-conserved}
 use Rattle.paper.proofs.LineSums.{sum-same, sum-of-copies, line-sums, all-keys}
