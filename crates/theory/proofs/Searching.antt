@@ -147,7 +147,7 @@ ended-done (some x) v = refl
 
 module _ (p : Plan) (rules : PlanRules p) (k t₀ i : ℕ) where
   module _ (s : State) (good : StateRules p s) where
-    pub runs : (v : ℕ) → Searches p k t₀ i v s → slotAt s i .running ≢ 0
+    runs : (v : ℕ) → Searches p k t₀ i v s → slotAt s i .running ≢ 0
     runs v r z = let one = ap (λ (q : Slot). q .running) (r .at) in omega arith
 
     -- A running search stands on its key's path, its visits equal to the path nodes above it,
