@@ -44,7 +44,7 @@ use Rattle.story.proofs.Recalls.{store-recency}
 use Rattle.story.proofs.Slots.{Idles, stopped-idle, StartsIn, still-idle, not-done}
 
 -- What still runs after a sequence and then after one event more.
-still-runs-more : (p : Plan) (i : ℕ) (es : List Event) (e : Event) (s : State) → stillRuns p i es s ≡ true
+pub still-runs-more : (p : Plan) (i : ℕ) (es : List Event) (e : Event) (s : State) → stillRuns p i es s ≡ true
     → stillRunsAfter p i e (stateAfterAll p es s) ≡ true → stillRuns p i (es ++ e ∷ []) s ≡ true
 unfolding stillRuns stateAfterAll
 still-runs-more p i [] e s t u = and-both u refl
@@ -52,12 +52,12 @@ still-runs-more p i (d ∷ es) e s t u =
     and-both (and-left (stillRunsAfter p i d s) (stillRuns p i es (after p d s)) t)
     (still-runs-more p i es e (after p d s) (and-right (stillRunsAfter p i d s) (stillRuns p i es (after p d s)) t) u)
 
-events-append : (cs : List Call) (c : Call) → eventsOf (cs ++ c ∷ []) ≡ eventsOf cs ++ eventOf c ∷ []
+pub events-append : (cs : List Call) (c : Call) → eventsOf (cs ++ c ∷ []) ≡ eventsOf cs ++ eventOf c ∷ []
 unfolding eventsOf
 events-append [] c = refl
 events-append (d ∷ cs) c = ap (λ (l : List Event). eventOf d ∷ l) (events-append cs c)
 
-same-more : (cs : List Call) (c : Call) → sameStore cs ≡ true → replacement c ≡ none → sameStore (cs ++ c ∷ []) ≡ true
+pub same-more : (cs : List Call) (c : Call) → sameStore cs ≡ true → replacement c ≡ none → sameStore (cs ++ c ∷ []) ≡ true
 unfolding sameStore
 same-more [] c t e = rw e
 same-more (d ∷ cs) c t e =
@@ -66,15 +66,15 @@ same-more (d ∷ cs) c t e =
 
 module _ (z : Store) (good : goodStore z ≡ true) (i : ℕ) where
   -- A search runs in the slot after some calls.
-  record RunsAfter (cs : List Call) : Type 0 where
-    before : List Call
-    begins : Call
-    between : List Call
-    key : ℕ
-    parts : cs ≡ before ++ begins ∷ between
-    runs : SearchRuns z before begins between key i
+  pub record RunsAfter (cs : List Call) : Type 0 where
+    pub before : List Call
+    pub begins : Call
+    pub between : List Call
+    pub key : ℕ
+    pub parts : cs ≡ before ++ begins ∷ between
+    pub runs : SearchRuns z before begins between key i
 
-  abbrev IdleOrRuns : List Call → Type 0
+  abbrev pub IdleOrRuns : List Call → Type 0
   IdleOrRuns cs = Idles (stateOf (storeAfterAll cs z)) i ⊎ RunsAfter cs
 
   module _ (cs : List Call) (c : Call) where
@@ -88,7 +88,7 @@ module _ (z : Store) (good : goodStore z ≡ true) (i : ℕ) where
     good-y = calls-keep-good cs z good
 
     -- One call more: it replaces the store,
-    replaced-idle : (x : Store) → replacement c ≡ some x → Idles (stateOf (storeAfter c y)) i
+    pub replaced-idle : (x : Store) → replacement c ≡ some x → Idles (stateOf (storeAfter c y)) i
     unfolding stateOf
     replaced-idle x e =
         let r = replaced-by c x e in
@@ -179,7 +179,7 @@ module _ (z : Store) (good : goodStore z ≡ true) (i : ℕ) where
                   };
             })
 
-    one-more : IdleOrRuns cs → IdleOrRuns (cs ++ c ∷ [])
+    pub one-more : IdleOrRuns cs → IdleOrRuns (cs ++ c ∷ [])
     unfolding storeAfterAll
     one-more w =
         subst (λ (x : Store). Idles (stateOf x) i ⊎ RunsAfter (cs ++ c ∷ [])) (sym (after-append cs (c ∷ []) z))
@@ -195,11 +195,10 @@ module _ (z : Store) (good : goodStore z ≡ true) (i : ℕ) where
   all-more cs [] w = rw append-nil w
   all-more cs (c ∷ ds) w = subst IdleOrRuns (append-assoc cs (c ∷ []) ds) (all-more (cs ++ c ∷ []) ds (one-more cs c w))
 
-  -- Every step that answers DONE ends a search of the sequence.
-  pub every-search : AllIdle z → (cs : List Call) (d : Call) → eventOf d ≡ steps i → Done d (storeAfterAll cs z) → Finished z cs d i
-  unfolding stateOf storeAfterAll
-  every-search idles cs d is-step done =
-      go (all-more [] cs (inl (rw idles (ap (λ (q : Slot). q .running) (getD-same slotCount i idle)))))
+  -- A step that answers DONE ends the search that runs in the slot.
+  pub ends-search : (cs : List Call) → IdleOrRuns cs → (d : Call) → eventOf d ≡ steps i → Done d (storeAfterAll cs z) → Finished z cs d i
+  unfolding storeAfterAll
+  ends-search cs w d is-step done = go w
     where
       y : Store
       y = storeAfterAll cs z
@@ -212,7 +211,7 @@ module _ (z : Store) (good : goodStore z ≡ true) (i : ℕ) where
           ∙ done .2
 
       go : IdleOrRuns cs → Finished z cs d i
-      go (inl w) = absurd (not-done (planOf y) (stateOf y) i w says)
+      go (inl idles) = absurd (not-done (planOf y) (stateOf y) i idles says)
       go (inr r) =
           record {
             before = r .before;
@@ -226,6 +225,16 @@ module _ (z : Store) (good : goodStore z ≡ true) (i : ℕ) where
                 (subst (λ (x : Store). Done d x)
                 (ap (λ (l : List Call). storeAfterAll l z) (r .parts) ∙ after-append (r .before) (r .begins ∷ r .between) z) done);
           }
+
+  -- From a slot in which none runs every step of it that answers DONE ends a search of the sequence.
+  pub from-idle : Idles (stateOf z) i → (cs : List Call) (d : Call) → eventOf d ≡ steps i → Done d (storeAfterAll cs z) → Finished z cs d i
+  unfolding storeAfterAll
+  from-idle idles cs = ends-search cs (all-more [] cs (inl idles))
+
+  -- So does every step that answers DONE, from a store in which none runs.
+  pub every-search : AllIdle z → (cs : List Call) (d : Call) → eventOf d ≡ steps i → Done d (storeAfterAll cs z) → Finished z cs d i
+  unfolding stateOf
+  every-search idles = from-idle (rw idles (ap (λ (q : Slot). q .running) (getD-same slotCount i idle)))
 
 -- So it is after an accepted fresh or load, whatever the store was before.
 pub every-search-since : (c : Call) (x : Store) → replacement c ≡ some x → (cs : List Call) (d : Call) (i : ℕ) → eventOf d ≡ steps i

@@ -15,7 +15,7 @@ use Rattle.plan_table.specs.PlanTable.{plans}
 use Rattle.plan_table.proofs.TableLaws.{first-plan}
 use Rattle.store.specs.declared.Outcome.{Outcome}
 use Rattle.store.specs.declared.Store.{Store}
-use Rattle.store.specs.Copies.{isSome}
+use Rattle.store.specs.Copies.{Kind, isSome}
 use Rattle.store.specs.Copies.Kind.{withdrawn, result}
 use Rattle.store.specs.State.{State}
 use Rattle.store.specs.Layout.{planOf, stateOf, freshStore}
@@ -213,6 +213,10 @@ isAsk (carries n i) = false
 isAsk (starts k) = false
 isAsk (steps i) = false
 isAsk (cancels i) = false
+
+pub entry-acts : (kind : Kind) (k v : ℕ) → enters kind k v ≡ asks → ⊥
+unfolding isAsk
+entry-acts kind k v e = not-both (ap isAsk e) refl
 
 pub carry-acts : (n i : ℕ) → carries n i ≡ asks → ⊥
 unfolding isAsk

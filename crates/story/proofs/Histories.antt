@@ -19,8 +19,8 @@ use Rattle.store.proofs.Lifting.{plan-good, state-good, fresh-back}
 use Rattle.steps.specs.Carries.{bit}
 use Rattle.theory.specs.Events.{Event, after, entryOf, optionList, enteredCopies, held, carriesLine, carried}
 use Rattle.theory.specs.Events.Event.{enters, carries, starts, steps, cancels, asks}
-use Rattle.theory.specs.Paper.{History, Multicopy}
-use Rattle.theory.proofs.Invariants.{held-fresh, multicopy-held, multicopy-event}
+use Rattle.theory.specs.Paper.{History, InHistory, Multicopy}
+use Rattle.theory.proofs.Invariants.{held-fresh, multicopy-held, history-event}
 use Rattle.story.specs.PublicCalls.{Call, storeAfter, storeAfterAll}
 use Rattle.story.specs.Following.{eventOf, eventsOf, replacement, sameStore, enteredBy, carriedBy, historyWith, history, carriesSince}
 use Rattle.story.proofs.Follows.{
@@ -73,7 +73,7 @@ nothing-carried k asks z bad = refl
 
 -- A store whose state has the paper's structure, with a history.
 abbrev pub HoldsWith : Store → History → Type 0
-HoldsWith z h = Multicopy (planOf z) (stateOf z) h
+HoldsWith z h = Multicopy (planOf z) (stateOf z) (InHistory h)
 
 pub store-held : (z : Store) → goodStore z ≡ true → HoldsWith z (held (stateOf z))
 store-held z good = multicopy-held (planOf z) (plan-good z good) (stateOf z) (state-good z good)
@@ -84,8 +84,8 @@ call-holds : (c : Call) (z : Store) → goodStore z ≡ true → (h : History) �
 call-holds c z good h m = go (option? (replacement c))
   where
     kept : Multicopy (planOf z) (after (planOf z) (eventOf c) (stateOf z))
-        (h ++ optionList (entryOf (planOf z) (eventOf c) (stateOf z)))
-    kept = multicopy-event (planOf z) (plan-good z good) (stateOf z) (state-good z good) (eventOf c) h m
+        (InHistory (h ++ optionList (entryOf (planOf z) (eventOf c) (stateOf z))))
+    kept = history-event (planOf z) (plan-good z good) (stateOf z) (state-good z good) (eventOf c) h m
 
     go : (replacement c ≡ none) ⊎ ((y : Store) × (replacement c ≡ some y))
         → HoldsWith (storeAfter c z) (historyWith (replacement c) (enteredBy (eventOf c) z) h)

@@ -37,7 +37,7 @@ use Rattle.schedule.specs.declared.Step.{Step}
 use Rattle.schedule.specs.Schedule.{ENTER, WITHDRAW, CARRY, START, STEP, CANCEL}
 use Rattle.theory.specs.Events.{Event, optionList, held}
 use Rattle.theory.specs.Events.Event.{enters, carries, starts, steps, cancels, asks}
-use Rattle.theory.specs.Paper.{History, Multicopy}
+use Rattle.theory.specs.Paper.{History, InHistory, Multicopy}
 use Rattle.theory.proofs.Invariants.{history-in, member-option, line-in-held, held-in-line}
 use Rattle.story.specs.PublicCalls.{Call, accepted, storeAfter, storeAfterAll}
 use Rattle.story.specs.PublicCalls.Call.{fresh, load, enter, carry, start, step, cancel, reads, run}
@@ -191,7 +191,7 @@ good-stays-declared cs ds z good d =
     h : History
     h = history cs z (held (stateOf z))
 
-    structure : Multicopy (planOf y) (stateOf y) h
+    structure : Multicopy (planOf y) (stateOf y) (InHistory h)
     structure = store-story cs z good
 
 -- and so does any other.

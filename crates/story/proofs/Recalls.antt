@@ -82,6 +82,34 @@ unfolding eventsOf
 first-call [] e rest q = absurd (let z : _≡_ {A = ℕ} 0 (suc (length rest)) = ap length q in omega arith)
 first-call (c ∷ cs) e rest q = (c, cs, refl, one-event (eventOf c) e (eventsOf cs) rest q)
 
+-- A search of a good store that ends in the events of some calls, in which the store is not replaced, ends in the calls.
+module _ (z : Store) (good : goodStore z ≡ true) (i : ℕ) (cs : List Call) (stays : sameStore cs ≡ true) where
+  pub ends-by-call : EndsIn (planOf z) i (eventsOf cs) (stateOf z) → EndsByCall z i cs
+  ends-by-call d =
+      let w = calls-split cs (d .first) (steps i ∷ d .rest) (d .parts) in
+      let v = first-call (w .1) (steps i) (d .rest) (w .4) in
+      ends (w .0) (v .0) (v .1) (w .2 ∙ ap (λ (l : List Call). w .0 ++ l) (v .2)) (w .3) (v .3)
+    where
+      ends : (earlier : List Call) (call : Call) (later : List Call) → cs ≡ earlier ++ call ∷ later → eventsOf earlier ≡ d .first
+          → eventOf call ≡ steps i → EndsByCall z i cs
+      ends earlier call later parts events is-step =
+          let t = same-first earlier (call ∷ later) (subst (λ (l : List Call). sameStore l ≡ true) parts stays) in
+          let x = storeAfterAll earlier z in
+          let f = follows-events earlier z good t in
+          record {
+            earlier = earlier;
+            call = call;
+            later = later;
+            parts = parts;
+            is-step = is-step;
+            until = rw events (d .until);
+            done = (
+              onEvent (steps i) x .answer,
+              acts-as call (steps i) is-step (step-acts i) .answers x,
+              ap (λ (a : Answer). a .number) (event-answer (steps i) x (calls-keep-good earlier z good)) ∙ rw (f .state, f .plan, events) (d .done),
+            );
+          }
+
 -- A good store in which a call starts a search for key k in slot i.
 module _ (z : Store) (good : goodStore z ≡ true) (c : Call) (k i : ℕ) (is-start : eventOf c ≡ starts k)
     (starting : answerTo c z ≡ some (answer DONE i 0 0 0)) where
@@ -123,34 +151,9 @@ module _ (z : Store) (good : goodStore z ≡ true) (c : Call) (k i : ℕ) (is-st
     pub store-search-ends : notCancelled i (eventsOf cs) ≡ true → length (path (planOf z) k) ≤ ownSteps i (eventsOf cs)
         → EndsByCall (storeAfter c z) i cs
     store-search-ends alive enough =
-        go (search-ends p (plan-good z good) (stateOf z) (state-good z good) k i state-starts (eventsOf cs) alive enough)
-      where
-        go : EndsIn p i (eventsOf cs) (after p (starts k) (stateOf z)) → EndsByCall y i cs
-        go d =
-            let w = calls-split cs (d .first) (steps i ∷ d .rest) (d .parts) in
-            let v = first-call (w .1) (steps i) (d .rest) (w .4) in
-            ends d (w .0) (v .0) (v .1) (w .2 ∙ ap (λ (l : List Call). w .0 ++ l) (v .2)) (w .3) (v .3)
-          where
-            ends : (d : EndsIn p i (eventsOf cs) (after p (starts k) (stateOf z))) (earlier : List Call) (call : Call) (later : List Call)
-                → cs ≡ earlier ++ call ∷ later → eventsOf earlier ≡ d .first → eventOf call ≡ steps i → EndsByCall y i cs
-            ends d earlier call later parts events is-step =
-                let t = same-first earlier (call ∷ later) (subst (λ (l : List Call). sameStore l ≡ true) parts stays) in
-                let x = storeAfterAll earlier y in
-                let f = follows-events earlier y good-y t in
-                record {
-                  earlier = earlier;
-                  call = call;
-                  later = later;
-                  parts = parts;
-                  is-step = is-step;
-                  until = rw (state-y, plan-y, events) (d .until);
-                  done = (
-                    onEvent (steps i) x .answer,
-                    acts-as call (steps i) is-step (step-acts i) .answers x,
-                    ap (λ (a : Answer). a .number) (event-answer (steps i) x (calls-keep-good earlier y good-y))
-                        ∙ rw (f .state, f .plan, state-y, plan-y, events) (d .done),
-                  );
-                }
+        ends-by-call y good-y i cs stays
+        (rw (state-y, plan-y)
+        (search-ends p (plan-good z good) (stateOf z) (state-good z good) k i state-starts (eventsOf cs) alive enough))
 
 -- A search that runs, after some calls from a good store.
 module _ (z : Store) (good : goodStore z ≡ true) (before : List Call) (c : Call) (between : List Call) (k i : ℕ)
@@ -226,7 +229,7 @@ module _ (z : Store) (good : goodStore z ≡ true) (before : List Call) (c : Cal
     held-is-history : (x : Copy) → List·Memᴰ x (held (stateOf z₁)) → List·Memᴰ x h₁
     held-is-history x m =
         let w = held-in-line q (plan-good z₁ good₁) (stateOf z₁) (state-good z₁ good₁) x m in
-        let l : Multicopy q (stateOf z₁) h₁ = store-story before z good in
+        let l : Multicopy q (stateOf z₁) (InHistory h₁) = store-story before z good in
         history-in h₁ (x .key) (line (stateOf z₁) (x .key) (w .0)) x (l .invariant-3 (w .0) (x .key)) (w .1) .1
 
     past : (x : Copy) → List·Memᴰ x (held (stateOf z₁) ++ since) → List·Memᴰ x (h₁ ++ since)

@@ -12,7 +12,7 @@ use Rattle.lists.proofs.Options.{not-none-and-some, one-some}
 use Rattle.plan.specs.Plan.{Plan}
 use Rattle.plan.specs.PlanRules.{PlanRules}
 use Rattle.store.specs.declared.Copy.{Copy}
-use Rattle.store.specs.Answers.{DONE}
+use Rattle.store.specs.Answers.{DONE, answer}
 use Rattle.store.specs.Copies.{kindNumber, valueHeld, copy}
 use Rattle.store.specs.State.{State, line}
 use Rattle.store.specs.StateRules.{StateRules}
@@ -44,27 +44,28 @@ pub of-line : (k : ℕ) (o : Option Copy) → ofLine k o ≡ true → (x : Copy)
 of-line k none t = absurd (let z : _≡_ {A = ℕ} 0 1 = ap bit t in omega arith)
 of-line k (some x) t = (x, refl, eqb-true (x .key) k t)
 
--- The two ways of an entry, by what it enters: the copy has the clock as its stamp, and is put into the root.
-record EntersCopy (s s′ : State) (x : Copy) : Type 0 where
-  stamp : x .stamp ≡ s .clock
-  puts : s′ ≡ entered x s
+-- What an accepted entry does: its copy has the clock as its stamp, the answer says it, and the copy is put into the root.
+pub record EntersCopy (s : State) (o : Effect) (x : Copy) : Type 0 where
+  pub stamp : x .stamp ≡ s .clock
+  pub says : o .answer ≡ answer DONE (s .clock) 0 0 0
+  pub puts : o .after ≡ entered x s
 
 entry-enters : (kind k v : ℕ) (p : Plan) (s : State) (x : Copy)
     → cond (eqb (entry kind k v p s .answer .number) DONE) (some (copy k kind v (s .clock))) none ≡ some x
-    → EntersCopy s (entry kind k v p s .after) x
+    → EntersCopy s (entry kind k v p s) x
 entry-enters kind k v p s x = go (entry-way kind k v p s)
   where
     go : {o : Effect} → EntryWay kind k v p s o → cond (eqb (o .answer .number) DONE) (some (copy k kind v (s .clock))) none ≡ some x
-        → EntersCopy s (o .after) x
+        → EntersCopy s o x
     go (at-last-clock h) e = absurd (not-none-and-some refl e)
     go (root-full h f g) e = absurd (not-none-and-some refl e)
     go (copy-enters h f) e =
         let is : copy k kind v (s .clock) ≡ x = one-some refl e in
-        record { stamp = ap (λ (y : Copy). y .stamp) (sym is); puts = ap (λ (y : Copy). entered y s) is }
+        record { stamp = ap (λ (y : Copy). y .stamp) (sym is); says = refl; puts = ap (λ (y : Copy). entered y s) is }
 
 module _ (p : Plan) where
   -- An accepted entry puts its copy, stamped with the clock, into the root.
-  enters-copy : (e : Event) (s : State) (x : Copy) → entryOf p e s ≡ some x → EntersCopy s (after p e s) x
+  pub enters-copy : (e : Event) (s : State) (x : Copy) → entryOf p e s ≡ some x → EntersCopy s (effect p e s) x
   unfolding effect entryOf
   enters-copy (enters kind k v) s x e = entry-enters (kindNumber kind) k (valueHeld kind v) p s x e
   enters-copy (carries n i) s x e = absurd (not-none-and-some refl e)

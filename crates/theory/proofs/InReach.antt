@@ -40,15 +40,16 @@ first-led-to hop l y (more {n = n} {t = t} {ns = ns} h r) e = go (option? (l n))
     go (inr w) again = let f : some (w .0) ≡ some y = rw (w .1) at e in (n, here, w .1 ∙ f)
 
 module _ (p : Plan) (rules : PlanRules p) where
-  -- "The edgesets of all outgoing edges of a node n are pairwise disjoint."
-  edgeset-next : (n m k : ℕ) → Edgeset p n m k → next p n k ≡ To m
+  -- An edgeset gives the key's next step, and the next step an edgeset;
+  pub edgeset-next : (n m k : ℕ) → Edgeset p n m k → next p n k ≡ To m
   edgeset-next n m k d = edge-next p rules n (d .edge) k (d .is-edge) (d .key) ∙ ap To (d .target)
 
-  next-edgeset : (n m k : ℕ) → next p n k ≡ To m → Edgeset p n m k
+  pub next-edgeset : (n m k : ℕ) → next p n k ≡ To m → Edgeset p n m k
   next-edgeset n m k e =
       let w = next-edge p n k m e in
       record { edge = w .0; is-edge = w .1 .is-edge; target = w .1 .goes; key = w .1 .held }
 
+  -- so "the edgesets of all outgoing edges of a node n are pairwise disjoint".
   pub edgesets-apart : (n m l k : ℕ) → Edgeset p n m k → Edgeset p n l k → m ≡ l
   edgesets-apart n m l k d e = one-target (edgeset-next n m k d) (edgeset-next n l k e)
 

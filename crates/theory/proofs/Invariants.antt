@@ -43,7 +43,7 @@ use Rattle.steps.proofs.RulesOnLines.{line-rules, line-key, line-held, held-lin
 use Rattle.steps.proofs.LineSteps.{LineThrough}
 use Rattle.steps.proofs.LineSteps.LineStep.{same, enters, carries}
 use Rattle.theory.specs.Events.{Event, effect, after, stateAfterAll, entryOf, optionList, enteredCopies, held, ofLine, carriesLine}
-use Rattle.theory.specs.Paper.{ContentsInReach, History, InHistory, HUnique, Logical, Multicopy}
+use Rattle.theory.specs.Paper.{ContentsInReach, CopySet, Nevers, withCopies, History, InHistory, HUnique, Logical, Multicopy}
 use Rattle.theory.proofs.EventSteps.{
   event-keeps,
   event-line,
@@ -55,27 +55,81 @@ use Rattle.theory.proofs.EventSteps.{
 }
 use Rattle.theory.proofs.InReach.{edgesets-apart, in-reach-held, in-reach-newest}
 
+-- What is found is in a set if never is, and if any copy found is.
+pub in-set : (H : CopySet) (k : ℕ) (o : Option Copy) → H k none → ((x : Copy) → o ≡ some x → H k (some x)) → H k o
+in-set H k none i f = i
+in-set H k (some x) i f = f x refl
+
 -- What is found is in the history exactly when it has the key and is a member.
 pub in-history : (h : History) (k : ℕ) (o : Option Copy) → ((x : Copy) → o ≡ some x → (x .key ≡ k) × List·Memᴰ x h) → InHistory h k o
-in-history h k none f = tt
-in-history h k (some x) f = f x refl
+in-history h k o f = in-set (InHistory h) k o tt (λ x e. inr (f x e))
 
 pub history-in : (h : History) (k : ℕ) (o : Option Copy) (x : Copy) → InHistory h k o → o ≡ some x → (x .key ≡ k) × List·Memᴰ x h
 history-in h k none x i e = absurd (not-none-and-some refl e)
-history-in h k (some y) x i e =
-    subst (λ (z : Copy). (z .key ≡ k) × List·Memᴰ z h) (one-some refl e) i
+history-in h k (some y) x (inl i) e = absurd i
+history-in h k (some y) x (inr i) e = subst (λ (z : Copy). (z .key ≡ k) × List·Memᴰ z h) (one-some refl e) i
 
 -- There is one logical contents of a history.
-pub logical-one : (h : History) (k : ℕ) (o q : Option Copy) → HUnique h → Logical h k o → Logical h k q → o ≡ q
-logical-one h k none none u a b = refl
-logical-one h k none (some y) u a b =
-    absurd (omega (arith, a .greatest y (b .in-history .0) (b .in-history .1), u .above-never y (b .in-history .1)))
-logical-one h k (some x) none u a b =
-    absurd (omega (arith, b .greatest x (a .in-history .0) (a .in-history .1), u .above-never x (a .in-history .1)))
-logical-one h k (some x) (some y) u a b =
-    let c = a .greatest y (b .in-history .0) (b .in-history .1) in
-    let d = b .greatest x (a .in-history .0) (a .in-history .1) in
-    ap some (u .one x y (a .in-history .1) (b .in-history .1) (omega arith))
+pub logical-one : (H : CopySet) (k : ℕ) (o q : Option Copy) → HUnique H → Logical H k o → Logical H k q → o ≡ q
+logical-one H k o q u a b =
+    u .one k o q (a .in-history) (b .in-history) (omega (arith, a .greatest q (b .in-history), b .greatest o (a .in-history)))
+
+-- Copies added to a set: what was in it stays; and no copies, or some after others.
+pub still-in : (H : CopySet) (xs : List Copy) (k : ℕ) (o : Option Copy) → H k o → withCopies H xs k o
+still-in H xs k none i = i
+still-in H xs k (some x) i = inl i
+
+none-added : (H : CopySet) (k : ℕ) (o : Option Copy) → withCopies H [] k o → H k o
+none-added H k none i = i
+none-added H k (some x) (inl i) = i
+none-added H k (some x) (inr w) = absurd (List·Memᴰ·not-nil (w .1))
+
+added-both : (H : CopySet) (xs ys : List Copy) (k : ℕ) (o : Option Copy) → withCopies (withCopies H xs) ys k o → withCopies H (xs ++ ys) k o
+added-both H xs ys k none i = i
+added-both H xs ys k (some x) (inl (inl i)) = inl i
+added-both H xs ys k (some x) (inl (inr w)) = inr (w .0, Memᴰ·append-left ys (w .1))
+added-both H xs ys k (some x) (inr w) = inr (w .0, Memᴰ·append-right xs (w .1))
+
+both-added : (H : CopySet) (xs ys : List Copy) (k : ℕ) (o : Option Copy) → withCopies H (xs ++ ys) k o → withCopies (withCopies H xs) ys k o
+both-added H xs ys k none i = i
+both-added H xs ys k (some x) (inl i) = inl (inl i)
+both-added H xs ys k (some x) (inr w) = go (List·Memᴰ·append-cases xs (w .1))
+  where
+    go : List·Memᴰ x xs ⊎ List·Memᴰ x ys → withCopies (withCopies H xs) ys k (some x)
+    go (inl m) = inl (inr (w .0, m))
+    go (inr m) = inr (w .0, m)
+
+-- The structure depends on what is in the history alone.
+module _ (p : Plan) (s : State) where
+  same-set : (H K : CopySet) → ((k : ℕ) (o : Option Copy) → H k o → K k o) → ((k : ℕ) (o : Option Copy) → K k o → H k o)
+      → Multicopy p s H → Multicopy p s K
+  same-set H K to back c =
+      record {
+        edgesets-disjoint = c .edgesets-disjoint;
+        h-init = λ k. to k none (c .h-init k);
+        h-unique =
+            record {
+              one = λ k a b i j. c .h-unique .one k a b (back k a i) (back k b j);
+              one-key = λ j k x y i l. c .h-unique .one-key j k x y (back j (some x) i) (back k (some y) l);
+            };
+        h-clock = λ k a i. c .h-clock k a (back k a i);
+        invariant-1 =
+            λ k.
+            record {
+              in-history = to k (ContentsInReach p s 0 k) (c .invariant-1 k .in-history);
+              greatest = λ a i. c .invariant-1 k .greatest a (back k a i);
+            };
+        invariant-3 = λ n k. to k (line s k n) (c .invariant-3 n k);
+      }
+
+  pub with-none : (H : CopySet) → Multicopy p s H → Multicopy p s (withCopies H [])
+  with-none H = same-set H (withCopies H []) (still-in H []) (none-added H)
+
+  pub without-none : (H : CopySet) → Multicopy p s (withCopies H []) → Multicopy p s H
+  without-none H = same-set (withCopies H []) H (none-added H) (still-in H [])
+
+  pub with-both : (H : CopySet) (xs ys : List Copy) → Multicopy p s (withCopies (withCopies H xs) ys) → Multicopy p s (withCopies H (xs ++ ys))
+  with-both H xs ys = same-set (withCopies (withCopies H xs) ys) (withCopies H (xs ++ ys)) (added-both H xs ys) (both-added H xs ys)
 
 -- The entry of an event is a member of what it entered, and the only one.
 pub option-member : (o : Option Copy) (x : Copy) → o ≡ some x → List·Memᴰ x (optionList o)
@@ -147,34 +201,62 @@ module _ (p : Plan) (rules : PlanRules p) where
         go (more h) = absurd (omega (arith, line-rules p s good .fall k n m y x f on-k h))
 
     -- What a state holds is a history of it.
-    pub multicopy-held : Multicopy p s (held s)
+    pub multicopy-held : Multicopy p s (InHistory (held s))
     multicopy-held =
         record {
           edgesets-disjoint = edgesets-apart p rules;
           h-init = λ k. tt;
           h-unique =
               record {
-                one = λ x y a b. let v = held-in-line x a in let w = held-in-line y b in one-stamp (x .key) (y .key) (v .0) (w .0) x y (v .1) (w .1);
-                above-never = λ x a. let v = held-in-line x a in line-rules p s good .stamps (x .key) (v .0) x (v .1) .0;
+                one = one-held;
+                one-key =
+                    λ j k x y a b.
+                    let v = of-held j x a in
+                    let w = of-held k y b in
+                    line-rules p s good .apart j k (v .0) (w .0) x y (v .1) (w .1);
               };
-          h-clock = λ x a. let v = held-in-line x a in line-rules p s good .stamps (x .key) (v .0) x (v .1) .1;
+          h-clock = before-clock;
           invariant-1 =
               λ k.
               record {
                 in-history =
                     in-history (held s) k (current p s k)
                     (λ x e. let w = in-reach-held p rules s k 0 x (root-in-plan p rules) e in its k (w .0) x (w .2));
-                greatest =
-                    λ x e a.
-                    let v = held-in-line x a in
-                    let on-k : line s k (v .0) ≡ some x = subst (λ (j : ℕ). line s j (v .0) ≡ some x) e (v .1) in
-                    in-reach-newest p rules s k good (line-led-to k (v .0) x on-k) (root-in-plan p rules) x on-k;
+                greatest = λ a i. omega (arith, newest k a i);
               };
           invariant-3 = λ n k. in-history (held s) k (line s k n) (its k n);
         }
       where
         its : (k n : ℕ) (x : Copy) → line s k n ≡ some x → (x .key ≡ k) × List·Memᴰ x (held s)
         its k n x e = (line-key p s k n x e, line-in-held k n x e)
+
+        of-held : (k : ℕ) (x : Copy) → InHistory (held s) k (some x) → (n : ℕ) × (line s k n ≡ some x)
+        of-held k x i =
+            let w = history-in (held s) k (some x) x i refl in
+            let v = held-in-line x (w .1) in
+            (v .0, subst (λ (j : ℕ). line s j (v .0) ≡ some x) (w .0) (v .1))
+
+        stamped : (k : ℕ) (x : Copy) → InHistory (held s) k (some x) → (1 ≤ x .stamp) × (x .stamp < s .clock)
+        stamped k x i = let v = of-held k x i in line-rules p s good .stamps k (v .0) x (v .1)
+
+        one-held : (k : ℕ) (a b : Option Copy) → InHistory (held s) k a → InHistory (held s) k b → stampOf a ≡ stampOf b → a ≡ b
+        one-held k none none i j t = refl
+        one-held k none (some y) i j t = absurd (omega (arith, stamped k y j))
+        one-held k (some x) none i j t = absurd (omega (arith, stamped k x i))
+        one-held k (some x) (some y) i j t =
+            let v = of-held k x i in
+            let w = of-held k y j in
+            ap some (one-stamp k k (v .0) (w .0) x y (v .1) (w .1) t)
+
+        before-clock : (k : ℕ) (a : Option Copy) → InHistory (held s) k a → stampOf a < s .clock
+        before-clock k none i = omega (arith, good .clock-within)
+        before-clock k (some x) i = stamped k x i .1
+
+        newest : (k : ℕ) (a : Option Copy) → InHistory (held s) k a → stampOf a ≤ stampOf (current p s k)
+        newest k none i = omega arith
+        newest k (some x) i =
+            let v = of-held k x i in
+            in-reach-newest p rules s k good (line-led-to k (v .0) x (v .1)) (root-in-plan p rules) x (v .1)
 
     module _ (e : Event) where
       abbrev s′ : State
@@ -251,67 +333,90 @@ module _ (p : Plan) (rules : PlanRules p) where
               omega (arith, ap stampOf (w .1), l .no-older)
 
       -- The structure is kept, and an accepted entry is added to the history.
-      module _ (h : History) (c : Multicopy p s h) where
-        abbrev h′ : History
-        h′ = h ++ optionList (entryOf p e s)
+      module _ (H : CopySet) (c : Multicopy p s H) where
+        abbrev H′ : CopySet
+        H′ = withCopies H (optionList (entryOf p e s))
 
-        old-or-new : (x : Copy) → List·Memᴰ x h′ → List·Memᴰ x h ⊎ (entryOf p e s ≡ some x)
-        old-or-new x m = go (List·Memᴰ·append-cases h m)
+        -- A copy of it was in the history before, or is the entry.
+        abbrev OldOrNew : ℕ → Copy → Type 0
+        OldOrNew k x = H k (some x) ⊎ ((x .key ≡ k) × (entryOf p e s ≡ some x))
+
+        old-or-new : (k : ℕ) (x : Copy) → H′ k (some x) → OldOrNew k x
+        old-or-new k x (inl i) = inl i
+        old-or-new k x (inr w) = inr (w .0, member-option (entryOf p e s) x (w .1))
+
+        -- The entry has the clock as its stamp, later than every other copy's.
+        still-one : (j k : ℕ) (x y : Copy) → (H j (some x) → H k (some y) → x ≡ y) → x .stamp ≡ y .stamp → OldOrNew j x → OldOrNew k y → x ≡ y
+        still-one j k x y both t (inl a) (inl b) = both a b
+        still-one j k x y both t (inl a) (inr b) = absurd (omega (arith, c .h-clock j (some x) a, entry-stamp p e s y (b .1)))
+        still-one j k x y both t (inr a) (inl b) = absurd (omega (arith, c .h-clock k (some y) b, entry-stamp p e s x (a .1)))
+        still-one j k x y both t (inr a) (inr b) = one-some (a .1) (b .1)
+
+        never-apart : (k : ℕ) (x : Copy) → H k none → stampOf none ≡ x .stamp → OldOrNew k x → ⊥
+        never-apart k x i t (inl a) = not-none-and-some refl (c .h-unique .one k none (some x) i a t)
+        never-apart k x i t (inr a) = omega (arith, entry-stamp p e s x (a .1), good .clock-within)
+
+        one-then : (k : ℕ) (a b : Option Copy) → H′ k a → H′ k b → stampOf a ≡ stampOf b → a ≡ b
+        one-then k none none i j t = refl
+        one-then k none (some y) i j t = absurd (never-apart k y i t (old-or-new k y j))
+        one-then k (some x) none i j t = absurd (never-apart k x j (sym t) (old-or-new k x i))
+        one-then k (some x) (some y) i j t =
+            ap some
+            (still-one k k x y (λ a b. one-some refl (c .h-unique .one k (some x) (some y) a b t)) t (old-or-new k x i)
+            (old-or-new k y j))
+
+        one-key-then : (j k : ℕ) (x y : Copy) → x .stamp ≡ y .stamp → OldOrNew j x → OldOrNew k y → j ≡ k
+        one-key-then j k x y t (inl a) (inl b) = c .h-unique .one-key j k x y a b t
+        one-key-then j k x y t (inl a) (inr b) = absurd (omega (arith, c .h-clock j (some x) a, entry-stamp p e s y (b .1)))
+        one-key-then j k x y t (inr a) (inl b) = absurd (omega (arith, c .h-clock k (some y) b, entry-stamp p e s x (a .1)))
+        one-key-then j k x y t (inr a) (inr b) = sym (a .0) ∙ (ap (λ (z : Copy). z .key) (one-some (a .1) (b .1)) ∙ b .0)
+
+        before-clock : (k : ℕ) (a : Option Copy) → H′ k a → stampOf a < s′ .clock
+        before-clock k none i = omega (arith, c .h-clock k none i, event-clock p rules s good e)
+        before-clock k (some x) i = go (old-or-new k x i)
           where
-            go : List·Memᴰ x h ⊎ List·Memᴰ x (optionList (entryOf p e s)) → List·Memᴰ x h ⊎ (entryOf p e s ≡ some x)
-            go (inl a) = inl a
-            go (inr a) = inr (member-option (entryOf p e s) x a)
+            go : OldOrNew k x → x .stamp < s′ .clock
+            go (inl a) = omega (arith, c .h-clock k (some x) a, event-clock p rules s good e)
+            go (inr a) = omega (arith, entry-stamp p e s x (a .1), entry-clock p e s x (a .1))
 
-        still-one : (x y : Copy) → x .stamp ≡ y .stamp → List·Memᴰ x h ⊎ (entryOf p e s ≡ some x) → List·Memᴰ y h ⊎ (entryOf p e s ≡ some y) → x ≡ y
-        still-one x y t (inl a) (inl b) = c .h-unique .one x y a b t
-        still-one x y t (inl a) (inr b) = absurd (omega (arith, c .h-clock x a, entry-stamp p e s y b))
-        still-one x y t (inr a) (inl b) = absurd (omega (arith, c .h-clock y b, entry-stamp p e s x a))
-        still-one x y t (inr a) (inr b) = one-some a b
-
-        above-never : (x : Copy) → List·Memᴰ x h ⊎ (entryOf p e s ≡ some x) → 1 ≤ x .stamp
-        above-never x (inl a) = c .h-unique .above-never x a
-        above-never x (inr a) = omega (arith, entry-stamp p e s x a, good .clock-within)
-
-        before-clock : (x : Copy) → List·Memᴰ x h ⊎ (entryOf p e s ≡ some x) → x .stamp < s′ .clock
-        before-clock x (inl a) = omega (arith, c .h-clock x a, event-clock p rules s good e)
-        before-clock x (inr a) = omega (arith, entry-stamp p e s x a, entry-clock p e s x a)
-
-        held-is-past : (k n : ℕ) (x : Copy) → line s′ k n ≡ some x → (x .key ≡ k) × List·Memᴰ x h′
-        held-is-past k n x q = (line-key p s′ k n x q, go (held-or-entered p rules s good e k n x q))
+        held-is-past : (k n : ℕ) (x : Copy) → line s′ k n ≡ some x → H′ k (some x)
+        held-is-past k n x q = go (held-or-entered p rules s good e k n x q)
           where
-            go : ((m : ℕ) × (line s k m ≡ some x)) ⊎ (entryOf p e s ≡ some x) → List·Memᴰ x h′
-            go (inl w) =
-                Memᴰ·append-left (optionList (entryOf p e s)) (history-in h k (line s k (w .0)) x (c .invariant-3 (w .0) k) (w .1) .1)
-            go (inr w) = Memᴰ·append-right h (option-member (entryOf p e s) x w)
+            go : ((m : ℕ) × (line s k m ≡ some x)) ⊎ (entryOf p e s ≡ some x) → H′ k (some x)
+            go (inl w) = inl (subst (λ (o : Option Copy). H k o) (w .1) (c .invariant-3 (w .0) k))
+            go (inr w) = inr (line-key p s′ k n x q, option-member (entryOf p e s) x w)
 
-        still-greatest : (k : ℕ) (x : Copy) → x .key ≡ k → List·Memᴰ x h ⊎ (entryOf p e s ≡ some x) → x .stamp ≤ stampOf (current p s′ k)
-        still-greatest k x q (inl a) =
-            omega (arith, c .invariant-1 k .greatest x q a, reach-increases 0 k (root-in-plan p rules))
-        still-greatest k x q (inr a) =
-            in-reach-newest p rules s′ k good′ here (root-in-plan p rules) x
-            (subst (λ (j : ℕ). line s′ j 0 ≡ some x) q (entry-in-root p rules s good e x a))
+        still-greatest : (k : ℕ) (a : Option Copy) → H′ k a → stampOf a ≤ stampOf (current p s′ k)
+        still-greatest k none i = omega arith
+        still-greatest k (some x) i = go (old-or-new k x i)
+          where
+            go : OldOrNew k x → x .stamp ≤ stampOf (current p s′ k)
+            go (inl a) = omega (arith, c .invariant-1 k .greatest (some x) a, reach-increases 0 k (root-in-plan p rules))
+            go (inr a) =
+                in-reach-newest p rules s′ k good′ here (root-in-plan p rules) x
+                (subst (λ (j : ℕ). line s′ j 0 ≡ some x) (a .0) (entry-in-root p rules s good e x (a .1)))
 
-        pub multicopy-event : Multicopy p s′ h′
+        pub multicopy-event : Multicopy p s′ H′
         multicopy-event =
             record {
               edgesets-disjoint = c .edgesets-disjoint;
-              h-init = λ k. tt;
-              h-unique =
-                  record {
-                    one = λ x y a b t. still-one x y t (old-or-new x a) (old-or-new y b);
-                    above-never = λ x a. above-never x (old-or-new x a);
-                  };
-              h-clock = λ x a. before-clock x (old-or-new x a);
+              h-init = c .h-init;
+              h-unique = record { one = one-then; one-key = λ j k x y a b t. one-key-then j k x y t (old-or-new j x a) (old-or-new k y b) };
+              h-clock = before-clock;
               invariant-1 =
                   λ k.
                   record {
                     in-history =
-                        in-history h′ k (current p s′ k)
+                        in-set H′ k (current p s′ k) (c .h-init k)
                         (λ x q. let w = in-reach-held p rules s′ k 0 x (root-in-plan p rules) q in held-is-past k (w .0) x (w .2));
-                    greatest = λ x q a. still-greatest k x q (old-or-new x a);
+                    greatest = still-greatest k;
                   };
-              invariant-3 = λ n k. in-history h′ k (line s′ k n) (held-is-past k n);
+              invariant-3 = λ n k. in-set H′ k (line s′ k n) (c .h-init k) (held-is-past k n);
             }
+
+      -- So it is with the copies entered or loaded so far as the history.
+      pub history-event : (h : History) → Multicopy p s (InHistory h) → Multicopy p s′ (InHistory (h ++ optionList (entryOf p e s)))
+      history-event h c = with-both p s′ Nevers h (optionList (entryOf p e s)) (multicopy-event (InHistory h) c)
 
   -- What is entered has the clock's stamp or a later one.
   pub entered-late : (es : List Event) (s : State) → StateRules p s → (x : Copy) → List·Memᴰ x (enteredCopies p es s) → s .clock ≤ x .stamp
@@ -325,22 +430,25 @@ module _ (p : Plan) (rules : PlanRules p) where
       go (inl a) again = omega (arith, entry-stamp p e s x (member-option (entryOf p e s) x a))
       go (inr a) again = omega (arith, again a, event-clock p rules s good e)
 
-  -- Over every sequence.
-  pub multicopy-all : (es : List Event) (s : State) → StateRules p s → (h : History) → Multicopy p s h → Multicopy p (stateAfterAll p es s) (h ++ enteredCopies p es s)
+  -- Over every sequence, from any history: the copies entered are added to it.
+  pub multicopy-all : (es : List Event) (s : State) → StateRules p s → (H : CopySet) → Multicopy p s H
+      → Multicopy p (stateAfterAll p es s) (withCopies H (enteredCopies p es s))
   unfolding stateAfterAll enteredCopies
-  multicopy-all [] s good h c = rw append-nil c
-  multicopy-all (e ∷ es) s good h c =
-      rw (← (append-assoc h (optionList (entryOf p e s)) (enteredCopies p es (after p e s))))
-      (multicopy-all es (after p e s) (event-keeps p rules e s good) (h ++ optionList (entryOf p e s)) (multicopy-event s good e h c))
+  multicopy-all [] s good H c = with-none p s H c
+  multicopy-all (e ∷ es) s good H c =
+      with-both p (stateAfterAll p es (after p e s)) H (optionList (entryOf p e s)) (enteredCopies p es (after p e s))
+      (multicopy-all es (after p e s) (event-keeps p rules e s good) (withCopies H (optionList (entryOf p e s))) (multicopy-event s good e H c))
 
   -- From any state that meets the rules, with each copy that it holds as an entry: the paper's structure holds at all times.
-  pub multicopy : (es : List Event) (s : State) → StateRules p s → Multicopy p (stateAfterAll p es s) (held s ++ enteredCopies p es s)
-  multicopy es s good = multicopy-all es s good (held s) (multicopy-held s good)
+  pub multicopy : (es : List Event) (s : State) → StateRules p s → Multicopy p (stateAfterAll p es s) (InHistory (held s ++ enteredCopies p es s))
+  multicopy es s good =
+      with-both p (stateAfterAll p es s) Nevers (held s) (enteredCopies p es s)
+      (multicopy-all es s good (InHistory (held s)) (multicopy-held s good))
 
   -- From a fresh state the history is what was entered.
-  pub multicopy-fresh : (es : List Event) → Multicopy p (stateAfterAll p es (fresh p)) (enteredCopies p es (fresh p))
+  pub multicopy-fresh : (es : List Event) → Multicopy p (stateAfterAll p es (fresh p)) (InHistory (enteredCopies p es (fresh p)))
   multicopy-fresh es =
-      subst (λ (h : History). Multicopy p (stateAfterAll p es (fresh p)) (h ++ enteredCopies p es (fresh p))) (held-fresh p)
+      subst (λ (h : History). Multicopy p (stateAfterAll p es (fresh p)) (InHistory (h ++ enteredCopies p es (fresh p)))) (held-fresh p)
       (multicopy es (fresh p) (fresh-rules p))
 
   pub reach-increases-all : (es : List Event) (s : State) → StateRules p s → (n k : ℕ) → n < size p
@@ -355,8 +463,11 @@ module _ (p : Plan) (rules : PlanRules p) where
       )
 
   -- Where nothing is entered, no line's current result changes.
-  pub currents-stay : (es : List Event) (s : State) → StateRules p s → enteredCopies p es s ≡ [] → (k : ℕ) → current p (stateAfterAll p es s) k ≡ current p s k
+  pub currents-stay : (es : List Event) (s : State) → StateRules p s → enteredCopies p es s ≡ [] → (k : ℕ)
+      → current p (stateAfterAll p es s) k ≡ current p s k
   currents-stay es s good e k =
-      let c : Multicopy p (stateAfterAll p es s) (held s) =
-      subst (λ (h : History). Multicopy p (stateAfterAll p es s) h) (ap (λ (xs : List Copy). held s ++ xs) e ∙ append-nil (held s)) (multicopy es s good) in
-      logical-one (held s) k (current p (stateAfterAll p es s) k) (current p s k) (c .h-unique) (c .invariant-1 k) (multicopy-held s good .invariant-1 k)
+      let c : Multicopy p (stateAfterAll p es s) (InHistory (held s)) =
+      subst (λ (h : History). Multicopy p (stateAfterAll p es s) (InHistory h)) (ap (λ (xs : List Copy). held s ++ xs) e ∙ append-nil (held s))
+      (multicopy es s good) in
+      logical-one (InHistory (held s)) k (current p (stateAfterAll p es s) k) (current p s k) (c .h-unique) (c .invariant-1 k)
+      (multicopy-held s good .invariant-1 k)

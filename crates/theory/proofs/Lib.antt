@@ -1,4 +1,5 @@
 pub mod EventSteps
+pub mod ClockSteps
 pub mod InReach
 pub mod Invariants
 pub mod Updates

@@ -31,7 +31,7 @@ use Rattle.store.specs.StateRules.{StateRules}
 use Rattle.steps.specs.Searches.{ended}
 use Rattle.theory.specs.Events.{Event, after, answerOf, stateAfterAll, entryOf, optionList, enteredCopies, held, stillRuns, ownSteps, notCancelled, EndsIn}
 use Rattle.theory.specs.Events.Event.{starts, steps}
-use Rattle.theory.specs.Paper.{History, Multicopy, SearchRecency}
+use Rattle.theory.specs.Paper.{CopySet, History, InHistory, Multicopy, SearchRecency}
 use Rattle.theory.proofs.EventSteps.{event-keeps, events-keep, after-all-append}
 use Rattle.theory.proofs.InReach.{in-reach-held}
 use Rattle.theory.proofs.Invariants.{history-in, in-history, member-option, entered-append, multicopy}
@@ -64,28 +64,11 @@ entered-at p (e ∷ es) s x m = go (List·Memᴰ·append-cases (optionList (entr
           enters = w .enters;
         }
 
--- Of a history's copies one as new as the logical contents is the logical contents.
-latest-is : (p : Plan) (s : State) (h : History) → Multicopy p s h → (k : ℕ) (x : Copy) → x .key ≡ k → List·Memᴰ x h
-    → stampOf (current p s k) ≤ x .stamp → some x ≡ current p s k
-latest-is p s h c k x q m late = go (current p s k) refl
-  where
-    go : (o : Option Copy) → current p s k ≡ o → some x ≡ o
-    go none e =
-        absurd
-        (omega (arith, c .h-unique .above-never x m, c .invariant-1 k .greatest x q m, ap stampOf e))
-    go (some y) e =
-        let w = history-in h k (current p s k) y (c .invariant-1 k .in-history) e in
-        ap some
-        (c .h-unique .one x y m (w .1) (omega (arith, c .invariant-1 k .greatest x q m, ap stampOf e)))
-
-nothing-is : (p : Plan) (s : State) (h : History) → Multicopy p s h → (k : ℕ) → stampOf (current p s k) ≤ 0 → none ≡ current p s k
-nothing-is p s h c k late = go (current p s k) refl
-  where
-    go : (o : Option Copy) → current p s k ≡ o → none ≡ o
-    go none e = refl
-    go (some y) e =
-        let w = history-in h k (current p s k) y (c .invariant-1 k .in-history) e in
-        absurd (omega (arith, c .h-unique .above-never y (w .1), ap stampOf e))
+-- What a history has of a key, never or a copy, and is as new as the logical contents, is the logical contents.
+latest-is : (p : Plan) (s : State) (H : CopySet) → Multicopy p s H → (k : ℕ) (o : Option Copy) → H k o → stampOf (current p s k) ≤ stampOf o
+    → o ≡ current p s k
+latest-is p s H c k o i late =
+    c .h-unique .one k o (current p s k) i (c .invariant-1 k .in-history) (omega (arith, c .invariant-1 k .greatest o i))
 
 module _ (p : Plan) (rules : PlanRules p) (s : State) (good : StateRules p s) (before between : List Event) (k i : ℕ)
     (started : answerOf p (starts k) (stateAfterAll p before s) ≡ answer DONE i 0 0 0)
@@ -157,14 +140,15 @@ module _ (p : Plan) (rules : PlanRules p) (s : State) (good : StateRules p s) (b
     real : (x : Copy) → found ≡ some x → (x .key ≡ k) × List·Memᴰ x h₃
     real x e =
         let w = is-held x e in
-        let c : Multicopy p s₃ h₃ = subst (λ (z : State). Multicopy p z h₃) end-state (multicopy p rules (before ++ starts k ∷ between) s good) in
+        let c : Multicopy p s₃ (InHistory h₃) =
+        subst (λ (z : State). Multicopy p z (InHistory h₃)) end-state (multicopy p rules (before ++ starts k ∷ between) s good) in
         history-in h₃ k (line s₃ k (w .0)) x (c .invariant-3 (w .0) k) (w .1)
 
     then-or-since : (found ≡ current p s₁ k) ⊎ ((x : Copy) × (found ≡ some x) × List·Memᴰ x (enteredCopies p between s₂))
     then-or-since = go found refl
       where
         go : (o : Option Copy) → found ≡ o → (found ≡ current p s₁ k) ⊎ ((x : Copy) × (found ≡ some x) × List·Memᴰ x (enteredCopies p between s₂))
-        go none e = inl (e ∙ nothing-is p s₁ h₁ (multicopy p rules before s good) k (omega (arith, ap stampOf e)))
+        go none e = inl (e ∙ latest-is p s₁ (InHistory h₁) (multicopy p rules before s good) k none tt (omega (arith, ap stampOf e)))
         go (some x) e = at (List·Memᴰ·append-cases h₁ (subst (λ (h : History). List·Memᴰ x h) end-history (real x e .1)))
           where
             at : List·Memᴰ x h₁ ⊎ List·Memᴰ x (enteredCopies p between s₂)
@@ -172,7 +156,7 @@ module _ (p : Plan) (rules : PlanRules p) (s : State) (good : StateRules p s) (b
             at (inl m) =
                 inl
                 (e
-                ∙ latest-is p s₁ h₁ (multicopy p rules before s good) k x (real x e .0) m (omega (arith, ap stampOf e)))
+                ∙ latest-is p s₁ (InHistory h₁) (multicopy p rules before s good) k (some x) (inr (real x e .0, m)) (omega (arith, ap stampOf e)))
             at (inr m) = inr (x, e, m)
 
     at-a-point : (found ≡ current p s₁ k) ⊎ ((x : Copy) × (found ≡ some x) × List·Memᴰ x (enteredCopies p between s₂))

@@ -44,7 +44,7 @@ use Rattle.theory.proofs.EventSteps.{event-keeps}
 use Rattle.theory.proofs.Invariants.{reach-increases}
 
 -- A slot that runs is one of the slots.
-slot-there : (s : State) (i : ℕ) → slotAt s i .running ≢ 0 → i < length (s .slots)
+pub slot-there : (s : State) (i : ℕ) → slotAt s i .running ≢ 0 → i < length (s .slots)
 slot-there s i r = go (decLt i (length (s .slots)))
   where
     go : Dec (i < length (s .slots)) → i < length (s .slots)
@@ -151,7 +151,7 @@ module _ (p : Plan) (rules : PlanRules p) (k t₀ i : ℕ) where
     runs v r z = let one = ap (λ (q : Slot). q .running) (r .at) in omega arith
 
     -- A running search stands on its key's path, its visits equal to the path nodes above it,
-    stands : (v : ℕ) → (r : Searches p k t₀ i v s) → OnPath p k (r .node) v
+    pub stands : (v : ℕ) → (r : Searches p k t₀ i v s) → OnPath p k (r .node) v
     stands v r =
         let there : i < slotCount = omega (arith, slot-there s i (runs v r), good .slots-within) in
         rw (r .at) at (good .running-searches-on-their-paths i there (runs v r) .1)

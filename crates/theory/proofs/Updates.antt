@@ -1,8 +1,7 @@
 -- What an event does to the logical contents, a line's current result: an accepted entry sets its own line's to its copy and leaves every
 -- other; every other event, a carry too, leaves them all; and a refusal leaves the state. Assumes nothing.
 use mathlib.Core.Path.{_≡_, refl, ap, _∙_}
-use mathlib.Core.Logic.{_≢_, _⊎_, inl, inr}
-use mathlib.Core.List.{List, _++_, List·Memᴰ, List·Memᴰ·append-cases, Memᴰ·append-left, Memᴰ·append-right}
+use mathlib.Core.Logic.{_≢_, inl, inr}
 use mathlib.Core.Option.{Option, none, some}
 use Prim.Native.Nat.{ℕ, _≤_}
 use native.Mathlib.Omega.{arith}
@@ -17,49 +16,54 @@ use Rattle.store.specs.State.{State, current}
 use Rattle.store.specs.StateRules.{StateRules}
 use Rattle.theory.specs.Events.{Event, after, answerOf, entryOf, optionList, held}
 use Rattle.theory.specs.Events.Event.{carries}
-use Rattle.theory.specs.Paper.{History, InHistory, Logical, Multicopy, upserted}
+use Rattle.theory.specs.Paper.{CopySet, withCopies, InHistory, Logical, Multicopy, upserted}
 use Rattle.theory.proofs.EventSteps.{event-unaltered, entry-stamp}
-use Rattle.theory.proofs.Invariants.{logical-one, option-member, member-option, multicopy-held, multicopy-event}
-
-still-in : (h : History) (k : ℕ) (o : Option Copy) (xs : List Copy) → InHistory h k o → InHistory (h ++ xs) k o
-still-in h k none xs i = tt
-still-in h k (some x) xs i = (i .0, Memᴰ·append-left xs (i .1))
+use Rattle.theory.proofs.Invariants.{logical-one, still-in, option-member, member-option, multicopy-held, multicopy-event}
 
 module _ (p : Plan) (rules : PlanRules p) (s : State) (good : StateRules p s) (e : Event) where
-  now : Multicopy p s (held s)
+  -- The history of what the state holds, and with the entry added.
+  abbrev H : CopySet
+  H = InHistory (held s)
+
+  abbrev H′ : CopySet
+  H′ = withCopies H (optionList (entryOf p e s))
+
+  now : Multicopy p s H
   now = multicopy-held p rules s good
 
-  then : Multicopy p (after p e s) (held s ++ optionList (entryOf p e s))
-  then = multicopy-event p rules s good e (held s) now
+  then : Multicopy p (after p e s) H′
+  then = multicopy-event p rules s good e H now
 
   -- The logical contents that follow from the history with the entry added.
-  is-logical : (k : ℕ) (o : Option Copy) → Logical (held s ++ optionList (entryOf p e s)) k o → current p (after p e s) k ≡ o
-  is-logical k o = logical-one (held s ++ optionList (entryOf p e s)) k (current p (after p e s) k) o (then .h-unique) (then .invariant-1 k)
+  is-logical : (k : ℕ) (o : Option Copy) → Logical H′ k o → current p (after p e s) k ≡ o
+  is-logical k o = logical-one H′ k (current p (after p e s) k) o (then .h-unique) (then .invariant-1 k)
 
   -- A line that nothing was entered of keeps its current result.
   other-line : (k : ℕ) → ((x : Copy) → entryOf p e s ≡ some x → x .key ≢ k) → current p (after p e s) k ≡ current p s k
   other-line k none-of-it =
       is-logical k (current p s k)
       (record {
-        in-history = still-in (held s) k (current p s k) (optionList (entryOf p e s)) (now .invariant-1 k .in-history);
-        greatest = λ x q m. go x q (List·Memᴰ·append-cases (held s) m);
+        in-history = still-in H (optionList (entryOf p e s)) k (current p s k) (now .invariant-1 k .in-history);
+        greatest = go;
       })
     where
-      go : (x : Copy) → x .key ≡ k → List·Memᴰ x (held s) ⊎ List·Memᴰ x (optionList (entryOf p e s)) → x .stamp ≤ stampOf (current p s k)
-      go x q (inl m) = now .invariant-1 k .greatest x q m
-      go x q (inr m) = absurd (none-of-it x (member-option (entryOf p e s) x m) q)
+      go : (a : Option Copy) → H′ k a → stampOf a ≤ stampOf (current p s k)
+      go none i = omega arith
+      go (some x) (inl i) = now .invariant-1 k .greatest (some x) i
+      go (some x) (inr w) = absurd (none-of-it x (member-option (entryOf p e s) x (w .1)) (w .0))
 
   own-line : (x : Copy) → entryOf p e s ≡ some x → current p (after p e s) (x .key) ≡ some x
   own-line x f =
       is-logical (x .key) (some x)
       (record {
-        in-history = (refl, Memᴰ·append-right (held s) (option-member (entryOf p e s) x f));
-        greatest = λ y q m. go y (List·Memᴰ·append-cases (held s) m);
+        in-history = inr (refl, option-member (entryOf p e s) x f);
+        greatest = go;
       })
     where
-      go : (y : Copy) → List·Memᴰ y (held s) ⊎ List·Memᴰ y (optionList (entryOf p e s)) → y .stamp ≤ x .stamp
-      go y (inl m) = omega (arith, now .h-clock y m, entry-stamp p e s x f)
-      go y (inr m) = omega (arith, ap (λ (z : Copy). z .stamp) (one-some (member-option (entryOf p e s) y m) f))
+      go : (a : Option Copy) → H′ (x .key) a → stampOf a ≤ x .stamp
+      go none i = omega arith
+      go (some y) (inl i) = omega (arith, now .h-clock (x .key) (some y) i, entry-stamp p e s x f)
+      go (some y) (inr w) = omega (arith, ap (λ (z : Copy). z .stamp) (one-some (member-option (entryOf p e s) y (w .1)) f))
 
   -- (1): an accepted entry changes the logical contents M to M[k ↦ v], at its key alone and to its copy.
   pub entry-upserts : (x : Copy) → entryOf p e s ≡ some x → (k : ℕ) → current p (after p e s) k ≡ upserted (current p s) x k

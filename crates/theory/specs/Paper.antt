@@ -39,49 +39,62 @@ pub record InReachEquation (p : Plan) (s : State) (n k : ℕ) : Type 0 where
   pub below : Contents s n k ≡ none → (m : ℕ) → Edgeset p n m k → ContentsInReach p s n k ≡ ContentsInReach p s m k
   pub nowhere : Contents s n k ≡ none → ((m : ℕ) → Edgeset p n m k → ⊥) → ContentsInReach p s n k ≡ none
 
--- The upsert history: the copies entered or loaded so far, and for every key the copy "never" of stamp 0.
+-- A set of copies with their keys, H ⊆ KS × (V × ℕ): (k, (v, t)) is a key with a copy of it, and none is "never", at stamp 0.
+abbrev pub CopySet : Type 1
+CopySet = ℕ → Option Copy → Type 0
+
+-- "Never" of every key, and nothing else: the history of a fresh store.
+abbrev pub Nevers : CopySet
+Nevers k none = Unit {0}
+Nevers k (some x) = ⊥
+
+-- H ∪ xs: the set with these copies added, each at its key.
+abbrev pub withCopies : CopySet → List Copy → CopySet
+withCopies H xs k none = H k none
+withCopies H xs k (some x) = H k (some x) ⊎ ((x .key ≡ k) × List·Memᴰ x xs)
+
+-- The copies entered or loaded so far.
 abbrev pub History : Type 0
 History = List Copy
 
--- (k, (v, t)) is in H: a copy of the key entered or loaded, or never, at stamp 0.
-abbrev pub InHistory : History → ℕ → Option Copy → Type 0
-InHistory h k none = Unit {0}
-InHistory h k (some x) = (x .key ≡ k) × List·Memᴰ x h
+-- The upsert history of these: never of every key, and each of them.
+abbrev pub InHistory : History → CopySet
+InHistory h = withCopies Nevers h
 
--- HInit: "never" of every key is in the history; by the definition above it is in every one.
-abbrev pub HInit : History → Type 0
-HInit h = (k : ℕ) → InHistory h k none
+-- HInit(H): "∀k. (k, (□, 0)) ∈ H".
+abbrev pub HInit : CopySet → Type 0
+HInit H = (k : ℕ) → H k none
 
--- HUnique: a stamp has one copy, and so has a key and a stamp; and no copy has the stamp of "never".
-pub record HUnique (h : History) : Type 0 where
-  pub one : (x y : Copy) → List·Memᴰ x h → List·Memᴰ y h → x .stamp ≡ y .stamp → x ≡ y
-  pub above-never : (x : Copy) → List·Memᴰ x h → 1 ≤ x .stamp
+-- HUnique(H): "(k, (v₁, t′)) ∈ H ∧ (k, (v₂, t′)) ∈ H ⇒ v₁ = v₂"; here a stamp has one key, too.
+pub record HUnique (H : CopySet) : Type 0 where
+  pub one : (k : ℕ) (a b : Option Copy) → H k a → H k b → stampOf a ≡ stampOf b → a ≡ b
+  pub one-key : (j k : ℕ) (x y : Copy) → H j (some x) → H k (some y) → x .stamp ≡ y .stamp → j ≡ k
 
--- HClock: every stamp in the history is below the clock.
-abbrev pub HClock : ℕ → History → Type 0
-HClock t h = (x : Copy) → List·Memᴰ x h → x .stamp < t
+-- HClock(t, H): "∀(k, (_, t′)) ∈ H. t′ < t".
+abbrev pub HClock : ℕ → CopySet → Type 0
+HClock t H = (k : ℕ) (a : Option Copy) → H k a → stampOf a < t
 
--- The logical contents: of the copies of the key in the history the one with the greatest stamp, or never.
-pub record Logical (h : History) (k : ℕ) (o : Option Copy) : Type 0 where
-  pub in-history : InHistory h k o
-  pub greatest : (x : Copy) → x .key ≡ k → List·Memᴰ x h → x .stamp ≤ stampOf o
+-- The logical contents, H̃: of the copies of the key in the history the one with the greatest stamp, or never.
+pub record Logical (H : CopySet) (k : ℕ) (o : Option Copy) : Type 0 where
+  pub in-history : H k o
+  pub greatest : (a : Option Copy) → H k a → stampOf a ≤ stampOf o
 
 -- (1): M[k ↦ v], the logical contents after an upsert.
 abbrev pub upserted : (ℕ → Option Copy) → Copy → ℕ → Option Copy
 upserted M x k = cond (eqb (x .key) k) (some x) (M k)
 
--- The paper's structure: what holds of a state and its history at all times.
-pub record Multicopy (p : Plan) (s : State) (h : History) : Type 0 where
+-- The paper's structure in terms of its history: what holds of a state and its history at all times.
+pub record Multicopy (p : Plan) (s : State) (H : CopySet) : Type 0 where
   -- "the edgesets of all outgoing edges of a node n are pairwise disjoint"
   pub edgesets-disjoint : (n m l k : ℕ) → Edgeset p n m k → Edgeset p n l k → m ≡ l
-  pub h-init : HInit h
-  pub h-unique : HUnique h
+  pub h-init : HInit H
+  pub h-unique : HUnique H
   -- Invariant 4, HClock: "All timestamps in H are smaller than the current time of the global clock"
-  pub h-clock : HClock (s .clock) h
+  pub h-clock : HClock (s .clock) H
   -- Invariant 1: "The logical contents .. is the contents-in-reach of its root node"
-  pub invariant-1 : (k : ℕ) → Logical h k (ContentsInReach p s 0 k)
+  pub invariant-1 : (k : ℕ) → Logical H k (ContentsInReach p s 0 k)
   -- Invariant 3: "for all nodes n, C_n ⊆ H"
-  pub invariant-3 : (n k : ℕ) → InHistory h k (Contents s n k)
+  pub invariant-3 : (n k : ℕ) → H k (Contents s n k)
 
 -- Search recency, of a search for key k in slot i: it was started after the events `before` from the state s, went on through the events
 -- `between`, and then ended by a step of its own.

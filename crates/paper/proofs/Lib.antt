@@ -1,0 +1,10 @@
+pub mod Graphs
+pub mod Cuts
+pub mod Upserts
+pub mod Searches
+pub mod Conservation
+pub mod Passing
+pub mod Counting
+pub mod Totals
+pub mod LineSums
+pub mod Examples
