@@ -19,8 +19,8 @@ use Rattle.image_loading.specs.Loading.{loadOutcome}
 use Rattle.image_loading.proofs.LoadWays.{LoadWay, stops, trails, breaks, accepts, load-way}
 use Rattle.schedule.specs.Running.{runOutcome}
 use Rattle.export.specs.Promises.{Gives}
-use Rattle.story.specs.PublicCalls.{Call, accepted, replaced, storeAfter, storeAfterAll}
-use Rattle.story.specs.PublicCalls.Call.{fresh, load}
+use Rattle.calls.specs.PublicCalls.{Call, accepted, replaced, storeAfter, storeAfterAll}
+use Rattle.calls.specs.PublicCalls.Call.{fresh, load}
 use Rattle.behind.specs.Behind.{CallBehind, MeetsPromise, AllMeet, orFresh, publicCall}
 use Rattle.behind.specs.Behind.CallBehind.{freshens, steps, looks, saves, loads, pages, serves}
 

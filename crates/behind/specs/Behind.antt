@@ -10,9 +10,9 @@ use Rattle.image.specs.Promises.{Saves}
 use Rattle.page.specs.Promises.{Pages, ServesLength}
 use Rattle.schedule.specs.Schedule.{stepRecord}
 use Rattle.export.specs.Promises.{FreshensBehind, StepsBehind, LoadsBehind}
-use Rattle.story.specs.PublicCalls.{Call, accepted}
-use Rattle.story.specs.PublicCalls.Call.{fresh, load, reads, run}
-use Rattle.story.specs.PublicCalls.Reading.{look, save, page, serve}
+use Rattle.calls.specs.PublicCalls.{Call, accepted}
+use Rattle.calls.specs.PublicCalls.Call.{fresh, load, reads, run}
+use Rattle.calls.specs.PublicCalls.Reading.{look, save, page, serve}
 
 -- The calls of the C interface, each with its arguments and its answer (a serve's is a length); of a lent buffer the bytes at entry and at exit.
 pub data CallBehind : Type 0 where

@@ -22,12 +22,12 @@ use Rattle.store.proofs.Lifting.{state-good}
 use Rattle.trips.specs.Trips.{Declared}
 use Rattle.page_lines.specs.PageLine.{analytes, lastSample, keyFor}
 use Rattle.page.specs.Promises.{Pages, Serves}
-use Rattle.story.specs.PublicCalls.{Call, storeAfter, storeAfterAll}
-use Rattle.story.specs.Following.{sameStore}
-use Rattle.story.specs.Recent.{currentIn}
-use Rattle.story.specs.DeclaredNumbers.{DeclaredCalls}
-use Rattle.story.proofs.Follows.{calls-keep-good, first-stays, rest-stays}
-use Rattle.story.proofs.KeepsDeclared.{calls-keep-declared}
+use Rattle.calls.specs.PublicCalls.{Call, storeAfter, storeAfterAll}
+use Rattle.calls.specs.Following.{sameStore}
+use Rattle.calls.specs.Recent.{currentIn}
+use Rattle.calls.specs.DeclaredNumbers.{DeclaredCalls}
+use Rattle.calls.proofs.Follows.{calls-keep-good, first-stays, rest-stays}
+use Rattle.calls.proofs.KeepsDeclared.{calls-keep-declared}
 use Rattle.kept.specs.Shows.{shownOf, shows, ShowsSame}
 use Rattle.kept.specs.Kept.{KeptFrom, ServedExactly, LengthExactly, ServeSame, KeptOf, ServedIf}
 use Rattle.kept.specs.Amended.{

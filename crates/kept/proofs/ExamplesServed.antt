@@ -46,11 +46,11 @@ use Rattle.trips.proofs.RoundTrips.{fresh-idle}
 use Rattle.page_lines.specs.PageLine.{pageLinesFrom}
 use Rattle.page.specs.PageBytes.{pageLineBytes, pageLinesBytes, pageBytes, begins}
 use Rattle.page.specs.Promises.{stillTrue, servedLength}
-use Rattle.story.specs.PublicCalls.{Call, storeAfter, storeAfterAll}
-use Rattle.story.specs.Following.{eventOf, onEvent, enteredBy}
-use Rattle.story.specs.DeclaredNumbers.{DeclaredCall, DeclaredCalls}
-use Rattle.story.proofs.Follows.{calls-keep-good}
-use Rattle.story.proofs.KeepsDeclared.{calls-keep-declared}
+use Rattle.calls.specs.PublicCalls.{Call, storeAfter, storeAfterAll}
+use Rattle.calls.specs.Following.{eventOf, onEvent, enteredBy}
+use Rattle.calls.specs.DeclaredNumbers.{DeclaredCall, DeclaredCalls}
+use Rattle.calls.proofs.Follows.{calls-keep-good}
+use Rattle.calls.proofs.KeepsDeclared.{calls-keep-declared}
 use Rattle.kept.specs.Shows.{shows}
 use Rattle.kept.specs.Kept.{KeptFrom}
 use Rattle.kept.specs.Amended.{StoreGoesOn, PageNotServed}

@@ -16,10 +16,10 @@ use Rattle.trips.specs.Trips.{Declared}
 use Rattle.page_lines.specs.PageLine.{analytes, keyFor}
 use Rattle.page.specs.Promises.{Pages, servedLength, ServesLength}
 use Rattle.export.specs.Promises.{LoadsBehind}
-use Rattle.story.specs.PublicCalls.{Call, storeAfterAll}
-use Rattle.story.specs.DeclaredNumbers.{DeclaredCalls}
-use Rattle.story.proofs.Follows.{calls-keep-good}
-use Rattle.story.proofs.KeepsDeclared.{calls-keep-declared}
+use Rattle.calls.specs.PublicCalls.{Call, storeAfterAll}
+use Rattle.calls.specs.DeclaredNumbers.{DeclaredCalls}
+use Rattle.calls.proofs.Follows.{calls-keep-good}
+use Rattle.calls.proofs.KeepsDeclared.{calls-keep-declared}
 use Rattle.behind.specs.Behind.{CallBehind, AllMeet, publicCall}
 use Rattle.behind.proofs.BehindPointers.{calls-behind}
 use Rattle.kept.specs.Shows.{shows, ShowsSame}

@@ -23,15 +23,15 @@ use Rattle.theory.proofs.EventSteps.{entry-stamp, event-clock}
 use Rattle.image_writing.specs.Image.{image}
 use Rattle.trips.specs.Trips.{Declared, idled}
 use Rattle.trips.proofs.RoundTrips.{saved-loads}
-use Rattle.story.specs.PublicCalls.{Call, replaced, storeAfter, storeAfterAll}
-use Rattle.story.specs.PublicCalls.Call.{load}
-use Rattle.story.specs.Following.{eventOf, enteredBy}
-use Rattle.story.specs.Recent.{currentIn}
-use Rattle.story.specs.DeclaredNumbers.{DeclaredCall, DeclaredCalls}
-use Rattle.story.proofs.Follows.{event-on, event-state, call-keeps-good}
-use Rattle.story.proofs.Histories.{entered-same}
-use Rattle.story.proofs.KeepsDeclared.{calls-keep-declared}
-use Rattle.story.proofs.CurrentResults.{entry-sets, others-leave}
+use Rattle.calls.specs.PublicCalls.{Call, replaced, storeAfter, storeAfterAll}
+use Rattle.calls.specs.PublicCalls.Call.{load}
+use Rattle.calls.specs.Following.{eventOf, enteredBy}
+use Rattle.calls.specs.Recent.{currentIn}
+use Rattle.calls.specs.DeclaredNumbers.{DeclaredCall, DeclaredCalls}
+use Rattle.calls.proofs.Follows.{event-on, event-state, call-keeps-good}
+use Rattle.calls.proofs.Histories.{entered-same}
+use Rattle.calls.proofs.KeepsDeclared.{calls-keep-declared}
+use Rattle.calls.proofs.CurrentResults.{entry-sets, others-leave}
 use Rattle.kept.specs.Amended.{Stays, StoreGoesOn, EntersLine, ifOfLine, lastEntry}
 
 -- ---- loading what the store saves

@@ -23,11 +23,11 @@ use Rattle.trips.proofs.RoundTrips.{saved-loads, idled-good}
 use Rattle.page_lines.specs.PageLine.{lastSample, keyFor}
 use Rattle.page.specs.Promises.{pageNow, Pages, Handed, served, Serves}
 use Rattle.refusals.proofs.Save.{save-small}
-use Rattle.story.specs.PublicCalls.{Call, storeAfter, storeAfterAll}
-use Rattle.story.specs.PublicCalls.Call.{load}
-use Rattle.story.specs.DeclaredNumbers.{DeclaredCalls}
-use Rattle.story.proofs.Follows.{calls-keep-good}
-use Rattle.story.proofs.KeepsDeclared.{calls-keep-declared}
+use Rattle.calls.specs.PublicCalls.{Call, storeAfter, storeAfterAll}
+use Rattle.calls.specs.PublicCalls.Call.{load}
+use Rattle.calls.specs.DeclaredNumbers.{DeclaredCalls}
+use Rattle.calls.proofs.Follows.{calls-keep-good}
+use Rattle.calls.proofs.KeepsDeclared.{calls-keep-declared}
 use Rattle.kept.specs.Shows.{shownOf}
 use Rattle.kept.specs.Kept.{KeptFrom, ServeSame, PageDone, KeptOf}
 use Rattle.kept.specs.Amended.{StoreGoesOn, SampleUntouched, PageServed, SavedAndLoaded}

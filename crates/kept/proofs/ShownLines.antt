@@ -22,8 +22,8 @@ use Rattle.page_lines.specs.PageLine.{lastSample, keyFor, PageLine, pageLine, s
 use Rattle.page_lines.proofs.LineLaws.{pageLineOf, same-line}
 use Rattle.page.specs.Promises.{pageNow}
 use Rattle.page.proofs.KeptLines.{Bounded, same-lines, same-page}
-use Rattle.story.specs.Recent.{currentIn}
-use Rattle.story.proofs.KeepsDeclared.{declared-small}
+use Rattle.calls.specs.Recent.{currentIn}
+use Rattle.calls.proofs.KeepsDeclared.{declared-small}
 use Rattle.kept.specs.Shows.{shownOf, ShowsSame}
 
 -- ---- one line

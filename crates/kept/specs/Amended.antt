@@ -20,10 +20,10 @@ use Rattle.image.specs.Promises.{Saves}
 use Rattle.trips.specs.Trips.{loadedAsItself}
 use Rattle.page_lines.specs.PageLine.{analytes, keyFor}
 use Rattle.page.specs.Promises.{pageNow, servedLength}
-use Rattle.story.specs.PublicCalls.{Call, storeAfter, storeAfterAll}
-use Rattle.story.specs.PublicCalls.Call.{load}
-use Rattle.story.specs.Following.{eventOf, replacement, enteredBy}
-use Rattle.story.specs.DeclaredNumbers.{DeclaredCall}
+use Rattle.calls.specs.PublicCalls.{Call, storeAfter, storeAfterAll}
+use Rattle.calls.specs.PublicCalls.Call.{load}
+use Rattle.calls.specs.Following.{eventOf, replacement, enteredBy}
+use Rattle.calls.specs.DeclaredNumbers.{DeclaredCall}
 use Rattle.kept.specs.Shows.{shows}
 use Rattle.kept.specs.Kept.{ServesPage, ServesNotice, NoticeIsOther, ServeSame}
 

@@ -7,8 +7,8 @@ use Rattle.store.specs.Copies.Kind.{withdrawn, result}
 use Rattle.store.specs.Layout.{freshStore}
 use Rattle.image_writing.specs.Image.{image}
 use Rattle.page.specs.Promises.{pageNow, servedLength}
-use Rattle.story.specs.PublicCalls.{Call, storeAfterAll}
-use Rattle.story.specs.PublicCalls.Call.{load, enter, carry}
+use Rattle.calls.specs.PublicCalls.{Call, storeAfterAll}
+use Rattle.calls.specs.PublicCalls.Call.{load, enter, carry}
 
 -- The line of sample 1 and analyte 1.
 abbrev pub lineKey : ℕ

@@ -7,7 +7,7 @@ use Rattle.store.specs.declared.Copy.{Copy}
 use Rattle.store.specs.declared.Store.{Store}
 use Rattle.store.specs.Copies.{hasValue}
 use Rattle.page_lines.specs.PageLine.{analytes, keyFor}
-use Rattle.story.specs.Recent.{currentIn}
+use Rattle.calls.specs.Recent.{currentIn}
 
 -- What is shown of a line's current copy: its value and its stamp if its kind has a value, else nothing.
 abbrev pub shownOf : Option Copy → Option (ℕ × ℕ)

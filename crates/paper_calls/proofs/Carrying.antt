@@ -16,9 +16,9 @@ use Rattle.steps.proofs.CarryLaws.{carry-after}
 use Rattle.theory.specs.Events.{effect}
 use Rattle.theory.specs.Events.Event.{carries}
 use Rattle.paper.proofs.Totals.{rise-in-fall}
-use Rattle.story.specs.PublicCalls.{Call, storeAfter}
-use Rattle.story.specs.Following.{eventOf}
-use Rattle.story.proofs.Follows.{Acts, acts-as, carry-acts, event-keeps-plan, event-state}
+use Rattle.calls.specs.PublicCalls.{Call, storeAfter}
+use Rattle.calls.specs.Following.{eventOf}
+use Rattle.calls.proofs.Follows.{Acts, acts-as, carry-acts, event-keeps-plan, event-state}
 use Rattle.paper_calls.specs.Sums.{RiseWithinFall}
 
 -- So it is of a carry along an edge of the store's plan, by a record run too.

@@ -31,8 +31,8 @@ use Rattle.paper.specs.Conserved.{
 use Rattle.paper.proofs.Conservation.{conserved}
 use Rattle.paper.proofs.Totals.{all-conserved}
 use Rattle.paper.proofs.LineSums.{sum-same, sum-of-copies, line-sums, all-keys}
-use Rattle.story.specs.PublicCalls.{Call}
-use Rattle.story.specs.Following.{eventOf, enteredBy}
+use Rattle.calls.specs.PublicCalls.{Call}
+use Rattle.calls.specs.Following.{eventOf, enteredBy}
 use Rattle.paper_calls.specs.Structure.{copiesSoFar}
 use Rattle.paper_calls.specs.Sums.{
   discardedBy,

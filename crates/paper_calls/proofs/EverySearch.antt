@@ -18,12 +18,12 @@ use Rattle.store.specs.StoreRules.{goodStore}
 use Rattle.steps.specs.Searches.{running}
 use Rattle.theory.specs.Events.{after, stateAfterAll, stillRunsAfter, stillRuns}
 use Rattle.theory.specs.Events.Event.{steps}
-use Rattle.story.specs.PublicCalls.{Call, storeAfter, Done, storeAfterAll}
-use Rattle.story.specs.Following.{eventOf, eventsOf, replacement, sameStore}
-use Rattle.story.specs.Recent.{Finished}
-use Rattle.story.proofs.Follows.{event-on, event-state, calls-keep-good, after-append, follows-events}
-use Rattle.story.proofs.Slots.{Idles, stopped-idle}
-use Rattle.story.proofs.Finishes.{still-runs-more, events-append, same-more, IdleOrRuns, replaced-idle, one-more, ends-search, from-idle}
+use Rattle.calls.specs.PublicCalls.{Call, storeAfter, Done, storeAfterAll}
+use Rattle.calls.specs.Following.{eventOf, eventsOf, replacement, sameStore}
+use Rattle.calls.specs.Recent.{Finished}
+use Rattle.calls.proofs.Follows.{event-on, event-state, calls-keep-good, after-append, follows-events}
+use Rattle.calls.proofs.Slots.{Idles, stopped-idle}
+use Rattle.calls.proofs.Finishes.{still-runs-more, events-append, same-more, IdleOrRuns, replaced-idle, one-more, ends-search, from-idle}
 use Rattle.paper_calls.specs.Structure.{RunsAtHand, FinishedAtHand}
 use Rattle.paper_calls.proofs.Running.{in-state, slot-in-use, running-recency}
 

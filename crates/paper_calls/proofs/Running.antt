@@ -25,12 +25,12 @@ use Rattle.theory.specs.Paper.{History, InHistory}
 use Rattle.theory.proofs.Looks.{look-answer}
 use Rattle.paper.specs.Specifications.{RunningSearch}
 use Rattle.paper.proofs.Searches.{running-slot, running-search, running-ends}
-use Rattle.story.specs.PublicCalls.{Call, answerTo, Done, storeAfterAll}
-use Rattle.story.specs.Following.{eventOf, eventsOf, sameStore}
-use Rattle.story.specs.Recent.{currentIn, EndsByCall}
-use Rattle.story.proofs.Follows.{acts-as, step-acts, event-answer, calls-keep-good, follows-events}
-use Rattle.story.proofs.Histories.{same-history}
-use Rattle.story.proofs.Recalls.{ends-by-call}
+use Rattle.calls.specs.PublicCalls.{Call, answerTo, Done, storeAfterAll}
+use Rattle.calls.specs.Following.{eventOf, eventsOf, sameStore}
+use Rattle.calls.specs.Recent.{currentIn, EndsByCall}
+use Rattle.calls.proofs.Follows.{acts-as, step-acts, event-answer, calls-keep-good, follows-events}
+use Rattle.calls.proofs.Histories.{same-history}
+use Rattle.calls.proofs.Recalls.{ends-by-call}
 use Rattle.paper_calls.specs.Structure.{RunsAtHand, RunningRecency, VisitsSome}
 
 -- A slot of a store, in its state.

@@ -26,9 +26,9 @@ use Rattle.theory.specs.Events.{Event, after, stateAfterAll, entryOf, enteredCo
 use Rattle.theory.specs.Events.Event.{enters, carries, starts, steps, cancels, asks}
 use Rattle.theory.specs.Paper.{History}
 use Rattle.paper.specs.Conserved.{summed, intoNode, discardsLine, replacesLine, carryAnswer, replacesRoot}
-use Rattle.story.specs.PublicCalls.{Call, storeAfter, answerTo, storeAfterAll}
-use Rattle.story.specs.Following.{eventOf, eventsOf, replacement, sameStore, enteredBy, carriedBy, historyWith, history, carriesWith, carriesSince}
-use Rattle.story.proofs.Follows.{
+use Rattle.calls.specs.PublicCalls.{Call, storeAfter, answerTo, storeAfterAll}
+use Rattle.calls.specs.Following.{eventOf, eventsOf, replacement, sameStore, enteredBy, carriedBy, historyWith, history, carriesWith, carriesSince}
+use Rattle.calls.proofs.Follows.{
   acts-as,
   carry-acts,
   event-on,
@@ -41,7 +41,7 @@ use Rattle.story.proofs.Follows.{
   rest-stays,
   follows-events,
 }
-use Rattle.story.proofs.Histories.{entered-same, carried-same, same-history, same-carries, replaced-history, replaced-carries}
+use Rattle.calls.proofs.Histories.{entered-same, carried-same, same-history, same-carries, replaced-history, replaced-carries}
 use Rattle.paper_calls.specs.Structure.{copiesSoFar}
 use Rattle.paper_calls.specs.Sums.{sumWith, summedSince, discardedBy, replacedBy, isCarry, partSaid, saidBy}
 

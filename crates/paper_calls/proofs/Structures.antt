@@ -22,10 +22,10 @@ use Rattle.theory.specs.Events.Event.{enters, steps, asks}
 use Rattle.theory.specs.Paper.{CopySet, InHistory}
 use Rattle.paper.specs.Specifications.{Upsert}
 use Rattle.paper.proofs.Upserts.{to-mcs, upserts, others-keep}
-use Rattle.story.specs.PublicCalls.{Call, storeAfter, Done, storeAfterAll}
-use Rattle.story.specs.Following.{eventOf, onEvent, replacement, enteredBy}
-use Rattle.story.specs.Recent.{atStart, atEnd, SearchRuns, StoreRecency}
-use Rattle.story.proofs.Follows.{
+use Rattle.calls.specs.PublicCalls.{Call, storeAfter, Done, storeAfterAll}
+use Rattle.calls.specs.Following.{eventOf, onEvent, replacement, enteredBy}
+use Rattle.calls.specs.Recent.{atStart, atEnd, SearchRuns, StoreRecency}
+use Rattle.calls.proofs.Follows.{
   Acts,
   acts-as,
   entry-acts,
@@ -38,8 +38,8 @@ use Rattle.story.proofs.Follows.{
   calls-keep-good,
   after-append,
 }
-use Rattle.story.proofs.Histories.{entered-same, store-story}
-use Rattle.story.proofs.Recalls.{store-recency}
+use Rattle.calls.proofs.Histories.{entered-same, store-story}
+use Rattle.calls.proofs.Recalls.{store-recency}
 use Rattle.paper_calls.specs.Structure.{StoreMCS, copiesSoFar, CallUpserts, CallSearch}
 
 -- Every store reached by public calls from a good one is the paper's structure, with its clock and its history.

@@ -19,11 +19,11 @@ use Rattle.steps.specs.Searches.{running, ended}
 use Rattle.theory.specs.Events.{held, stillRuns, ownSteps}
 use Rattle.theory.specs.Paper.{Contents, CopySet, withCopies, InHistory, upserted}
 use Rattle.paper.specs.Specifications.{MCS}
-use Rattle.story.specs.PublicCalls.{Call, storeAfter, answerTo, storeAfterAll}
-use Rattle.story.specs.PublicCalls.Call.{reads}
-use Rattle.story.specs.PublicCalls.Reading.{look}
-use Rattle.story.specs.Following.{eventsOf, sameStore, history}
-use Rattle.story.specs.Recent.{currentIn, reachStamp, atEnd, StoreRecency}
+use Rattle.calls.specs.PublicCalls.{Call, storeAfter, answerTo, storeAfterAll}
+use Rattle.calls.specs.PublicCalls.Call.{reads}
+use Rattle.calls.specs.PublicCalls.Reading.{look}
+use Rattle.calls.specs.Following.{eventsOf, sameStore, history}
+use Rattle.calls.specs.Recent.{currentIn, reachStamp, atEnd, StoreRecency}
 
 -- MCS(r, t, H) of a store: its state is such a structure.
 abbrev pub StoreMCS : Store → ℕ → CopySet → Type 0

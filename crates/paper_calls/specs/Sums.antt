@@ -13,9 +13,9 @@ use Rattle.steps.specs.Carries.{bit}
 use Rattle.theory.specs.Events.{Event, ofLine, held, copiesOf, heldOf}
 use Rattle.theory.specs.Events.Event.{enters, carries, starts, steps, cancels, asks}
 use Rattle.paper.specs.Conserved.{intoNode, replacesRoot, sumOver}
-use Rattle.story.specs.PublicCalls.{Call, storeAfter, answerTo, storeAfterAll}
-use Rattle.story.specs.Following.{eventOf, replacement, enteredBy, hasLine, carriedBy, carriesSince}
-use Rattle.story.specs.Counts.{targetOf, fall, rise}
+use Rattle.calls.specs.PublicCalls.{Call, storeAfter, answerTo, storeAfterAll}
+use Rattle.calls.specs.Following.{eventOf, replacement, enteredBy, hasLine, carriedBy, carriesSince}
+use Rattle.calls.specs.Counts.{targetOf, fall, rise}
 use Rattle.paper_calls.specs.Structure.{copiesSoFar}
 
 -- A carry's rise is at most its fall: the target's count rises by at most what the node's falls by.

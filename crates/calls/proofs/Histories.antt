@@ -21,9 +21,9 @@ use Rattle.theory.specs.Events.{Event, after, entryOf, optionList, enteredCopie
 use Rattle.theory.specs.Events.Event.{enters, carries, starts, steps, cancels, asks}
 use Rattle.theory.specs.Paper.{History, InHistory, Multicopy}
 use Rattle.theory.proofs.Invariants.{held-fresh, multicopy-held, history-event}
-use Rattle.story.specs.PublicCalls.{Call, storeAfter, storeAfterAll}
-use Rattle.story.specs.Following.{eventOf, eventsOf, replacement, sameStore, enteredBy, carriedBy, historyWith, history, carriesSince}
-use Rattle.story.proofs.Follows.{
+use Rattle.calls.specs.PublicCalls.{Call, storeAfter, storeAfterAll}
+use Rattle.calls.specs.Following.{eventOf, eventsOf, replacement, sameStore, enteredBy, carriedBy, historyWith, history, carriesSince}
+use Rattle.calls.proofs.Follows.{
   event-on,
   event-on-bad,
   event-keeps-plan,

@@ -22,10 +22,10 @@ use Rattle.theory.specs.Events.{Event, effect, after}
 use Rattle.theory.specs.Events.Event.{carries, asks}
 use Rattle.theory.specs.Paper.{upserted}
 use Rattle.theory.proofs.Updates.{entry-upserts, current-stays, refused-stays}
-use Rattle.story.specs.PublicCalls.{Call, replaced, storeAfter, answerTo}
-use Rattle.story.specs.Following.{eventOf, onEvent, replacement, enteredBy}
-use Rattle.story.specs.Recent.{currentIn}
-use Rattle.story.proofs.Follows.{
+use Rattle.calls.specs.PublicCalls.{Call, replaced, storeAfter, answerTo}
+use Rattle.calls.specs.Following.{eventOf, onEvent, replacement, enteredBy}
+use Rattle.calls.specs.Recent.{currentIn}
+use Rattle.calls.proofs.Follows.{
   asks-nothing,
   OwnOutcome,
   OnEvent,
@@ -38,7 +38,7 @@ use Rattle.story.proofs.Follows.{
   event-state,
   event-answer,
 }
-use Rattle.story.proofs.Histories.{entered-same}
+use Rattle.calls.proofs.Histories.{entered-same}
 
 -- ---- an event
 

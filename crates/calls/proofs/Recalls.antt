@@ -26,11 +26,11 @@ use Rattle.theory.specs.Paper.{History, InHistory, Multicopy, SearchRecency}
 use Rattle.theory.proofs.Invariants.{in-history, history-in, held-in-line}
 use Rattle.theory.proofs.Recency.{search-recency, search-ends}
 use Rattle.trips.specs.Trips.{AllIdle}
-use Rattle.story.specs.PublicCalls.{Call, storeAfter, answerTo, Done, storeAfterAll}
-use Rattle.story.specs.PublicCalls.Call.{fresh, load}
-use Rattle.story.specs.Following.{eventOf, eventsOf, onEvent, replacement, sameStore, history}
-use Rattle.story.specs.Recent.{currentIn, atStart, started, atEnd, SearchRuns, StoreRecency, EndsByCall}
-use Rattle.story.proofs.Follows.{
+use Rattle.calls.specs.PublicCalls.{Call, storeAfter, answerTo, Done, storeAfterAll}
+use Rattle.calls.specs.PublicCalls.Call.{fresh, load}
+use Rattle.calls.specs.Following.{eventOf, eventsOf, onEvent, replacement, sameStore, history}
+use Rattle.calls.specs.Recent.{currentIn, atStart, started, atEnd, SearchRuns, StoreRecency, EndsByCall}
+use Rattle.calls.proofs.Follows.{
   Acts,
   acts-as,
   start-acts,
@@ -43,7 +43,7 @@ use Rattle.story.proofs.Follows.{
   calls-keep-good,
   follows-events,
 }
-use Rattle.story.proofs.Histories.{store-story, same-history}
+use Rattle.calls.proofs.Histories.{store-story, same-history}
 
 -- One sequence after another.
 history-append : (cs ds : List Call) (z : Store) (h : History) → history (cs ++ ds) z h ≡ history ds (storeAfterAll cs z) (history cs z h)

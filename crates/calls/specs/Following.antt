@@ -22,9 +22,9 @@ use Rattle.schedule.specs.Schedule.{ENTER, WITHDRAW, CARRY, START, STEP, CANCEL
 use Rattle.schedule.specs.Running.{noStep}
 use Rattle.theory.specs.Events.{Event, effect, optionList, held, rounds}
 use Rattle.theory.specs.Events.Event.{enters, carries, starts, steps, cancels, asks}
-use Rattle.story.specs.PublicCalls.{Call, accepted, storeAfter}
-use Rattle.story.specs.PublicCalls.Call.{fresh, load, enter, carry, start, step, cancel, reads, run}
-use Rattle.story.specs.PublicCalls.Reading.{save}
+use Rattle.calls.specs.PublicCalls.{Call, accepted, storeAfter}
+use Rattle.calls.specs.PublicCalls.Call.{fresh, load, enter, carry, start, step, cancel, reads, run}
+use Rattle.calls.specs.PublicCalls.Reading.{save}
 
 -- The event of a step record; an unknown step does nothing.
 unfoldable pub eventOfRecord : Step → Event

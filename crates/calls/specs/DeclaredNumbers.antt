@@ -8,8 +8,8 @@ use Rattle.store.specs.Copies.{valueHeld}
 use Rattle.copies.specs.CopyBytes.{lastValue}
 use Rattle.schedule.specs.declared.Step.{Step}
 use Rattle.schedule.specs.Running.{noStep}
-use Rattle.story.specs.PublicCalls.{Call}
-use Rattle.story.specs.PublicCalls.Call.{fresh, load, enter, carry, start, step, cancel, reads, run}
+use Rattle.calls.specs.PublicCalls.{Call}
+use Rattle.calls.specs.PublicCalls.Call.{fresh, load, enter, carry, start, step, cancel, reads, run}
 
 -- The two numbers of a schedule's record have 32 bits.
 abbrev pub DeclaredStep : Step → Type 0

@@ -12,11 +12,11 @@ use Rattle.store.specs.Layout.{planOf, stateOf, storeOf, freshStore}
 use Rattle.store.specs.StoreRules.{goodStore}
 use Rattle.store.proofs.Lifting.{state-good, fresh-good}
 use Rattle.theory.proofs.ClockSteps.{events-count}
-use Rattle.story.specs.PublicCalls.{Call, storeAfterAll}
-use Rattle.story.specs.Following.{eventsOf, sameStore, history}
-use Rattle.story.specs.Counts.{mostEntries}
-use Rattle.story.proofs.Follows.{calls-keep-good, follows-events}
-use Rattle.story.proofs.Histories.{same-history}
+use Rattle.calls.specs.PublicCalls.{Call, storeAfterAll}
+use Rattle.calls.specs.Following.{eventsOf, sameStore, history}
+use Rattle.calls.specs.Counts.{mostEntries}
+use Rattle.calls.proofs.Follows.{calls-keep-good, follows-events}
+use Rattle.calls.proofs.Histories.{same-history}
 
 -- Over calls that do not replace the store the clock goes up by as many as they enter;
 pub clock-counts : (cs : List Call) (z : Store) → goodStore z ≡ true → sameStore cs ≡ true

@@ -25,9 +25,9 @@ use Rattle.theory.specs.Events.{Event, entryOf, optionList, held, ofLine, copie
 use Rattle.theory.specs.Events.Event.{enters, carries, starts, steps, cancels, asks}
 use Rattle.theory.proofs.Bound.{worth-held, event-pays, copies-with, copies-entered}
 use Rattle.theory.proofs.Reached.{reached}
-use Rattle.story.specs.PublicCalls.{Call, storeAfter, storeAfterAll}
-use Rattle.story.specs.PublicCalls.Call.{fresh as freshCall}
-use Rattle.story.specs.Following.{
+use Rattle.calls.specs.PublicCalls.{Call, storeAfter, storeAfterAll}
+use Rattle.calls.specs.PublicCalls.Call.{fresh as freshCall}
+use Rattle.calls.specs.Following.{
   eventOf,
   eventsOf,
   onEvent,
@@ -44,9 +44,9 @@ use Rattle.story.specs.Following.{
   callsOf,
   roundCalls,
 }
-use Rattle.story.specs.Counts.{mostEntries}
-use Rattle.story.proofs.Follows.{event-on, event-on-bad, event-keeps-plan, event-keeps-good, event-state, replaced-by}
-use Rattle.story.proofs.Histories.{entered-same, carried-same, nothing-carried, fresh-history, same-history, same-carries, replaced-history, replaced-carries}
+use Rattle.calls.specs.Counts.{mostEntries}
+use Rattle.calls.proofs.Follows.{event-on, event-on-bad, event-keeps-plan, event-keeps-good, event-state, replaced-by}
+use Rattle.calls.proofs.Histories.{entered-same, carried-same, nothing-carried, fresh-history, same-history, same-carries, replaced-history, replaced-carries}
 
 module _ (k : ℕ) where
   -- Of a good store the carries so far, and what its copies of the line are worth, are paid by the entries in its history; with a bad one

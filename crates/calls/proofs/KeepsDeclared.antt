@@ -39,12 +39,12 @@ use Rattle.theory.specs.Events.{Event, optionList, held}
 use Rattle.theory.specs.Events.Event.{enters, carries, starts, steps, cancels, asks}
 use Rattle.theory.specs.Paper.{History, InHistory, Multicopy}
 use Rattle.theory.proofs.Invariants.{history-in, member-option, line-in-held, held-in-line}
-use Rattle.story.specs.PublicCalls.{Call, accepted, storeAfter, storeAfterAll}
-use Rattle.story.specs.PublicCalls.Call.{fresh, load, enter, carry, start, step, cancel, reads, run}
-use Rattle.story.specs.Following.{eventOfRecord, eventOf, onEvent, replacement, enteredBy, historyWith, history}
-use Rattle.story.specs.DeclaredNumbers.{DeclaredStep, DeclaredCall, DeclaredCalls}
-use Rattle.story.proofs.Follows.{event-on, event-on-bad, replaced-by, calls-keep-good}
-use Rattle.story.proofs.Histories.{store-story}
+use Rattle.calls.specs.PublicCalls.{Call, accepted, storeAfter, storeAfterAll}
+use Rattle.calls.specs.PublicCalls.Call.{fresh, load, enter, carry, start, step, cancel, reads, run}
+use Rattle.calls.specs.Following.{eventOfRecord, eventOf, onEvent, replacement, enteredBy, historyWith, history}
+use Rattle.calls.specs.DeclaredNumbers.{DeclaredStep, DeclaredCall, DeclaredCalls}
+use Rattle.calls.proofs.Follows.{event-on, event-on-bad, replaced-by, calls-keep-good}
+use Rattle.calls.proofs.Histories.{store-story}
 
 -- ---- stores
 

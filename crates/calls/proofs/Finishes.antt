@@ -22,10 +22,10 @@ use Rattle.steps.specs.Searches.{running}
 use Rattle.theory.specs.Events.{Event, after, answerOf, stateAfterAll, stillRunsAfter, stillRuns}
 use Rattle.theory.specs.Events.Event.{starts, steps}
 use Rattle.trips.specs.Trips.{AllIdle}
-use Rattle.story.specs.PublicCalls.{Call, storeAfter, Done, storeAfterAll}
-use Rattle.story.specs.Following.{eventOf, eventsOf, replacement, sameStore}
-use Rattle.story.specs.Recent.{atStart, started, SearchRuns, Finished}
-use Rattle.story.proofs.Follows.{
+use Rattle.calls.specs.PublicCalls.{Call, storeAfter, Done, storeAfterAll}
+use Rattle.calls.specs.Following.{eventOf, eventsOf, replacement, sameStore}
+use Rattle.calls.specs.Recent.{atStart, started, SearchRuns, Finished}
+use Rattle.calls.proofs.Follows.{
   acts-as,
   start-acts,
   step-acts,
@@ -40,8 +40,8 @@ use Rattle.story.proofs.Follows.{
   FollowsEvents,
   follows-events,
 }
-use Rattle.story.proofs.Recalls.{store-recency}
-use Rattle.story.proofs.Slots.{Idles, stopped-idle, StartsIn, still-idle, not-done}
+use Rattle.calls.proofs.Recalls.{store-recency}
+use Rattle.calls.proofs.Slots.{Idles, stopped-idle, StartsIn, still-idle, not-done}
 
 -- What still runs after a sequence and then after one event more.
 pub still-runs-more : (p : Plan) (i : ℕ) (es : List Event) (e : Event) (s : State) → stillRuns p i es s ≡ true

@@ -9,7 +9,7 @@ use Rattle.store.specs.Copies.{keyOf}
 use Rattle.store.specs.State.{lastClock}
 use Rattle.store.specs.Layout.{planOf, countOf, nodeOf}
 use Rattle.steps.specs.Carries.{countHeld}
-use Rattle.story.specs.PublicCalls.{Call, storeAfter, answerTo}
+use Rattle.calls.specs.PublicCalls.{Call, storeAfter, answerTo}
 
 -- The target of edge i of node n, by the store's plan.
 abbrev pub targetOf : Store → ℕ → ℕ → ℕ

@@ -28,13 +28,13 @@ use Rattle.theory.specs.Events.{effect, after, answerOf}
 use Rattle.theory.specs.Events.Event.{carries, starts, steps}
 use Rattle.theory.proofs.Invariants.{reach-increases-all}
 use Rattle.theory.proofs.Looks.{VisitsUntil, look-answer}
-use Rattle.story.specs.PublicCalls.{Call, storeAfter, answerTo, storeAfterAll}
-use Rattle.story.specs.PublicCalls.Call.{step, reads}
-use Rattle.story.specs.PublicCalls.Reading.{look}
-use Rattle.story.specs.Following.{eventOf, eventsOf, sameStore}
-use Rattle.story.specs.Recent.{currentIn, reachStamp}
-use Rattle.story.specs.Counts.{CarryCounts}
-use Rattle.story.proofs.Follows.{
+use Rattle.calls.specs.PublicCalls.{Call, storeAfter, answerTo, storeAfterAll}
+use Rattle.calls.specs.PublicCalls.Call.{step, reads}
+use Rattle.calls.specs.PublicCalls.Reading.{look}
+use Rattle.calls.specs.Following.{eventOf, eventsOf, sameStore}
+use Rattle.calls.specs.Recent.{currentIn, reachStamp}
+use Rattle.calls.specs.Counts.{CarryCounts}
+use Rattle.calls.proofs.Follows.{
   Acts,
   acts-as,
   carry-acts,

@@ -18,8 +18,8 @@ use Rattle.steps.specs.Searches.{ended}
 use Rattle.theory.specs.Events.{held, stillRuns, ownSteps}
 use Rattle.theory.specs.Events.Event.{starts, steps}
 use Rattle.theory.specs.Paper.{InHistory, ContentsInReach}
-use Rattle.story.specs.PublicCalls.{Call, storeAfter, answerTo, Done, storeAfterAll}
-use Rattle.story.specs.Following.{eventOf, eventsOf, sameStore, history}
+use Rattle.calls.specs.PublicCalls.{Call, storeAfter, answerTo, Done, storeAfterAll}
+use Rattle.calls.specs.Following.{eventOf, eventsOf, sameStore, history}
 
 -- A line's current result in a store.
 abbrev pub currentIn : Store → ℕ → Option Copy
