@@ -18,6 +18,7 @@ use Rattle.store.specs.declared.Store.{Store}
 use Rattle.store.specs.Copies.{WITHDRAWN, RESULT, hasValue}
 use Rattle.store.specs.State.{State, current}
 use Rattle.store.specs.StoreRules.{goodStore}
+use Rattle.store.proofs.KindLaws.{result-valued, withdrawn-bare}
 use Rattle.page_lines.specs.PageLine.{analytes, lastSample, keyFor, PageLine, pageLine, pageLinesFrom}
 use Rattle.page_lines.proofs.LineLaws.{pageLineOf, same-line}
 use Rattle.page.specs.PageBytes.{pageBytes, pageOf, begins}
@@ -27,12 +28,10 @@ use Rattle.page.proofs.KeptLines.{Bounded, same-lines}
 
 -- A result is shown, and a withdrawn copy is not.
 shows-result : (a : ℕ) (x : Copy) → x .kind ≡ RESULT → pageLineOf a (some x) ≡ some (pageLine a (x .value) (x .stamp))
-unfolding hasValue
-shows-result a x e = rw e
+shows-result a x e = rw (e, result-valued)
 
 hides-withdrawn : (a : ℕ) (x : Copy) → x .kind ≡ WITHDRAWN → pageLineOf a (some x) ≡ none
-unfolding hasValue
-hides-withdrawn a x e = rw e
+hides-withdrawn a x e = rw (e, withdrawn-bare)
 
 -- The stamp that a shown line has is its copy's.
 shown-stamp : (a : ℕ) (o : Option Copy) (l : PageLine) → pageLineOf a o ≡ some l → (y : Copy) × (o ≡ some y) × (y .stamp ≡ l .stamp)
