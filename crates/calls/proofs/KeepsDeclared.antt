@@ -22,6 +22,7 @@ use Rattle.store.specs.State.{State, nodeAt, copyAt, line}
 use Rattle.store.specs.StateRules.{HeldAt}
 use Rattle.store.specs.Layout.{planOf, stateOf}
 use Rattle.store.specs.StoreRules.{goodStore}
+use Rattle.store.proofs.KindLaws.{result-holds, withdrawn-holds}
 use Rattle.store.proofs.Laying.{state-past}
 use Rattle.store.proofs.Ruling.{good-rules}
 use Rattle.store.proofs.Lifting.{plan-good, state-good, good-back}
@@ -125,8 +126,8 @@ small-record r d =
         (cond a (enters result (r .x) (r .y))
         (cond b (enters withdrawn (r .x) 0)
         (cond c (carries (r .x) (r .y)) (cond e (starts (r .x)) (cond f (steps (r .x)) (cond g (cancels (r .x)) asks))))))
-    go true b c e f g = λ t. record { key = d .0; value = d .1 }
-    go false true c e f g = λ t. record { key = d .0; value = omega arith }
+    go true b c e f g = λ t. record { key = d .0; value = omega (arith, d .1, result-holds (r .y)) }
+    go false true c e f g = λ t. record { key = d .0; value = omega (arith, withdrawn-holds 0) }
     go false false true e f g = tt
     go false false false true f g = tt
     go false false false false true g = tt

@@ -15,7 +15,7 @@ use Rattle.plan.specs.Plan.{Plan}
 use Rattle.store.specs.declared.Slot.{Slot}
 use Rattle.store.specs.Answers.{DONE, GOING, answer}
 use Rattle.store.specs.Copies.{kindNumber, valueHeld}
-use Rattle.store.specs.State.{State, slotAt, idle}
+use Rattle.store.specs.State.{State, slotAt, idle, idleMark}
 use Rattle.store.specs.Calls.{Effect}
 use Rattle.steps.specs.Searches.{running, withSlot}
 use Rattle.steps.proofs.WaysOut.{StartWay, start-way, RunningWay, Visit, step-way, Freed, cancel-way}
@@ -29,7 +29,7 @@ use Rattle.theory.specs.Events.Event.{enters, carries, starts, steps, cancels, 
 
 -- No search runs in slot i.
 abbrev pub Idles : State → ℕ → Type 0
-Idles s i = slotAt s i .running ≡ 0
+Idles s i = slotAt s i .running ≡ idleMark
 
 module _ (s : State) (i : ℕ) where
   -- Past the slots none runs; a slot that is made idle is idle.

@@ -13,7 +13,7 @@ use Rattle.plan.specs.declared.Edge.{Edge}
 use Rattle.plan.specs.Sizes.{mostNodes}
 use Rattle.plan.specs.Plan.{Plan, noEdge, size, capacityOf, edgesOf, edgeOf}
 use Rattle.plan.specs.PlanRules.{IsEdge}
-use Rattle.plan.specs.PlanArrays.{Grid, atNode, edgeCountIn, edgesIn, capacitiesRow, countsRow, gridOf}
+use Rattle.plan.specs.PlanArrays.{Grid, RowsOf, atNode, edgeCountIn, edgesIn, capacitiesRow, countsRow}
 use Rattle.plan.proofs.RowsLent.{capacity-of, count-of, edge-here}
 use Rattle.plan_table.specs.PlanTable.{planNumbered}
 use Rattle.store.specs.declared.Answer.{Answer}
@@ -27,9 +27,9 @@ use Rattle.store.specs.StoreRules.{goodStore}
 use Rattle.store.specs.Calls.{onStore}
 use Rattle.store.specs.Workers.{Within, numberIn, itself}
 use Rattle.store.proofs.Laying.{OneNode, set-one, node-laid, node-grown, counts-written, store-is, state-node, state-count, length-nodes, state-clock, state-slots}
-use Rattle.store.proofs.WhichPlan.{plan-numbered, capacities-known, rows-known}
+use Rattle.store.proofs.WhichPlan.{plan-numbered, capacities-known}
 use Rattle.store.proofs.Lifting.{plan-good, state-good, on-way, on-refusal}
-use Rattle.store.proofs.GoodNodes.{count-fits, node-rises, counts-are, keys-are, kinds-are, values-are, stamps-are}
+use Rattle.store.proofs.GoodNodes.{counts-fit, node-rises, counts-are, keys-are, kinds-are, values-are, stamps-are}
 use Rattle.steps.specs.Carries.{Merged, countHeld, mergeAlong, carriedTo, carriedOut, carryStep}
 use Rattle.steps.proofs.Merges.{merging, stay-short, target-long}
 use Rattle.steps.proofs.CarryLaws.{carry-done}
@@ -122,7 +122,7 @@ module _ (z : Store) (good : goodStore z ≡ true) (n i : ℕ) (d : IsEdge (plan
     store-ready =
         let few = node-few in
         let fewer = target-few in
-        let a = count-fits z good n few in
+        let a = counts-fit z good n few in
         let b = held-within in
         let c = capacity-few in
         record {
@@ -178,7 +178,7 @@ module _ (z : Store) (good : goodStore z ≡ true) (n i : ℕ) (d : IsEdge (plan
       column-movable =
           rw (decided .stays .listed, decided .gets .listed)
           (movable (numberIn (z .keys)) capacity e (width * n) (countOf z n) (width * t) (countOf z t)
-          (omega (arith, target-below, count-fits z good n node-few)) (omega (arith, got-is, decided .gets .counted, target-few)))
+          (omega (arith, target-below, counts-fit z good n node-few)) (omega (arith, got-is, decided .gets .counted, target-few)))
 
       stays-within : Within (take (m .kept) stay) places
       stays-within j h = omega (arith, column-movable .low j h, target-few)
@@ -221,7 +221,7 @@ module _ (z : Store) (good : goodStore z ≡ true) (n i : ℕ) (d : IsEdge (plan
             c-is,
           )
           (column-written (s .nodes) n t xs ys (omega arith) (omega arith) node-apart part zero (countOf z n - m .kept) node-few target-few
-          (omega (arith, state-count z n here)) (omega (arith, count-fits z good n node-few)) (omega (arith, state-count z t there))
+          (omega (arith, state-count z n here)) (omega (arith, counts-fit z good n node-few)) (omega (arith, state-count z t there))
           (omega (arith, decided .gets .counted)))
 
       -- The store after the carry, and its answer.
@@ -315,7 +315,7 @@ module _ {counts keys : List ℕ} {n i : ℕ} {e : Edge} {capacity : ℕ} {z : S
 
   -- hold no more copies than a node has places,
   pub fits : (m : ℕ) → m < mostNodes → getD counts m 0 ≤ width
-  fits m h = rw (← (w .counts-are)) (count-fits z (w .good) m h)
+  fits m h = rw (← (w .counts-are)) (counts-fit z (w .good) m h)
 
   -- and can be merged.
   pub ready : Ready keys capacity (width * n) had (width * (e .target)) held
@@ -380,19 +380,17 @@ module _ (z : Store) (good : goodStore z ≡ true) (n i : ℕ) {nodes : ℕ} (no
         ))
 
     -- and the edge and its target's capacity, as the rows have them.
-    pub carriable : i < count → (lows highs targets : Grid) → lows ≡ gridOf (λ (e : Edge). e .lowest) (planNumbered (z .plan))
-        → highs ≡ gridOf (λ (e : Edge). e .highest) (planNumbered (z .plan)) → targets ≡ gridOf (λ (e : Edge). e .target) (planNumbered (z .plan))
-        → (e : Edge) → e ≡ getD (edgesIn edges lows highs targets n) i noEdge
+    pub carriable : i < count → {lows highs targets : Grid} → RowsOf (planOf z) nodes edges lows highs targets → (e : Edge)
+        → e ≡ getD (edgesIn edges lows highs targets n) i noEdge
         → (capacities : List ℕ) → capacities ≡ capacitiesRow (planNumbered (z .plan)) → (capacity : ℕ) → capacity ≡ atNode capacities (e .target)
         → Carriable (z .counts) (z .keys) n i e capacity z
-    carriable h lows highs targets lows-are highs-are targets-are e e-is capacities capacities-are capacity capacity-is =
+    carriable h rows e e-is capacities capacities-are capacity capacity-is =
         record {
           good = good;
           counts-are = refl;
           keys-are = refl;
           is-edge = record { node = omega (arith, its-nodes); edge = omega (arith, its-edges) };
-          edge-is =
-              edge-here (rows-known z (plan-good z good) nodes edges lows highs targets nodes-are edges-are lows-are highs-are targets-are) n i e e-is;
+          edge-is = edge-here rows n i e e-is;
           capacity-is = capacity-is ∙ capacity-of (planOf z) (plan-good z good) capacities (capacities-known z capacities capacities-are) (e .target);
         }
 

@@ -48,10 +48,10 @@ unfolding tabulate
 run-climbs s zero = done
 run-climbs s (suc n) = next (le-refl s) (run-climbs (suc s) n)
 
-run-rises : (s n : ℕ) → Rising itself s (tabulate s n itself)
+tabulated-rises : (s n : ℕ) → Rising itself s (tabulate s n itself)
 unfolding tabulate
-run-rises s zero = end
-run-rises s (suc n) = above (le-refl s) (run-rises (suc s) n)
+tabulated-rises s zero = end
+tabulated-rises s (suc n) = above (le-refl s) (tabulated-rises (suc s) n)
 
 span-within : (a e b : ℕ) → e ≤ b → Within (span a e) b
 span-within a e b h i g =
@@ -105,6 +105,6 @@ module _ (key : ℕ → ℕ) (capacity : ℕ) (e : Edge) where
         apart = apart;
         room = room;
         under = climbing-under (target-climbs m (span-within from (from + had) start apart) (run-climbs start (start + held - start)));
-        over = rising-over (stay-rises m (run-rises from (from + had - from)));
+        over = rising-over (stay-rises m (tabulated-rises from (from + had - from)));
         low = stay-within m (span-within from (from + had) start apart);
       }

@@ -9,7 +9,8 @@ use lib.ListN.{length, length-append}
 use Rattle.number.specs.Number.{form}
 use Rattle.number.proofs.Forms.{form-length}
 use Rattle.store.specs.declared.Copy.{Copy}
-use Rattle.store.specs.Copies.{hasValue}
+use Rattle.store.specs.Copies.{RESULT, hasValue}
+use Rattle.store.proofs.KindLaws.{result-valued}
 use Rattle.copies.specs.CopyBytes.{valueBytes, copyBytes}
 
 module _ (kind v : ℕ) where
@@ -23,6 +24,7 @@ module _ (kind v : ℕ) where
   unfolding valueBytes
   value-left-out h = rw h
 
+  -- Either way it takes no more bytes than a number.
   pub value-short : length (valueBytes kind v) ≤ 5
   unfolding valueBytes
   value-short = go (hasValue kind)
@@ -30,6 +32,10 @@ module _ (kind v : ℕ) where
       go : (t : Bool) → length {A = ℕ} (cond t (form v) []) ≤ 5
       go true = form-length v
       go false = lit≤ tt
+
+-- A result has a value.
+pub result-written : (v : ℕ) → valueBytes RESULT v ≡ form v
+result-written v = value-written RESULT v result-valued
 
 -- The numbers of a copy, one after another.
 pub copy-length : (x : Copy)

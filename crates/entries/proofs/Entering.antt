@@ -1,4 +1,4 @@
--- The ways of an entry: a bad store, the clock at its last value, a copy replaced, a copy added, and a full root.
+-- The ways of an entry: a bad store, the clock at its last value, a copy replaced, a copy added, and a full root; and what it holds.
 -- Assumes nothing.
 use mathlib.Core.Path.{_≡_, refl, sym, ap, _∙_}
 use mathlib.Core.Bool.{true, false, true≢false, false≢true}
@@ -13,20 +13,23 @@ use Rattle.lists.proofs.Inserting.{length-put-in}
 use Rattle.plan.specs.Plan.{Plan, capacityOf}
 use Rattle.store.specs.declared.Answer.{Answer}
 use Rattle.store.specs.declared.Copy.{Copy}
+use Rattle.store.specs.declared.Outcome.{Outcome}
 use Rattle.store.specs.declared.Store.{Store}
 use Rattle.store.specs.Answers.{DONE, CLOCK, FULL, answer, bare}
-use Rattle.store.specs.Copies.{copy, noCopy, keyOf, find}
+use Rattle.store.specs.Copies.{WITHDRAWN, RESULT, copy, noCopy, keyOf, find}
 use Rattle.store.specs.State.{State, nodeAt, lastClock}
 use Rattle.store.specs.Layout.{planOf, width, countOf, stateOf, column}
 use Rattle.store.specs.StoreRules.{goodStore}
 use Rattle.store.specs.Calls.{Effect, onStore}
 use Rattle.store.specs.Workers.{below, placeIn, ofParts, opened}
+use Rattle.store.proofs.KindLaws.{result-holds, withdrawn-holds}
 use Rattle.store.proofs.Laying.{set-one, length-column, counts-written, copy-written, store-is, length-nodes, state-node, state-count, state-copy, state-clock, state-slots}
 use Rattle.store.proofs.Opening.{opened-start, opened-set}
 use Rattle.store.proofs.Seeking.{below-length, find-rising, find-none}
 use Rattle.store.proofs.Lifting.{plan-good, state-good, on-way, on-refusal}
-use Rattle.store.proofs.GoodNodes.{node-place, root-there, count-fits, counts-are, keys-are, kinds-are, values-are, stamps-are}
+use Rattle.store.proofs.GoodNodes.{node-place, root-there, counts-fit, counts-are, keys-are, kinds-are, values-are, stamps-are}
 use Rattle.steps.specs.Entries.{put, room, refused, entered, entry}
+use Rattle.steps.specs.Promises.{Enters, Withdraws}
 use Rattle.steps.proofs.NodeLists.{room-has, room-free, room-none}
 use Rattle.steps.proofs.Putting.{put-replaced, put-added}
 use Rattle.entries.specs.declared.Entered.{Entered}
@@ -72,7 +75,7 @@ module _ (z : Store) (good : goodStore z ≡ true) where
   root-count = state-count z 0 (root-there z good)
 
   root-fits : countOf z 0 ≤ width
-  root-fits = count-fits z good 0 (omega arith)
+  root-fits = counts-fit z good 0 (omega arith)
 
   root-key : (i : ℕ) → i < countOf z 0 → getD (z .keys) i 0 ≡ keyOf (getD root i noCopy)
   root-key i h = rw zero-add at (sym (ap keyOf (state-copy z 0 i (root-there z good) h)))
@@ -247,3 +250,11 @@ pub accepted-out : (z : Store) (kind k v : ℕ) (d : Decision) → acceptance d 
     → record { answer = a; store = ofParts (z .plan) (z .clock + 1) (set (z .counts) 0 (d .count)) keys kinds values stamps (z .slots) }
     ≡ onStore (entry kind k v) z
 accepted-out z kind k v d h a e k-is kind-is v-is stamp-is = rw (e, k-is, kind-is, v-is, stamp-is) h
+
+-- An entry of a result holds the value given,
+pub enters-held : (z : Store) (k v held : ℕ) {r : Outcome} → held ≡ v → r ≡ onStore (entry RESULT k held) z → Enters z k v r
+enters-held z k v held h e = e ∙ ap (λ (w : ℕ). onStore (entry RESULT k w) z) (h ∙ sym (result-holds v))
+
+-- and a withdrawal 0.
+pub withdraws-held : (z : Store) (k held : ℕ) {r : Outcome} → held ≡ 0 → r ≡ onStore (entry WITHDRAWN k held) z → Withdraws z k r
+withdraws-held z k held h e = e ∙ ap (λ (w : ℕ). onStore (entry WITHDRAWN k w) z) (h ∙ sym (withdrawn-holds 0))

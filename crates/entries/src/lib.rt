@@ -1,6 +1,6 @@
 // Enter and withdraw. Document 01, "What each step does": "an entry either way".
 ghost use mathlib.Core.Path.{_≡_};
-ghost use Rattle.steps.specs.Entries.{entry as entryStep};
+ghost use Rattle.steps.specs.Entries.{entry};
 ghost use Rattle.steps.specs.Promises.{Enters, Withdraws};
 ghost use Rattle.store.specs.Answers.{bare};
 ghost use Rattle.store.specs.Calls.{onStore};
@@ -135,8 +135,8 @@ pub fn withdraw_lent<'a>(
 }
 
 // The same by value: the columns are taken out of the store, lent, and put back.
-fn entry(store: Store, kind: u32, key: u32, value: u32) -> Outcome
-    ensures { λ r. ⌜ r ≡ onStore (entryStep kind key value) store ⌝ }
+fn entry_by_value(store: Store, kind: u32, key: u32, value: u32) -> Outcome
+    ensures { λ r. ⌜ r ≡ onStore (entry kind key value) store ⌝ }
 {
     let slots = store.slots;
     let mut counts = store.counts;
@@ -178,12 +178,12 @@ fn entry(store: Store, kind: u32, key: u32, value: u32) -> Outcome
 pub fn enter(store: Store, key: u32, value: u32) -> Outcome
     ensures { λ r. ⌜ Enters store key value r ⌝ }
 {
-    entry(store, Copy::RESULT, key, value)
+    entry_by_value(store, Copy::RESULT, key, value)
 }
 
 // Withdraw: the line gets a withdrawn copy, which holds 0.
 pub fn withdraw(store: Store, key: u32) -> Outcome
     ensures { λ r. ⌜ Withdraws store key r ⌝ }
 {
-    entry(store, Copy::WITHDRAWN, key, 0)
+    entry_by_value(store, Copy::WITHDRAWN, key, 0)
 }

@@ -5,18 +5,17 @@ use mathlib.Core.List.{List, []}
 use Prim.Native.Nat.{ℕ, suc, _+_, _<_, _≤_}
 use native.Mathlib.Omega.{arith}
 use native.Mathlib.Numerals.{add-one}
-use native.Mathlib.Decide.{decLt}
-use lib.ListN.{length, getD, drop, replicate, drop-of-length-le, List·getD-eq-default}
+use lib.ListN.{length, getD, drop, replicate, drop-of-length-le}
 use lib.Seq.{drop-cons}
 use borrow.Author.Tests.{lt-ltb, le-ltb}
 use Rattle.lists.proofs.Tabulating.{length-tabulate}
 use Rattle.lists.proofs.Truths.{both-le}
 use Rattle.plan.specs.Sizes.{mostNodes}
-use Rattle.plan.specs.Plan.{Node, Plan, noNode, size, capacityOf}
+use Rattle.plan.specs.Plan.{size}
 use Rattle.plan.specs.PlanRules.{PlanRules}
 use Rattle.plan_table.specs.PlanTable.{planNumbered, plans}
 use Rattle.plan_table.proofs.TableLaws.{table-rules}
-use Rattle.plan.specs.PlanArrays.{atNode, capacitiesRow}
+use Rattle.plan.specs.PlanArrays.{capacitiesRow}
 use Rattle.store.specs.declared.Answer.{Answer}
 use Rattle.store.specs.declared.Copy.{Copy}
 use Rattle.store.specs.declared.Outcome.{Outcome}
@@ -24,9 +23,10 @@ use Rattle.store.specs.declared.Slot.{Slot}
 use Rattle.store.specs.declared.Store.{Store}
 use Rattle.store.specs.Answers.{DONE, RULE, TRAIL, answer}
 use Rattle.store.specs.State.{slotCount, idle}
-use Rattle.store.specs.Layout.{width, places, refusedStore}
+use Rattle.store.specs.Layout.{places, refusedStore}
 use Rattle.store.specs.StoreRules.{planNumberTest, goodStore}
-use Rattle.store.specs.Workers.{Sized, ofParts}
+use Rattle.store.specs.Workers.{WithinPlaces, Sized, ofParts}
+use Rattle.store.proofs.Widths.{rows-fit}
 use Rattle.store.proofs.Laying.{store-is, length-column, blank-column, blank-counts}
 use Rattle.wire.specs.declared.Num.{Num}
 use Rattle.wire.specs.Reading.{Got, got, fault}
@@ -34,7 +34,7 @@ use Rattle.wire.proofs.Chains.{bind-got, bind-fault, num-got, num-fault}
 use Rattle.image_reading.specs.declared.Head.{Head}
 use Rattle.image_reading.specs.ImageReading.{readNodes, loaded, nodesFrom, imageAt}
 use Rattle.image_reading.specs.Workers.{Columns, columns, columnsOf, countsOf, LaysNodes, ReadsHead}
-use Rattle.image_reading.proofs.NodeWays.{capacity-here, ending-got, ending-fault}
+use Rattle.image_reading.proofs.NodeWays.{ending-got, ending-fault}
 use Rattle.image_loading.specs.Loading.{refusedLoad, copiesHeld, finished, loadOutcome}
 use Rattle.image_loading.specs.Workers.{idleStore, loadedIn}
 
@@ -125,27 +125,12 @@ empty-columns =
 
 -- The nodes and the capacities of a plan have places in a store.
 pub plan-places : (plan : ℕ) {nodes : ℕ} {capacities : List ℕ} → planNumberTest plan ≡ true → nodes ≡ size (planNumbered plan)
-    → capacities ≡ capacitiesRow (planNumbered plan) → (nodes ≤ mostNodes) × ((n : ℕ) → atNode capacities n ≤ width)
+    → capacities ≡ capacitiesRow (planNumbered plan) → (nodes ≤ mostNodes) × WithinPlaces capacities
 unfolding planNumberTest
-plan-places plan {nodes} {capacities} t e f = (omega (arith, few), λ n. room n (decLt n (size p)))
+plan-places plan {nodes} {capacities} t e f = (omega (arith, rules .nodes-within), rows-fit (planNumbered plan) rules capacities f)
   where
-    p : Plan
-    p = planNumbered plan
-
-    rules : PlanRules p
+    rules : PlanRules (planNumbered plan)
     rules = let w = both-le 1 plan plan plans t in table-rules plan (w .0) (w .1)
-
-    few : size p ≤ mostNodes
-    few = rules .nodes-within .1
-
-    row : (n : ℕ) → atNode capacities n ≡ capacityOf p n
-    row n = capacity-here p few f n refl
-
-    room : (n : ℕ) → Dec (n < size p) → atNode capacities n ≤ width
-    room n (yes h) = omega (arith, row n, rules .capacity-within n h .1)
-    room n (no h) =
-        let none : capacityOf p n ≡ 0 = ap (λ (d : Node). d .capacity) (List·getD-eq-default p noNode (omega arith)) in
-        omega (arith, row n)
 
 module _ (s : List ℕ) (plan clock at : ℕ) {r : Num} {counts keys kinds values stamps : List ℕ}
     (l : LaysNodes (readNodes s (planNumbered plan) at) r counts (columns keys kinds values stamps)) where

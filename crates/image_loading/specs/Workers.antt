@@ -23,7 +23,7 @@ abbrev pub lentLoaded : Loaded → LentList → LentList → LentList → LentLi
 lentLoaded r counts keys kinds values stamps =
     loadedIn r (counts .exit .now) (keys .exit .now) (kinds .exit .now) (values .exit .now) (stamps .exit .now)
 
--- A store with all slots idle.
+-- The store of these parts, with all slots idle.
 abbrev pub idleStore : ℕ → ℕ → List ℕ → List ℕ → List ℕ → List ℕ → List ℕ → Store
 idleStore plan clock counts keys kinds values stamps = ofParts plan clock counts keys kinds values stamps (replicate slotCount idle)
 

@@ -2,7 +2,7 @@
 use mathlib.Core.Path.{_≡_}
 use mathlib.Core.Bool.{true, false}
 use mathlib.Core.List.{List, [], map}
-use Prim.Native.Nat.{ℕ, _≤_}
+use Prim.Native.Nat.{ℕ}
 use lib.ListN.{length, getD}
 use lib.Seq.{sets}
 use denote.Ref.{RefT}
@@ -10,9 +10,9 @@ use Rattle.lists.specs.Indexed.{tabulate}
 use Rattle.lists.specs.Lending.{LentList}
 use Rattle.plan.specs.Sizes.{mostNodes}
 use Rattle.plan.specs.Plan.{Plan, size}
-use Rattle.plan.specs.PlanArrays.{atNode, capacitiesRow}
+use Rattle.plan.specs.PlanArrays.{capacitiesRow}
 use Rattle.store.specs.declared.Copy.{Copy}
-use Rattle.store.specs.Layout.{width, column}
+use Rattle.store.specs.Layout.{column}
 use Rattle.store.specs.StoreRules.{planNumberTest}
 use Rattle.wire.specs.declared.Num.{Num}
 use Rattle.wire.specs.Reading.{Got, got, fault, bind, numOf}
@@ -57,10 +57,6 @@ countsOf ns = tabulate 0 mostNodes (λ n. length (getD ns n []))
 -- Lent counts and columns hold nothing.
 abbrev pub LentEmpty : RefT (List ℕ) → RefT (List ℕ) → RefT (List ℕ) → RefT (List ℕ) → RefT (List ℕ) → Type 0
 LentEmpty counts keys kinds values stamps = (counts .now ≡ countsOf []) × (lentColumns keys kinds values stamps ≡ columnsOf [])
-
--- There are places for so many nodes, and to each for as many copies as its capacity, lent, allows.
-abbrev pub HasPlaces : ℕ → RefT (List ℕ) → Type 0
-HasPlaces nodes capacities = (nodes ≤ mostNodes) × ((n : ℕ) → atNode (capacities .now) n ≤ width)
 
 -- No number of what was read is wanted.
 abbrev pub noNumber : {A : Type 0} → A → ℕ

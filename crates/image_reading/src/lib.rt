@@ -5,8 +5,9 @@ ghost use Prim.Native.Nat.{_-_, _*_, _≤_, _<_};
 ghost use lib.ListN.{length};
 ghost use Rattle.plan.specs.Sizes.{mostNodes};
 ghost use Rattle.store.specs.Layout.{width, places};
+ghost use Rattle.store.specs.Workers.{LentWithinPlaces};
 ghost use Rattle.image_reading.specs.ImageReading.{readCopies, readNode};
-ghost use Rattle.image_reading.specs.Workers.{noNumber, LentEmpty, HasPlaces, LentLays, ReadsNodes, ReadsHead};
+ghost use Rattle.image_reading.specs.Workers.{noNumber, LentEmpty, LentLays, ReadsNodes, ReadsHead};
 use image_writing::FORMAT;
 use store::Answer;
 use store::Store;
@@ -115,7 +116,7 @@ pub fn read_nodes(
     stamps: &mut [u32; Store::PLACES],
     at: usize,
 ) -> Num
-    requires { ⌜ HasPlaces nodes capacities × LentEmpty counts keys kinds values stamps ⌝ }
+    requires { ⌜ LentWithinPlaces nodes capacities × LentEmpty counts keys kinds values stamps ⌝ }
     ensures { λ r. ⌜ ReadsNodes (bytes .entry) nodes (capacities .entry) at counts keys kinds values stamps r ⌝ }
 {
     let mut next = at;

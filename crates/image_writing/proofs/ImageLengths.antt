@@ -1,30 +1,24 @@
 -- How many bytes the parts of an image take, and that they are not too many for a machine's number. Assumes nothing.
 use mathlib.Core.Path.{_≡_, refl, ap}
-use mathlib.Core.Bool.{true}
 use mathlib.Core.List.{List, [], _∷_, _++_}
 use Prim.Native.Nat.{ℕ, suc, _+_, _-_, _*_, _<_, _≤_}
 use native.Mathlib.Omega.{arith}
-use native.Mathlib.Decide.{decLt}
 use lib.Dec.{lit≤}
-use lib.ListN.{length, getD, length-append, List·getD-eq-default}
+use lib.ListN.{length, getD, length-append}
 use Rattle.lists.specs.Indexed.{tabulate}
 use Rattle.lists.proofs.Tabulating.{length-tabulate, getD-tabulate-0}
 use Rattle.number.specs.Number.{form}
 use Rattle.number.proofs.Forms.{form-length}
 use Rattle.plan.specs.Sizes.{mostNodes}
 use Rattle.store.specs.declared.Copy.{Copy}
-use Rattle.store.specs.declared.Store.{Store}
 use Rattle.store.specs.Layout.{width, nodeIn}
 use Rattle.store.specs.State.{State}
-use Rattle.store.specs.StoreRules.{StoreRules, goodStore}
-use Rattle.store.proofs.Laying.{length-node-in, every-count, node-fits}
-use Rattle.store.proofs.Lifting.{plan-good}
-use Rattle.store.proofs.Ruling.{good-rules}
+use Rattle.store.specs.Workers.{WithinPlaces}
+use Rattle.store.proofs.Laying.{length-node-in}
 use Rattle.wire.proofs.Parts.{count-on, count-off}
 use Rattle.copies.specs.CopyBytes.{copyBytes}
 use Rattle.copies.proofs.CopyLengths.{longestCopy, copy-short}
 use Rattle.image_writing.specs.Image.{formatNumber, copiesBytes, nodeBytes, nodesBytes, imageOf}
-use Rattle.image_writing.specs.Workers.{WithinPlaces}
 
 -- ---- copies
 
@@ -79,31 +73,18 @@ nodes-short (xs ∷ ns) h =
     rw (more-nodes xs ns)
     (omega (arith, length-append (nodeBytes xs) (nodesBytes ns), node-short xs (h 0 (omega arith)), nodes-short ns (λ n g. h (suc n) (omega arith))))
 
-pub nodes-in-short : (size : ℕ) (counts keys kinds values stamps : List ℕ) → WithinPlaces counts
+pub nodes-in-short : (size : ℕ) (counts keys kinds values stamps : List ℕ) → size ≤ mostNodes → WithinPlaces counts
     → length (nodesBytes (tabulate 0 size (nodeIn counts keys kinds values stamps))) ≤ longestNode * size
-nodes-in-short size counts keys kinds values stamps within =
+nodes-in-short size counts keys kinds values stamps there within =
     let ns = tabulate 0 size f in
     let long : length ns ≡ size = length-tabulate f 0 size in
-    omega (arith, nodes-short ns (λ n h. rw (getD-tabulate-0 f size n [] (omega arith)) (few n)))
+    omega (arith, nodes-short ns (λ n h. rw (getD-tabulate-0 f size n [] (omega arith)) (few n (omega arith))))
   where
     f : ℕ → List Copy
     f n = nodeIn counts keys kinds values stamps n
 
-    few : (n : ℕ) → length (f n) ≤ width
-    few n = rw (length-node-in counts keys kinds values stamps n) (within n)
-
--- In a good store no node holds more than its places.
-pub good-within : (z : Store) → goodStore z ≡ true → WithinPlaces (z .counts)
-good-within z good n = go (decLt n mostNodes)
-  where
-    rules : StoreRules z
-    rules = good-rules z good
-
-    go : Dec (n < mostNodes) → getD (z .counts) n 0 ≤ width
-    go (yes h) = omega (arith, every-count z rules n h, node-fits (plan-good z good) (rules .state-rules) n)
-    go (no h) =
-        let e : getD (z .counts) n 0 ≡ 0 = List·getD-eq-default (z .counts) 0 (omega (arith, rules .shape .counts-long)) in
-        omega arith
+    few : (n : ℕ) → n < mostNodes → length (f n) ≤ width
+    few n h = rw (length-node-in counts keys kinds values stamps n) (within n h)
 
 -- ---- an image
 

@@ -1,22 +1,12 @@
 -- What the writers of an image are lent: the copies, the nodes and the state that columns hold.
 use mathlib.Core.List.{List, []}
-use Prim.Native.Nat.{ℕ, _-_, _*_, _≤_}
-use lib.ListN.{getD}
+use Prim.Native.Nat.{ℕ, _-_, _*_}
 use denote.Ref.{RefT}
 use Rattle.lists.specs.Indexed.{tabulate}
-use Rattle.plan.specs.Sizes.{mostNodes}
 use Rattle.store.specs.declared.Copy.{Copy}
 use Rattle.store.specs.Layout.{width, copyIn, stateIn}
 use Rattle.store.specs.Workers.{lentState}
 use Rattle.image_writing.specs.Image.{imageOf}
-
--- No node holds more than its places.
-abbrev pub WithinPlaces : List ℕ → Type 0
-WithinPlaces counts = (n : ℕ) → getD counts n 0 ≤ width
-
--- There are no more nodes than a store has, and by the counts lent none of them holds more than its places.
-abbrev pub LentWithinPlaces : ℕ → RefT (List ℕ) → Type 0
-LentWithinPlaces nodes counts = (nodes ≤ mostNodes) × WithinPlaces (counts .now)
 
 -- The copies that lent columns hold at the places from one up to another.
 abbrev pub lentCopies : RefT (List ℕ) → RefT (List ℕ) → RefT (List ℕ) → RefT (List ℕ) → ℕ → ℕ → List Copy

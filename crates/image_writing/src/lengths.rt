@@ -4,8 +4,9 @@ ghost use Prim.Native.Nat.{_≤_, _<_};
 ghost use lib.ListN.{length};
 ghost use Rattle.plan.specs.Sizes.{mostNodes};
 ghost use Rattle.store.specs.Layout.{width, places};
+ghost use Rattle.store.specs.Workers.{LentWithinPlaces};
 ghost use Rattle.image_writing.specs.Image.{copiesBytes, nodeBytes, nodesBytes};
-ghost use Rattle.image_writing.specs.Workers.{LentWithinPlaces, lentCopies, lentNode, lentNodes, lentImage};
+ghost use Rattle.image_writing.specs.Workers.{lentCopies, lentNode, lentNodes, lentImage};
 use crate::FORMAT;
 use store::Store;
 

@@ -57,7 +57,7 @@ module _ {A : Type 0} where
   pub stands-tail : {s : List A} {at : ℕ} {b : A} {l : List A} {next : ℕ} → Stands s at (b ∷ l) next → Stands s (at + 1) l next
   stands-tail {b = b} h = record { here = stands-first b h .rest; width = let w = h .width in omega arith }
 
-  -- Two runs of elements, one after the other, stand as one.
+  -- Two lists, one after the other, stand as one.
   pub stands-join : {s : List A} {at : ℕ} {l : List A} {mid : ℕ} {k : List A} {next : ℕ} → Stands s at l mid → Stands s mid k next
       → Stands s at (l ++ k) next
   stands-join {s} {at} {l} {mid} {k} {next} a b =
@@ -66,17 +66,17 @@ module _ {A : Type 0} where
         width = let v = a .width in let w = b .width in omega (arith, length-append l k);
       }
 
-  -- Behind a run that stands at a place comes what follows it.
+  -- Behind a list that stands at a place comes what follows it.
   over : (s : List A) (at : ℕ) (l t : List A) → drop at s ≡ l ++ t → drop (at + length l) s ≡ t
   over s at l t e = sym (drop-drop (length l) at s) ∙ ap (drop (length l)) e ∙ drop-append-seam l t
 
-  -- Of two runs that stand as one, the first stands by itself.
+  -- Of two lists that stand as one, the first stands by itself.
   pub stands-left : {s : List A} {at : ℕ} (l k : List A) {next : ℕ} → Stands s at (l ++ k) next → Stands s at l (at + length l)
   stands-left {s} {at} l k {next} h =
       let e : drop at s ≡ l ++ (k ++ drop next s) = h .here ∙ append-assoc l k (drop next s) in
       record { here = e ∙ ap (λ (t : List A). l ++ t) (sym (over s at l (k ++ drop next s) e)); width = refl }
 
-  -- Of two runs that stand as one, the second stands where the first ends.
+  -- Of two lists that stand as one, the second stands where the first ends.
   pub stands-right : {s : List A} {at : ℕ} (l k : List A) {next : ℕ} → Stands s at (l ++ k) next → Stands s (at + length l) k next
   stands-right {s} {at} l k {next} h =
       record {
@@ -88,16 +88,12 @@ module _ {A : Type 0} where
   pub stands-front : (l t : List A) → Stands (l ++ t) 0 l (length l)
   stands-front l t = record { here = ap (λ (r : List A). l ++ r) (sym (drop-append-seam l t)); width = omega arith }
 
-  -- What is left from a place on is the run that stands there and what is left after it.
+  -- What is left from a place on is the list that stands there and what is left after it.
   pub stands-lengths : {s : List A} {at : ℕ} {l : List A} {next : ℕ} → Stands s at l next → length s - at ≡ length l + (length s - next)
   stands-lengths {s} {at} {l} {next} h =
       sym (length-drop at s) ∙ ap length (h .here) ∙ length-append l (drop next s) ∙ ap (λ (n : ℕ). length l + n) (length-drop next s)
 
-  -- What stands from a place inside the list ends inside it.
-  pub stands-fits : {s : List A} {at : ℕ} {l : List A} {next : ℕ} → at ≤ length s → Stands s at l next → next ≤ length s
-  stands-fits g h = let w = h .width in omega (arith, stands-lengths h)
-
-  -- A run that is not empty ends inside the list.
+  -- A list that is not empty ends inside the one that it stands in.
   pub stands-fits-some : {s : List A} {at : ℕ} {l : List A} {next : ℕ} → 1 ≤ length l → Stands s at l next → next ≤ length s
   stands-fits-some g h = let w = h .width in omega (arith, stands-lengths h)
 
@@ -107,18 +103,18 @@ module _ {A : Type 0} where
   pub wrote-nil : (b : List A) (at : ℕ) → Wrote b at [] at b
   wrote-nil b at = record { to = omega arith; holds = refl }
 
-  -- An element stored at a place, and a run written after it, were written as one.
+  -- An element stored at a place, and a list written after it, were written as one.
   pub wrote-cons : {b : List A} {at : ℕ} {x : A} {l : List A} {next : ℕ} {c : List A} → Wrote (set b at x) (at + 1) l next c → Wrote b at (x ∷ l) next c
   wrote-cons {b} {at} {x} {l} w = record { to = let e = w .to in omega arith; holds = rw add-one at (w .holds) }
 
-  -- A run of stores can be cut in two.
+  -- Stores in a row can be cut in two.
   pub sets-join : (l k b : List A) (at : ℕ) → sets b at (l ++ k) ≡ sets (sets b at l) (at + length l) k
   sets-join [] k b at = rw add-zero
   sets-join (x ∷ l) k b at =
       let e : suc at + length l ≡ at + suc (length l) = omega arith in
       sets-join l k (set b at x) (suc at) ∙ ap (λ (n : ℕ). sets (sets (set b at x) (suc at) l) n k) e
 
-  -- Two runs written one after the other were written as one.
+  -- Two lists written one after the other were written as one.
   pub wrote-join : {b : List A} {at : ℕ} {l : List A} {mid : ℕ} {c k : List A} {next : ℕ} {e : List A} → Wrote b at l mid c → Wrote c mid k next e
       → Wrote b at (l ++ k) next e
   wrote-join {b} {at} {l} {mid} {c} {k} p q =
@@ -160,7 +156,7 @@ module _ {A : Type 0} where
   no-elements [] h = refl
   no-elements (x ∷ l) h = absurd (omega arith)
 
-  -- Where two runs fit as one, the first fits.
+  -- Where two lists fit as one, the first fits.
   pub fits-left : (at : ℕ) (l k : List A) {most : ℕ} → at + length (l ++ k) ≤ most → at + length l ≤ most
   fits-left at l k h = omega (arith, length-append l k)
 

@@ -1,4 +1,4 @@
--- Laws of stores into a list by index: a run of stores, a store into a run, and a list of one element only. Assumes nothing.
+-- Laws of stores into a list by index: stores in a row, a store into a tabulated list, and a list of one element only. Assumes nothing.
 use mathlib.Core.Path.{_≡_, refl, sym, ap, _∙_}
 use mathlib.Core.List.{List, [], _∷_, _++_, map}
 use Prim.Native.Nat.{ℕ, zero, suc, _+_, _<_, _≤_}
@@ -10,7 +10,7 @@ use lib.Seq.{sets, set-comm, getD-set-same, getD-set-other}
 use Rattle.lists.specs.Indexed.{tabulate}
 use Rattle.lists.proofs.Tabulating.{length-tabulate, getD-tabulate-0, as-tabulate}
 
--- A run of stores leaves what stands before it and after it, and puts its elements in between.
+-- Stores in a row leave what stands before and after them, and put their elements in between.
 module _ {A : Type 0} where
   pub sets-below : (vs l : List A) (i j : ℕ) (d : A) → j < i → getD (sets l i vs) j d ≡ getD l j d
   sets-below [] l i j d h = refl
@@ -28,7 +28,7 @@ module _ {A : Type 0} where
       ap (λ (n : ℕ). getD (sets (set l i v) (suc i) vs) n d) (add-suc i k ∙ sym (suc-add i k))
       ∙ sets-inside vs (set l i v) (suc i) k d (rw length-set (omega arith)) (omega arith)
 
-  -- A store past a run of stores may come first; right behind it, it is one more of the run.
+  -- A store past stores in a row may come first; right behind them, it is one more in the row.
   pub sets-later : (vs l : List A) (i k : ℕ) (x : A) → i + length vs ≤ k → sets (set l k x) i vs ≡ set (sets l i vs) k x
   sets-later [] l i k x h = refl
   sets-later (v ∷ vs) l i k x h =
@@ -41,9 +41,9 @@ module _ {A : Type 0} where
       let k : i + suc (length vs) ≡ suc i + length vs = omega arith in
       rw k (sets-snoc vs (set l i v) (suc i) x)
 
-  -- A store into a run is the run that differs there.
-  pub set-run : (f g : ℕ → A) (n k : ℕ) (v : A) → g k ≡ v → ((j : ℕ) → (j ≡ k → ⊥) → g j ≡ f j) → set (tabulate 0 n f) k v ≡ tabulate 0 n g
-  set-run f g n k v here others =
+  -- A store into a tabulated list gives the one that differs there.
+  pub set-tabulated : (f g : ℕ → A) (n k : ℕ) (v : A) → g k ≡ v → ((j : ℕ) → (j ≡ k → ⊥) → g j ≡ f j) → set (tabulate 0 n f) k v ≡ tabulate 0 n g
+  set-tabulated f g n k v here others =
       as-tabulate g (set (tabulate 0 n f) k v) 0 n v (length-set (tabulate 0 n f) k v ∙ length-tabulate f 0 n) (λ j h. rw zero-add (go j h (ℕ-discrete j k)))
     where
       go : (j : ℕ) → j < n → Dec (j ≡ k) → getD (set (tabulate 0 n f) k v) j v ≡ g j

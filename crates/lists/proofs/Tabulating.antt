@@ -28,7 +28,7 @@ module _ {A : Type 0} (f : ℕ → A) where
   pub getD-tabulate-0 : (n j : ℕ) (d : A) → j < n → getD (tabulate 0 n f) j d ≡ f j
   getD-tabulate-0 n j d h = getD-tabulate 0 n j d h ∙ ap f (zero-add j)
 
-  -- A list whose elements are f's is the run of f.
+  -- A list whose elements are f's is f, tabulated.
   pub as-tabulate : (l : List A) (i n : ℕ) (d : A) → length l ≡ n → ((j : ℕ) → j < n → getD l j d ≡ f (i + j)) → l ≡ tabulate i n f
   as-tabulate l i n d h k =
       ext-getD d l (tabulate i n f) (h ∙ sym (length-tabulate i n)) (λ j g. let m : j < n = omega arith in k j m ∙ sym (getD-tabulate i n j d m))
@@ -46,7 +46,7 @@ unfolding tabulate
 map-tabulate g f i zero = refl
 map-tabulate {B = B} g f i (suc n) = ap (λ (l : List B). g (f i) ∷ l) (map-tabulate g f (suc i) n)
 
--- A run can be cut in two.
+-- A tabulated list can be cut in two.
 pub tabulate-split : {A : Type 0} (f : ℕ → A) (i n m : ℕ) → tabulate i (n + m) f ≡ tabulate i n f ++ tabulate (i + n) m f
 unfolding tabulate
 tabulate-split f i zero m = rw (zero-add, add-zero)
@@ -88,7 +88,7 @@ pub all-end : (f : ℕ → Bool) (i n : ℕ) → n ≤ i → allFrom i (n - i) f
 unfolding allFrom
 all-end f i n h = let s : n - i ≡ 0 = omega arith in rw s
 
--- A list whose elements are f's from 0 on is the run of f from 0.
+-- A list whose elements are f's from 0 on is f, tabulated from 0.
 pub as-tabulate-0 : {A : Type 0} (f : ℕ → A) (l : List A) (n : ℕ) (d : A) → length l ≡ n → ((j : ℕ) → j < n → getD l j d ≡ f j) → l ≡ tabulate 0 n f
 as-tabulate-0 f l n d h k = as-tabulate f l 0 n d h (λ j g. k j g ∙ ap f (sym (zero-add j)))
 
@@ -114,7 +114,7 @@ all-and f g i (suc n) = rw (all-and f g (suc i) n) (go (f i) (g i) (allFrom (suc
     go true true false d = refl
     go true false false d = refl
 
--- A run up to a number: its first element and the run after it, or nothing.
+-- A list tabulated up to a number: its first element and the list after it, or nothing.
 module _ {A : Type 0} (f : ℕ → A) (i n : ℕ) where
   pub tabulate-on : i < n → tabulate i (n - i) f ≡ f i ∷ tabulate (suc i) (n - suc i) f
   unfolding tabulate

@@ -27,6 +27,7 @@ use Rattle.store.specs.StoreRules.{
   slotTest,
   goodStore,
 }
+use Rattle.copies.specs.CopyBytes.{valueBytes}
 use Rattle.page_lines.specs.PageLine.{analytes, lastSample, keyFor, pageLinesFrom}
 use Rattle.page.specs.PageBytes.{pageLineBytes, pageLinesBytes, pageBytes, mostPageBytes}
 use Rattle.page.specs.Promises.{pageNow}
@@ -44,5 +45,5 @@ pub record Longest : Type 0 where
   pub long : length (pageNow longestStore lastSample) ≡ mostPageBytes
 
 pub longest : Longest
-unfolding tabulate allFrom formIn form holds firstEdge next walk pathFrom planTable plans planNumbered find member different firstOn inReach nodeIn planOf stateOf column storeOf shapeTest planNumberTest clockTest hasValue kindTest copyTest placeTest allZero unusedTest nodeTest stampsFrom slotTest goodStore pageLinesFrom pageLineBytes pageLinesBytes pageBytes longestCopies longestStore
+unfolding tabulate allFrom formIn form holds firstEdge next walk pathFrom planTable plans planNumbered find member different firstOn inReach nodeIn planOf stateOf column storeOf shapeTest planNumberTest clockTest hasValue kindTest copyTest placeTest allZero unusedTest nodeTest stampsFrom slotTest goodStore valueBytes pageLinesFrom pageLineBytes pageLinesBytes pageBytes longestCopies longestStore
 longest = record { good = refl; long = refl }

@@ -9,8 +9,9 @@ use Rattle.number.specs.Number.{form}
 use Rattle.number.proofs.Forms.{form-some, form-length, form-width}
 use Rattle.plan.specs.Plan.{Plan}
 use Rattle.store.specs.declared.Copy.{Copy}
-use Rattle.store.specs.Copies.{hasValue}
+use Rattle.store.specs.Copies.{RESULT, hasValue}
 use Rattle.store.specs.State.{State, current}
+use Rattle.copies.proofs.CopyLengths.{value-short}
 use Rattle.page_lines.specs.PageLine.{analytes, lastSample, keyFor, PageLine, pageLine, shown, pageLinesFrom, pageLines}
 use Rattle.page_lines.proofs.LineLaws.{lines-few}
 use Rattle.page.specs.PageBytes.{pageLineBytes, pageLinesBytes, pageBytes, mostPageBytes, pageOf}
@@ -22,7 +23,7 @@ line-length : (l : PageLine) → l .analyte < 128 → length (pageLineBytes l) �
 unfolding pageLineBytes
 line-length l h =
     simp length-append
-    (omega (arith, one-byte (l .analyte) h, form-length (l .value), form-length (l .stamp)))
+    (omega (arith, one-byte (l .analyte) h, value-short RESULT (l .value), form-length (l .stamp)))
 
 module _ (p : Plan) (s : State) (sample : ℕ) where
   lines-length : (b n : ℕ) → b + n ≤ 128 → length (pageLinesBytes (pageLinesFrom p s sample b n)) ≤ 11 * n

@@ -16,7 +16,9 @@ use Rattle.lists.proofs.Tabulating.{tabulate-on, tabulate-off}
 use Rattle.lists.proofs.Standing.{wrote-nil, wrote-cons, wrote-join, wrote-length}
 use Rattle.number.specs.Number.{form}
 use Rattle.plan.specs.Plan.{Plan}
+use Rattle.store.specs.Copies.{RESULT}
 use Rattle.store.specs.State.{State}
+use Rattle.copies.specs.CopyBytes.{valueBytes}
 use Rattle.page_lines.specs.declared.PageColumns.{PageColumns}
 use Rattle.page_lines.specs.PageLine.{analytes, lastSample, PageLine, pageLines}
 use Rattle.page_lines.specs.Workers.{pageLinesIn}
@@ -28,12 +30,13 @@ use Rattle.page.proofs.PageLength.{page-length}
 
 -- ---- a line
 
-pub line-long : (l : PageLine) → length (pageLineBytes l) ≡ length (form (l .analyte)) + (length (form (l .value)) + length (form (l .stamp)))
+pub line-long : (l : PageLine) → length (pageLineBytes l)
+    ≡ length (form (l .analyte)) + (length (valueBytes RESULT (l .value)) + length (form (l .stamp)))
 unfolding pageLineBytes
 line-long l = simp length-append
 
 pub line-wrote : (l : PageLine) {b : List ℕ} {at : ℕ} {c : List ℕ} {mid : ℕ} {d : List ℕ} {late next : ℕ} {e : List ℕ} → Wrote b at (form (l .analyte)) mid c
-    → Wrote c mid (form (l .value)) late d → Wrote d late (form (l .stamp)) next e → Wrote b at (pageLineBytes l) next e
+    → Wrote c mid (valueBytes RESULT (l .value)) late d → Wrote d late (form (l .stamp)) next e → Wrote b at (pageLineBytes l) next e
 unfolding pageLineBytes
 line-wrote l p q r = wrote-join p (wrote-join q r)
 

@@ -11,6 +11,7 @@ use borrow.Author.Tests.{eqb-true, eq-eqb}
 use Rattle.lists.proofs.Truths.{and-left, and-right, not-both}
 use Rattle.number.specs.Number.{form}
 use Rattle.number.proofs.Readings.{form-apart, form-rest}
+use Rattle.copies.proofs.CopyLengths.{result-written}
 use Rattle.page_lines.specs.PageLine.{PageLine}
 use Rattle.page.specs.PageBytes.{pageLineBytes, pageLinesBytes, pageBytes, begins}
 
@@ -30,7 +31,7 @@ unfolding pageLineBytes
 line-apart l m p q a b e = (λ i. record { analyte = e1 i; value = e3 i; stamp = e5 i }, e6)
   where
     e0 : form (l .analyte) ++ (form (l .value) ++ (form (l .stamp) ++ a)) ≡ form (m .analyte) ++ (form (m .value) ++ (form (m .stamp) ++ b))
-    e0 = simp append-assoc at e
+    e0 = simp (append-assoc, result-written) at e
 
     e1 : l .analyte ≡ m .analyte
     e1 = form-apart _ _ (p .analyte) (q .analyte) e0

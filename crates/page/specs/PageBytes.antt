@@ -7,12 +7,14 @@ use lib.Dec.{eqb}
 use lib.ListN.{length}
 use Rattle.number.specs.Number.{form}
 use Rattle.plan.specs.Plan.{Plan}
+use Rattle.store.specs.Copies.{RESULT}
 use Rattle.store.specs.State.{State}
+use Rattle.copies.specs.CopyBytes.{valueBytes}
 use Rattle.page_lines.specs.PageLine.{PageLine, pageLines}
 
--- A page's line: analyte, value, stamp. A line that is shown has a value.
+-- A page's line: analyte, value, stamp. A line that is shown is a result.
 unfoldable pub pageLineBytes : PageLine → List ℕ
-pageLineBytes l = form (l .analyte) ++ (form (l .value) ++ form (l .stamp))
+pageLineBytes l = form (l .analyte) ++ (valueBytes RESULT (l .value) ++ form (l .stamp))
 
 -- A page's lines, one after another.
 unfoldable pub pageLinesBytes : List PageLine → List ℕ

@@ -8,14 +8,15 @@ ghost use Rattle.page_lines.specs.Workers.{pageLinesIn};
 ghost use Rattle.page.specs.PageBytes.{pageLineBytes, pageLinesBytes, pageBytes, begins};
 ghost use Rattle.page.specs.Workers.{RoomForPage};
 use page_lines::PageColumns;
+use store::Copy;
 
-// A page's line: "analyte, value, stamp".
+// A page's line: "analyte, value, stamp". A line that is shown is a result.
 fn write_line(buffer: &mut [u8], at: usize, analyte: u32, value: u32, stamp: u32) -> usize
     requires { ⌜ HasRoom buffer at (pageLineBytes (pageLine analyte value stamp)) ⌝ }
     ensures { λ r. ⌜ Puts buffer at (pageLineBytes (pageLine analyte value stamp)) r ⌝ }
 {
     let after_analyte = number::write_at(buffer, at, analyte);
-    let after_value = number::write_at(buffer, after_analyte, value);
+    let after_value = copies::write_value(buffer, after_analyte, Copy::RESULT, value);
     number::write_at(buffer, after_value, stamp)
 }
 

@@ -25,7 +25,7 @@ use Rattle.store.specs.StateRules.{HeldAt, OnPath}
 use Rattle.store.specs.Layout.{planOf, width, places, copyIn, countOf, nodeIn, stateIn, stateOf}
 use Rattle.store.specs.StoreRules.{goodStore}
 use Rattle.store.specs.Workers.{numberIn, itself, AllOrdered}
-use Rattle.store.proofs.Seeking.{find-run}
+use Rattle.store.proofs.Seeking.{find-tabulated}
 use Rattle.store.proofs.Laying.{parts-node, parts-past, state-count, state-copy}
 use Rattle.store.proofs.Lifting.{plan-good, state-good, good-ordered}
 use Rattle.page_lines.specs.PageLine.{analytes, keyFor}
@@ -85,7 +85,7 @@ module _ (nodes : ℕ) (counts keys : List ℕ) where
   unfolding nodeIn
   node-line kinds values stamps k n h =
       ap (λ (xs : List Copy). find keyOf xs k) (parts-node nodes 0 counts keys kinds values stamps [] n h)
-      ∙ find-run keyOf noCopy (copyIn keys kinds values stamps) (width * n) (getD counts n 0) k
+      ∙ find-tabulated keyOf noCopy (copyIn keys kinds values stamps) (width * n) (getD counts n 0) k
 
   -- and past the nodes there is none.
   past-line : (kinds values stamps : List ℕ) (k n : ℕ) → nodes ≤ n → line (held kinds values stamps) k n ≡ none

@@ -15,7 +15,7 @@ use Rattle.store.specs.Copies.{find}
 use Rattle.store.specs.Layout.{width}
 use Rattle.store.specs.Workers.{numberIn, itself, placeIn, RisesIn}
 use Rattle.store.proofs.Halving.{place-bounds, half-up, half-down}
-use Rattle.store.proofs.Seeking.{rises-run, place-hit, place-before}
+use Rattle.store.proofs.Seeking.{rises-tabulated, place-hit, place-before}
 use Rattle.page_lines.specs.PageLine.{analytes, keyFor}
 use Rattle.page_lines.specs.Workers.{placeOver, laidOver}
 
@@ -117,7 +117,7 @@ module _ (keys : List ℕ) (from end sample : ℕ) where
             once : (i : ℕ) → at < i → i < end → numberIn keys i ≡ numberIn keys at → ⊥
             once i p l e =
                 let w = place-bounds keys from end o (sample * analytes) in
-                let r = rises-run (numberIn keys) 0 itself from (end - from) (λ j u v. rises j u (omega arith)) in
+                let r = rises-tabulated (numberIn keys) 0 itself from (end - from) (λ j u v. rises j u (omega arith)) in
                 let hit = place-hit (numberIn keys) 0 itself from (end - from) r (numberIn keys at) in
                 let q = one-some (hit at (omega (arith, g .past)) (omega arith) refl) (hit i (omega (arith, g .past)) (omega arith) e) in
                 omega arith

@@ -6,7 +6,6 @@ use mathlib.Core.List.{List, [], _∷_}
 use Prim.Native.Nat.{ℕ, zero, suc, _+_, _-_, _<_, _≤_}
 use native.Mathlib.Omega.{arith}
 use native.Mathlib.Nat.{le-of-suc-le-suc}
-use native.Mathlib.Decide.{decLt}
 use lib.ListN.{length, getD, drop}
 use Rattle.plan.specs.declared.Hop.{Hop}
 use Rattle.plan.specs.declared.Hop.the-variants.{To, Ends}
@@ -153,15 +152,6 @@ module _ (p : Plan) (rules : PlanRules p) (k : ℕ) where
 
   pub path-on : (i : ℕ) → i < length (path p k) → Reach (λ m. next p m k) 0 (getD (path p k) i 0)
   path-on = at-reach (λ m. next p m k) root-path
-
-  -- and it stands there once.
-  pub one-place : (i j : ℕ) → i < length (path p k) → j < length (path p k) → getD (path p k) i 0 ≡ getD (path p k) j 0 → i ≡ j
-  one-place i j h g e = go (decLt i j) (decLt j i)
-    where
-      go : Dec (i < j) → Dec (j < i) → i ≡ j
-      go (yes q) d = absurd (omega (arith, path-down i j q g))
-      go (no q) (yes r) = absurd (omega (arith, path-down j i r h))
-      go (no q) (no r) = omega arith
 
   -- A key's path has at least two nodes, and so an edge, since the root covers every key.
   pub two-on-path : k ≤ lastKey → 2 ≤ length (path p k)

@@ -35,6 +35,11 @@ pub plans-fit : plans ≤ lastKey
 unfolding plans planTable
 plans-fit = omega arith
 
+-- It takes one byte.
+pub plans-few : plans < 128
+unfolding plans planTable
+plans-few = omega arith
+
 -- Every plan of the table passes the test.
 pub table-passes : allBelow plans (λ i. planTest (getD planTable i [])) ≡ true
 unfolding allFrom plans planTable planTest nodesTest capacitiesTest edgeCountsTest keysTest rangesTest apartTest targetsTest coverTest apart holds firstEdge next

@@ -12,7 +12,7 @@ use Rattle.store.specs.declared.Copy.{Copy}
 use Rattle.store.specs.declared.Store.{Store}
 use Rattle.store.specs.Answers.{DONE, BADSTORE, SLOTS, SLOT, IDLE}
 use Rattle.store.specs.Copies.{member}
-use Rattle.store.specs.State.{State, slotCount, idle, line, current}
+use Rattle.store.specs.State.{State, slotCount, idle, line, current, idleMark}
 use Rattle.store.specs.Layout.{planOf, stateOf}
 use Rattle.store.specs.StoreRules.{goodStore}
 use Rattle.store.specs.Calls.{Effect, onStore, ofStore}
@@ -51,7 +51,7 @@ module _ (z : Store) (key : ℕ) where
 
   -- "all 8 running"
   pub start-slots : (onStore (startStep key) z .answer .number ≡ SLOTS)
-      ↔ ((goodStore z ≡ true) × ((i : ℕ) → i < slotCount → getD (z .slots) i idle .running ≢ 0))
+      ↔ ((goodStore z ≡ true) × ((i : ℕ) → i < slotCount → getD (z .slots) i idle .running ≢ idleMark))
   unfolding stateOf
   start-slots =
       on-exactly (startStep key) z SLOTS (λ e. omega arith) λ good.
@@ -105,7 +105,7 @@ module _ (z : Store) (slot : ℕ) where
 
   -- "slot not running"
   pub step-idle : (onStore (stepStep slot) z .answer .number ≡ IDLE)
-      ↔ ((goodStore z ≡ true) × ((slot < slotCount) × (getD (z .slots) slot idle .running ≡ 0)))
+      ↔ ((goodStore z ≡ true) × ((slot < slotCount) × (getD (z .slots) slot idle .running ≡ idleMark)))
   unfolding stateOf
   step-idle =
       on-exactly (stepStep slot) z IDLE (λ e. omega arith) λ good.
@@ -153,7 +153,7 @@ module _ (z : Store) (slot : ℕ) where
       cancel-slot-exactly (planOf z) (plan-good z good) (stateOf z) (state-good z good) slot
 
   pub cancel-idle : (onStore (cancelStep slot) z .answer .number ≡ IDLE)
-      ↔ ((goodStore z ≡ true) × ((slot < slotCount) × (getD (z .slots) slot idle .running ≡ 0)))
+      ↔ ((goodStore z ≡ true) × ((slot < slotCount) × (getD (z .slots) slot idle .running ≡ idleMark)))
   unfolding stateOf
   cancel-idle =
       on-exactly (cancelStep slot) z IDLE (λ e. omega arith) λ good.

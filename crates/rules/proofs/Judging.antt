@@ -18,7 +18,8 @@ use Rattle.store.specs.StoreRules.{shapeTest, planNumberTest, clockTest, nodeTe
 use Rattle.store.specs.Workers.{Sized, AllOrdered}
 use Rattle.store.proofs.WhichPlan.{number-rules}
 use Rattle.rules_nodes.specs.Workers.{tidyTest}
-use Rattle.rules_nodes.proofs.Tidying.{rows-fit, nodes-ordered}
+use Rattle.store.proofs.Widths.{rows-fit}
+use Rattle.rules_nodes.proofs.Tidying.{nodes-ordered}
 use Rattle.rules_paths.specs.Workers.{keyed, pathsTest, slotsTest}
 use Rattle.rules_paths.proofs.Placing.{paths-keyed}
 use Rattle.rules.proofs.Parting.{nodes-parts}

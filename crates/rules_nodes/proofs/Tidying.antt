@@ -1,27 +1,23 @@
 -- The test of a node's own numbers, way out by way out, and that a look in a node that passes can go by halves. Assumes nothing.
-use mathlib.Core.Path.{_≡_, sym, ap, _∙_}
+use mathlib.Core.Path.{_≡_, sym, _∙_}
 use mathlib.Core.Bool.{Bool, true, false, and-false, _&&_}
 use mathlib.Core.Logic.{⊎-elim}
 use mathlib.Core.List.{List}
 use Prim.Native.Nat.{ℕ, suc, _+_, _-_, _*_, _<_, _≤_}
 use native.Mathlib.Omega.{arith}
-use native.Mathlib.Decide.{decLt}
 use lib.Dec.{leb, ltb}
-use lib.ListN.{List·getD-eq-default}
 use lib.Seq.{slice}
 use borrow.Author.Tests.{le-leb, lt-leb, leb-true, ltb-true}
 use Rattle.lists.specs.Indexed.{allFrom, allBelow}
 use Rattle.lists.proofs.Truths.{and-left, and-right, or-cases}
 use Rattle.lists.proofs.Tabulating.{all-at, all-below}
 use Rattle.plan.specs.Sizes.{mostNodes}
-use Rattle.plan.specs.Plan.{Node, Plan, noNode, size, capacityOf}
-use Rattle.plan.specs.PlanRules.{PlanRules}
-use Rattle.plan.specs.PlanArrays.{atNode, capacitiesRow}
-use Rattle.plan.proofs.RowsLent.{capacity-of}
+use Rattle.plan.specs.PlanArrays.{atNode}
 use Rattle.store.specs.Layout.{width}
 use Rattle.store.specs.StoreRules.{allZero, unusedTest}
-use Rattle.store.specs.Workers.{numberIn, Ordered, AllOrdered}
-use Rattle.rules_nodes.specs.Workers.{usedTest, tidyTest, AllFit}
+use Rattle.store.specs.Workers.{numberIn, WithinPlaces, Ordered, AllOrdered}
+use Rattle.store.proofs.Widths.{at-fits}
+use Rattle.rules_nodes.specs.Workers.{usedTest, tidyTest}
 
 -- Unused places, column by column.
 module _ (keys kinds values stamps : List ℕ) (from end : ℕ) where
@@ -46,14 +42,6 @@ module _ (keys kinds values stamps : List ℕ) (from end : ℕ) where
   pub stamps-decide : zeros keys ≡ true → zeros kinds ≡ true → zeros values ≡ true → zeros stamps ≡ unused
   unfolding unusedTest
   stamps-decide h g k = rw (h, g, k)
-
--- A plan that meets the plan rules has places for as many copies as a node may hold; one that the plan lacks may hold none.
-pub rows-fit : (p : Plan) → PlanRules p → (capacities : List ℕ) → capacities ≡ capacitiesRow p → AllFit capacities
-rows-fit p rules capacities e n = rw (capacity-of p rules capacities e n) (go (decLt n (size p)))
-  where
-    go : Dec (n < size p) → capacityOf p n ≤ width
-    go (yes h) = rules .capacity-within n h .1
-    go (no h) = let none : capacityOf p n ≡ 0 = ap (λ (d : Node). d .capacity) (List·getD-eq-default p noNode (omega arith)) in omega arith
 
 module _ (capacities : List ℕ) (clock : ℕ) (counts keys kinds values stamps : List ℕ) (n : ℕ) where
   abbrev count : ℕ
@@ -100,11 +88,11 @@ module _ (capacities : List ℕ) (clock : ℕ) (counts keys kinds values stamps 
         (λ (a : ltb (numberIn keys i) (numberIn keys (suc i)) ≡ true). ltb-true (numberIn keys i) (numberIn keys (suc i)) a)
         (or-cases (leb (width * n + count) (suc i)) (ltb (numberIn keys i) (numberIn keys (suc i))) (search (and-left, and-right) depth 8))
 
-    pub node-ordered : AllFit capacities → Ordered counts keys n
-    node-ordered fit = record { fits = omega (arith, within, fit n); rises = λ i h g. rising i g (place-used i h (omega arith)) }
+    pub node-ordered : WithinPlaces capacities → Ordered counts keys n
+    node-ordered fit = record { fits = omega (arith, within, at-fits capacities fit n); rises = λ i h g. rising i g (place-used i h (omega arith)) }
 
 -- So it can in all nodes, if they pass.
-pub nodes-ordered : (capacities : List ℕ) → AllFit capacities → (clock : ℕ) (counts keys kinds values stamps : List ℕ)
+pub nodes-ordered : (capacities : List ℕ) → WithinPlaces capacities → (clock : ℕ) (counts keys kinds values stamps : List ℕ)
     → allBelow mostNodes (tidyTest capacities clock counts keys kinds values stamps) ≡ true → AllOrdered counts keys
 nodes-ordered capacities fit clock counts keys kinds values stamps t n h =
     node-ordered capacities clock counts keys kinds values stamps n

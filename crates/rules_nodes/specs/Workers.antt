@@ -2,7 +2,7 @@
 use mathlib.Core.Path.{_≡_}
 use mathlib.Core.Bool.{Bool, _&&_, _||_}
 use mathlib.Core.List.{List}
-use Prim.Native.Nat.{ℕ, suc, _+_, _-_, _*_, _≤_}
+use Prim.Native.Nat.{ℕ, suc, _+_, _-_, _*_}
 use lib.Dec.{leb, ltb}
 use lib.ListN.{length}
 use denote.Ref.{RefT}
@@ -33,10 +33,6 @@ tidyTest capacities clock counts keys kinds values stamps n =
     let end = width * n + count in
     leb count (atNode capacities n) && allFrom (width * n) count (usedTest clock keys kinds values stamps end)
     && unusedTest keys kinds values stamps end (width * n + width)
-
--- Every node has places for as many copies as it may hold.
-abbrev pub AllFit : List ℕ → Type 0
-AllFit capacities = (n : ℕ) → atNode capacities n ≤ width
 
 -- Four lent columns that are as long as a store's.
 abbrev pub LentColumns : RefT (List ℕ) → RefT (List ℕ) → RefT (List ℕ) → RefT (List ℕ) → Type 0

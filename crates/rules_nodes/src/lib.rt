@@ -4,8 +4,8 @@ ghost use Prim.Native.Nat.{_<_, _≤_};
 ghost use Rattle.plan.specs.Sizes.{mostNodes};
 ghost use Rattle.store.specs.Layout.{places};
 ghost use Rattle.store.specs.StoreRules.{kindTest};
-ghost use Rattle.store.specs.Workers.{LentSized};
-ghost use Rattle.rules_nodes.specs.Workers.{markTest, keyRises, AllFit, LentColumns, lentUsed, lentUnused, lentTidy, lentAllTidy};
+ghost use Rattle.store.specs.Workers.{WithinPlaces, LentSized};
+ghost use Rattle.rules_nodes.specs.Workers.{markTest, keyRises, LentColumns, lentUsed, lentUnused, lentTidy, lentAllTidy};
 use plan::arrays;
 use store::Copy;
 use store::Store;
@@ -119,7 +119,7 @@ fn node_tidy<'a>(
     stamps: &'a [u32; Store::PLACES],
     node: u32,
 ) -> bool
-    requires { ⌜ (node < mostNodes) × AllFit (now capacities) × LentSized counts keys kinds values stamps ⌝ }
+    requires { ⌜ (node < mostNodes) × WithinPlaces (now capacities) × LentSized counts keys kinds values stamps ⌝ }
     ensures { λ r. ⌜ r ≡ lentTidy (capacities .entry) clock (counts .entry) (keys .entry) (kinds .entry) (values .entry) (stamps .entry) node ⌝ }
 {
     let n = node as usize;
@@ -145,7 +145,7 @@ pub fn nodes_tidy<'a>(
     values: &'a [u32; Store::PLACES],
     stamps: &'a [u32; Store::PLACES],
 ) -> bool
-    requires { ⌜ AllFit (now capacities) × LentSized counts keys kinds values stamps ⌝ }
+    requires { ⌜ WithinPlaces (now capacities) × LentSized counts keys kinds values stamps ⌝ }
     ensures { λ r. ⌜ r ≡ lentAllTidy (capacities .entry) clock (counts .entry) (keys .entry) (kinds .entry) (values .entry) (stamps .entry) ⌝ }
 {
     let mut node = 0;

@@ -6,6 +6,7 @@ use lib.Dec.{eqb}
 use borrow.Author.Tests.{eq-eqb, ne-eqb}
 use Rattle.plan.specs.Plan.{Plan, path}
 use Rattle.store.specs.declared.Slot.{Slot}
+use Rattle.store.specs.State.{idleMark, runningMark}
 use Rattle.store.specs.StoreRules.{standsAt, slotTest}
 
 -- Three numbers that are to be zero.
@@ -20,14 +21,14 @@ module _ (a b c : ℕ) where
   third-decides h g = rw (eq-eqb a 0 h, eq-eqb b 0 g)
 
 module _ (p : Plan) (q : Slot) where
-  pub slot-rests : q .running ≡ 0 → slotTest p q ≡ (eqb (q .key) 0 && eqb (q .node) 0 && eqb (q .visits) 0)
+  pub slot-rests : q .running ≡ idleMark → slotTest p q ≡ (eqb (q .key) 0 && eqb (q .node) 0 && eqb (q .visits) 0)
   unfolding slotTest
-  slot-rests h = rw (eq-eqb (q .running) 0 h)
+  slot-rests h = rw (eq-eqb (q .running) idleMark h)
 
-  pub slot-strange : (q .running ≡ 0 → ⊥) → (q .running ≡ 1 → ⊥) → slotTest p q ≡ false
+  pub slot-strange : (q .running ≡ idleMark → ⊥) → (q .running ≡ runningMark → ⊥) → slotTest p q ≡ false
   unfolding slotTest
-  slot-strange h g = rw (ne-eqb (q .running) 0 h, ne-eqb (q .running) 1 g)
+  slot-strange h g = rw (ne-eqb (q .running) idleMark h, ne-eqb (q .running) runningMark g)
 
-  pub slot-runs : (q .running ≡ 0 → ⊥) → q .running ≡ 1 → slotTest p q ≡ standsAt (q .node) (path p (q .key)) (q .visits)
+  pub slot-runs : (q .running ≡ idleMark → ⊥) → q .running ≡ runningMark → slotTest p q ≡ standsAt (q .node) (path p (q .key)) (q .visits)
   unfolding slotTest
-  slot-runs h g = rw (ne-eqb (q .running) 0 h, eq-eqb (q .running) 1 g)
+  slot-runs h g = rw (ne-eqb (q .running) idleMark h, eq-eqb (q .running) runningMark g)

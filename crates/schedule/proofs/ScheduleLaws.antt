@@ -17,12 +17,13 @@ use Rattle.number.specs.declared.Reading.the-variants.{Value, Cut, Malformed}
 use Rattle.number.specs.Number.{narrow, Bytes, form, readAt}
 use Rattle.number.proofs.Forms.{form-one, form-some, form-length}
 use Rattle.plan.specs.Sizes.{lastKey}
-use Rattle.plan_table.specs.PlanTable.{planTable, plans}
+use Rattle.plan_table.specs.PlanTable.{plans}
+use Rattle.plan_table.proofs.TableLaws.{plans-few}
 use Rattle.store.specs.declared.Answer.{Answer}
 use Rattle.store.specs.Answers.{PLAN, OP, MANY}
 use Rattle.store.specs.StoreRules.{planNumberTest}
 use Rattle.wire.specs.Reading.{Got, got, fault, bind, numbered, numberAt}
-use Rattle.wire.proofs.Chains.{got-or-fault, Gives, gives-got, gives-fault, gives-any, gives-cond, gives-check, gives-bind, gives-both, number-gives}
+use Rattle.wire.proofs.Chains.{got-or-fault, Gives, gives-got, gives-fault, gives-any, gives-cond, gives-check, gives-bind, number-gives}
 use Rattle.schedule.specs.declared.Step.{Step}
 use Rattle.schedule.specs.Schedule.{ENTER, CANCEL, mostSteps, Schedule, knownStep, hasTwo, secondAt, stepAt, stepsAt, scheduleAt, scheduleAnswer, recordsOf, decodeAnswer}
 use Rattle.schedule.specs.Running.{noStep}
@@ -88,14 +89,6 @@ pub record StepsGiven (s : List ℕ) (at : ℕ) (xs : List Step) (end : ℕ) : T
   pub short : end ≤ at + 11 * length xs
   pub ends : at ≤ length s → end ≡ length s
 
--- An accepted schedule.
-pub record ScheduleGiven (s : List ℕ) (d : Schedule) (end : ℕ) : Type 0 where
-  pub plan-is : planNumberTest (d .plan) ≡ true
-  pub few : length (d .steps) ≤ mostSteps
-  pub written : (i : ℕ) → i < length (d .steps) → Written (getD (d .steps) i noStep)
-  pub ends : end ≡ length s
-  pub short : length s ≤ 1 + 11 * length (d .steps)
-
 -- A number below 128 has one byte.
 one-byte : (v : ℕ) → v < 128 → length (form v) ≡ 1
 unfolding form
@@ -107,8 +100,8 @@ unfolding knownStep
 known-between number t = both-le ENTER number number CANCEL t
 
 pub plan-small : (plan : ℕ) → planNumberTest plan ≡ true → plan < 128
-unfolding planNumberTest plans planTable
-plan-small plan t = let k = both-le 1 plan plan plans t in omega arith
+unfolding planNumberTest
+plan-small plan t = let k = both-le 1 plan plan plans t in omega (arith, plans-few)
 
 plan-gives : (s : List ℕ) → Gives (λ d end. d .plan < 128) (scheduleAt s)
 unfolding scheduleAt
@@ -209,17 +202,6 @@ module _ (s : List ℕ) (bytes : Bytes s) where
       (λ t.
       gives-bind (stepAt s at) _ (step-given at) λ x a g.
       gives-bind (stepsAt s most a) _ (steps-given most a) λ xs b h. gives-got (more-steps s g h))
-
-  pub schedule-given : Gives (ScheduleGiven s) (scheduleAt s)
-  unfolding scheduleAt
-  schedule-given =
-      gives-bind (numberAt narrow s 0) _ (number-given 0) λ plan a n.
-      gives-check (planNumberTest plan) PLAN 0 _ λ t.
-      gives-bind (stepsAt s mostSteps a) _ (gives-both (steps-few s mostSteps a) (steps-given mostSteps a)) λ xs b h.
-      let o : a ≡ 0 + 1 = n .one (plan-small plan t) in
-      let e : b ≡ length s = h .1 .ends (n .within) in
-      let v = h .1 .short in
-      gives-got (record { plan-is = t; few = h .0; written = h .1 .written; ends = e; short = omega arith })
 
 -- ---- where decoding stops
 

@@ -6,14 +6,12 @@ use mathlib.Core.List.{List}
 use Prim.Native.Nat.{ℕ, _<_}
 use native.Mathlib.Omega.{arith}
 use lib.ListN.{getD}
-use Rattle.plan.specs.Plan.{Plan}
-use Rattle.plan.specs.declared.Edge.{Edge}
-use Rattle.plan_table.specs.PlanTable.{planNumbered}
-use Rattle.plan.specs.PlanArrays.{Grid, countsRow, gridOf}
+use Rattle.plan.specs.Plan.{Plan, size}
+use Rattle.plan.specs.PlanArrays.{Grid, RowsOf}
 use Rattle.plan.proofs.PathLaws.{path-within}
 use Rattle.store.specs.declared.Store.{Store}
 use Rattle.store.specs.Answers.{BADSTORE}
-use Rattle.store.specs.State.{State, slotCount, idle}
+use Rattle.store.specs.State.{State, slotCount, idle, idleMark}
 use Rattle.store.specs.StateRules.{OnPath}
 use Rattle.store.specs.Layout.{planOf, stateOf, storeOf}
 use Rattle.store.specs.StoreRules.{goodStore}
@@ -22,7 +20,6 @@ use Rattle.store.proofs.Lifting.{plan-good, state-good, good-ordered, good-back
 use Rattle.steps.specs.Searches.{stepStep}
 use Rattle.steps.proofs.LineSteps.{Still, step-still}
 use Rattle.steps.proofs.OnPaths.{on-path-in-plan}
-use Rattle.looks.proofs.Rows.{good-rows}
 use Rattle.slots.specs.declared.Moved.{Moved}
 use Rattle.slots.specs.declared.Change.{Change}
 use Rattle.slots.specs.Workers.{Steppable, SearchesIn, ChangesBy, StepsBy, movedBy, changedBy, stays}
@@ -37,7 +34,7 @@ pub record Changes (f : Plan → State → Effect) (z : Store) (r : Change) : Ty
 module _ (z : Store) (good : goodStore z ≡ true) where
   -- A running search stands on its key's path, so at a node of the plan,
   on-its-path : (i : ℕ) → i < slotCount → let q = getD (z .slots) i idle in
-      q .running ≢ 0 → OnPath (planOf z) (q .key) (q .node) (q .visits)
+      q .running ≢ idleMark → OnPath (planOf z) (q .key) (q .node) (q .visits)
   unfolding stateOf
   on-its-path i h runs = state-good z good .running-searches-on-their-paths i h runs .1
 
@@ -87,15 +84,13 @@ module _ (z : Store) (checked : Bool) (check : checked ≡ goodStore z) (r : Cha
         moves = moved-out z (sym check ∙ good) f still (changedBy (z .slots) t) (d .does (planOf z) (stateOf z .clock) (stateOf z .nodes));
       })
 
-  -- A step goes by the rows taken by the plan's number.
-  pub stepped-good : checked ≡ true → (i : ℕ) {edges : List ℕ} {lows highs targets : Grid} → edges ≡ countsRow (planNumbered (z .plan))
-      → lows ≡ gridOf (λ (w : Edge). w .lowest) (planNumbered (z .plan)) → highs ≡ gridOf (λ (w : Edge). w .highest) (planNumbered (z .plan))
-      → targets ≡ gridOf (λ (w : Edge). w .target) (planNumbered (z .plan)) → {t : Change} → r ≡ t
+  -- A step goes by the rows of the store's plan.
+  pub stepped-good : checked ≡ true → (i : ℕ) {edges : List ℕ} {lows highs targets : Grid}
+      → RowsOf (planOf z) (size (planOf z)) edges lows highs targets → {t : Change} → r ≡ t
       → StepsBy edges lows highs targets (z .counts) (z .keys) (z .kinds) (z .values) (z .stamps) (z .slots) i t → Changes (stepStep i) z r
   unfolding stateOf
-  stepped-good good i {edges} {lows} {highs} {targets} a l h b {t} e d =
+  stepped-good good i rows {t} e d =
       let is-good : goodStore z ≡ true = sym check ∙ good in
-      let rows = good-rows z is-good edges lows highs targets a l h b in
       subst (Changes (stepStep i) z) (sym e)
       (record {
         at-slot = d .at-slot;

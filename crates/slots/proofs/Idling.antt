@@ -10,7 +10,7 @@ use lib.ListN.{length, getD, drop, drop-of-length-le}
 use lib.Seq.{drop-cons}
 use borrow.Author.Tests.{eq-eqb, ne-eqb}
 use Rattle.store.specs.declared.Slot.{Slot}
-use Rattle.store.specs.State.{idle}
+use Rattle.store.specs.State.{idle, idleMark}
 use Rattle.steps.specs.Searches.{lowestIdle}
 
 -- The lowest idle slot, where those before place i all run.
@@ -24,13 +24,13 @@ module _ (qs : List Slot) (i : ℕ) where
   idle-none h = rw (drop-of-length-le qs h) (add-zero i)
 
   -- or the slot is idle,
-  pub idle-here : i < length qs → getD qs i idle .running ≡ 0 → idleFrom qs i ≡ i
+  pub idle-here : i < length qs → getD qs i idle .running ≡ idleMark → idleFrom qs i ≡ i
   unfolding lowestIdle
-  idle-here h e = rw (drop-cons qs i idle h, eq-eqb (getD qs i idle .running) 0 e) (add-zero i)
+  idle-here h e = rw (drop-cons qs i idle h, eq-eqb (getD qs i idle .running) idleMark e) (add-zero i)
 
   -- or it runs, and the next is looked at.
-  pub idle-later : i < length qs → getD qs i idle .running ≢ 0 → idleFrom qs i ≡ idleFrom qs (i + 1)
+  pub idle-later : i < length qs → getD qs i idle .running ≢ idleMark → idleFrom qs i ≡ idleFrom qs (i + 1)
   unfolding lowestIdle
   idle-later h e =
       let s : i + suc (lowestIdle (drop (suc i) qs)) ≡ suc i + lowestIdle (drop (suc i) qs) = omega arith in
-      rw (drop-cons qs i idle h, ne-eqb (getD qs i idle .running) 0 e, add-one, s)
+      rw (drop-cons qs i idle h, ne-eqb (getD qs i idle .running) idleMark e, add-one, s)

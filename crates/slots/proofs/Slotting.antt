@@ -15,7 +15,7 @@ use Rattle.store.specs.declared.Answer.{Answer}
 use Rattle.store.specs.declared.Copy.{Copy}
 use Rattle.store.specs.declared.Slot.{Slot}
 use Rattle.store.specs.Answers.{DONE, GOING, SLOTS, SLOT, IDLE, answer, bare}
-use Rattle.store.specs.State.{State, slotCount, slotAt, idle, line}
+use Rattle.store.specs.State.{State, slotCount, slotAt, idle, line, idleMark}
 use Rattle.store.specs.Calls.{Effect}
 use Rattle.steps.specs.Searches.{running, lowestIdle, startStep, ended, withRunning, stepStep, cancelStep}
 use Rattle.slots.specs.declared.Moved.{Moved}
@@ -68,13 +68,13 @@ module _ (p : Plan) (s : State) where
     no-slot h = rw (le-ltb i (length (s .slots)) h)
 
     module _ (h : i < length (s .slots)) where
-      slot-rests : slotAt s i .running ≡ 0 → movedBy (withRunning f i s) ≡ kept IDLE (s .slots)
+      slot-rests : slotAt s i .running ≡ idleMark → movedBy (withRunning f i s) ≡ kept IDLE (s .slots)
       unfolding withRunning
-      slot-rests e = rw (lt-ltb i (length (s .slots)) h, eq-eqb (slotAt s i .running) 0 e)
+      slot-rests e = rw (lt-ltb i (length (s .slots)) h, eq-eqb (slotAt s i .running) idleMark e)
 
-      slot-runs : slotAt s i .running ≢ 0 → withRunning f i s ≡ f (slotAt s i)
+      slot-runs : slotAt s i .running ≢ idleMark → withRunning f i s ≡ f (slotAt s i)
       unfolding withRunning
-      slot-runs e = rw (lt-ltb i (length (s .slots)) h, ne-eqb (slotAt s i .running) 0 e)
+      slot-runs e = rw (lt-ltb i (length (s .slots)) h, ne-eqb (slotAt s i .running) idleMark e)
 
   module _ (i : ℕ) where
     -- A step or a cancel of no slot, and of an idle one.
@@ -82,7 +82,7 @@ module _ (p : Plan) (s : State) where
     unfolding stepStep
     step-no-slot h = no-slot _ i h
 
-    pub step-idle : i < length (s .slots) → slotAt s i .running ≡ 0 → movedBy (stepStep i p s) ≡ kept IDLE (s .slots)
+    pub step-idle : i < length (s .slots) → slotAt s i .running ≡ idleMark → movedBy (stepStep i p s) ≡ kept IDLE (s .slots)
     unfolding stepStep
     step-idle h e = slot-rests _ i h e
 
@@ -90,11 +90,11 @@ module _ (p : Plan) (s : State) where
     unfolding cancelStep
     cancel-no-slot h = no-slot _ i h
 
-    cancel-idle : i < length (s .slots) → slotAt s i .running ≡ 0 → movedBy (cancelStep i p s) ≡ kept IDLE (s .slots)
+    cancel-idle : i < length (s .slots) → slotAt s i .running ≡ idleMark → movedBy (cancelStep i p s) ≡ kept IDLE (s .slots)
     unfolding cancelStep
     cancel-idle h e = slot-rests _ i h e
 
-    module _ (h : i < length (s .slots)) (runs : slotAt s i .running ≢ 0) where
+    module _ (h : i < length (s .slots)) (runs : slotAt s i .running ≢ idleMark) where
       cancel-runs : movedBy (cancelStep i p s) ≡ wrote (bare DONE) (s .slots) i idle
       unfolding cancelStep
       cancel-runs = ap movedBy (slot-runs _ i h runs)
@@ -151,7 +151,7 @@ module _ (slots : List Slot) (long : length slots ≡ slotCount) (i : ℕ) where
       }
 
   module _ (h : i < slotCount) where
-    pub cancels-idle : {r : Change} → getD slots i idle .running ≡ 0 → r ≡ stays IDLE slots → ChangesBy (cancelStep i) slots r
+    pub cancels-idle : {r : Change} → getD slots i idle .running ≡ idleMark → r ≡ stays IDLE slots → ChangesBy (cancelStep i) slots r
     cancels-idle rests e =
         record {
           at-slot = stays-at IDLE slots e;
@@ -159,7 +159,7 @@ module _ (slots : List Slot) (long : length slots ≡ slotCount) (i : ℕ) where
               change-kept IDLE slots e ∙ sym (cancel-idle p (record { clock = clock; nodes = nodes; slots = slots }) i (omega arith) rests);
         }
 
-    pub cancels : {r : Change} {a : Answer} → getD slots i idle .running ≢ 0 → a ≡ bare DONE → r ≡ frees a i → ChangesBy (cancelStep i) slots r
+    pub cancels : {r : Change} {a : Answer} → getD slots i idle .running ≢ idleMark → a ≡ bare DONE → r ≡ frees a i → ChangesBy (cancelStep i) slots r
     cancels runs f e =
         record {
           at-slot = frees-at e h;

@@ -3,7 +3,7 @@ use mathlib.Core.Path.{_≡_, sym, _∙_}
 use mathlib.Core.Logic.{_≢_}
 use mathlib.Core.List.{List}
 use mathlib.Core.Option.{Option, none, some}
-use Prim.Native.Nat.{ℕ, suc, _+_, _<_, _≤_}
+use Prim.Native.Nat.{ℕ, suc, _<_, _≤_}
 use native.Mathlib.Omega.{arith}
 use lib.ListN.{length, getD}
 use Rattle.plan.specs.declared.Hop.{Hop}
@@ -18,7 +18,7 @@ use Rattle.store.specs.declared.Found.the-variants.{Held, Nothing}
 use Rattle.store.specs.declared.Slot.{Slot}
 use Rattle.store.specs.Answers.{GOING, SLOT, IDLE, answer}
 use Rattle.store.specs.Copies.{keyOf, find, foundOf}
-use Rattle.store.specs.State.{slotCount, idle, line}
+use Rattle.store.specs.State.{slotCount, idle, line, idleMark}
 use Rattle.store.specs.Layout.{nodeIn, stateIn}
 use Rattle.store.proofs.Halving.{found-none, found-some}
 use Rattle.steps.specs.Searches.{running, ended}
@@ -32,7 +32,7 @@ abbrev searchIn : List Slot → ℕ → Slot
 searchIn slots i = getD slots i idle
 
 -- Where its search stands, a slot's line is what a look in that node finds;
-module _ (counts keys kinds values stamps : List ℕ) (slots : List Slot) (i : ℕ) (h : i < slotCount) (runs : searchIn slots i .running ≢ 0)
+module _ (counts keys kinds values stamps : List ℕ) (slots : List Slot) (i : ℕ) (h : i < slotCount) (runs : searchIn slots i .running ≢ idleMark)
     (found : Found) (f : found ≡ foundOf (find keyOf (nodeIn counts keys kinds values stamps (searchIn slots i .node)) (searchIn slots i .key)))
     (p : Plan) (clock : ℕ) (stand : SearchesIn p slots)
   where
@@ -68,7 +68,7 @@ module _ {edges : List ℕ} {lows highs targets : Grid} {counts keys kinds value
 
     module _ (h : i < slotCount) where
       -- or it is idle,
-      pub steps-idle : {r : Change} → searchIn slots i .running ≡ 0 → r ≡ stays IDLE slots
+      pub steps-idle : {r : Change} → searchIn slots i .running ≡ idleMark → r ≡ stays IDLE slots
           → StepsBy edges lows highs targets counts keys kinds values stamps slots i r
       steps-idle rests e =
           record {
@@ -78,7 +78,7 @@ module _ {edges : List ℕ} {lows highs targets : Grid} {counts keys kinds value
           }
 
       -- or it runs, and its node is looked in.
-      module _ (runs : searchIn slots i .running ≢ 0) (visits : ℕ) (v : visits ≡ suc (searchIn slots i .visits)) (found : Found)
+      module _ (runs : searchIn slots i .running ≢ idleMark) (visits : ℕ) (v : visits ≡ suc (searchIn slots i .visits)) (found : Found)
           (f : found ≡ foundOf (find keyOf (nodeIn counts keys kinds values stamps (searchIn slots i .node)) (searchIn slots i .key)))
         where
           -- A copy was found,

@@ -12,7 +12,7 @@ use Rattle.plan.specs.PlanArrays.{Grid, RowsOf}
 use Rattle.store.specs.declared.Copy.{Copy}
 use Rattle.store.specs.declared.Slot.{Slot}
 use Rattle.store.specs.Answers.{bare}
-use Rattle.store.specs.State.{State, slotCount, idle}
+use Rattle.store.specs.State.{State, slotCount, idle, idleMark}
 use Rattle.store.specs.Layout.{stateIn}
 use Rattle.store.specs.Calls.{Effect}
 use Rattle.store.specs.Workers.{AllOrdered}
@@ -46,18 +46,18 @@ pub record SearchStands (q : Slot) : Type 0 where
 -- What a step asks for: nodes in which a look can go by halves, and that each running search stands. A good store has both.
 pub record Steppable (counts keys : List ℕ) (slots : List Slot) : Type 0 where
   pub ordered : AllOrdered counts keys
-  pub stand : (i : ℕ) → i < slotCount → getD slots i idle .running ≢ 0 → SearchStands (getD slots i idle)
+  pub stand : (i : ℕ) → i < slotCount → getD slots i idle .running ≢ idleMark → SearchStands (getD slots i idle)
 
 -- And a search in slot i.
 pub record Running (counts keys : List ℕ) (slots : List Slot) (i : ℕ) : Type 0 where
   pub ordered : AllOrdered counts keys
   pub slot : i < slotCount
-  pub runs : getD slots i idle .running ≢ 0
+  pub runs : getD slots i idle .running ≢ idleMark
   pub stands : SearchStands (getD slots i idle)
 
 -- The running searches stand at nodes of the plan.
 abbrev pub SearchesIn : Plan → List Slot → Type 0
-SearchesIn p slots = (i : ℕ) → i < slotCount → getD slots i idle .running ≢ 0 → getD slots i idle .node < size p
+SearchesIn p slots = (i : ℕ) → i < slotCount → getD slots i idle .running ≢ idleMark → getD slots i idle .node < size p
 
 -- What a step decides, by every plan that has these rows and in which the searches stand, whatever the clock.
 pub record StepsBy (edges : List ℕ) (lows highs targets : Grid) (counts keys kinds values stamps : List ℕ)

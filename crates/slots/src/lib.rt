@@ -41,16 +41,10 @@ fn search_at(key: u32, node: u32, visits: u32) -> Slot
 fn freed(answer: Answer, i: usize) -> Change
     ensures { λ r. ⌜ r ≡ record { answer = answer; at = i; slot = idle } ⌝ }
 {
-    let idle = Slot {
-        running: Slot::IDLE,
-        key: 0,
-        node: 0,
-        visits: 0,
-    };
     Change {
         answer: answer,
         at: i,
-        slot: idle,
+        slot: Slot::idle(),
     }
 }
 

@@ -1,7 +1,7 @@
 -- Every step keeps all state rules, for every plan that meets the plan rules, and whatever numbers it is called with. Assumes nothing.
 use mathlib.Core.Path.{_≡_, refl, sym, _∙_, subst}
-use mathlib.Core.Bool.{Bool, true, false}
-use mathlib.Core.Logic.{_≢_, inl, inr}
+use mathlib.Core.Bool.{Bool, true, false, cond}
+use mathlib.Core.Logic.{_≢_, _⊎_, inl, inr}
 use mathlib.Core.Option.{some}
 use Prim.Native.Nat.{ℕ, suc, _<_, _≤_}
 use native.Mathlib.Omega.{arith}
@@ -17,10 +17,10 @@ use Rattle.plan.specs.PlanRules.{IsEdge, PlanRules}
 use Rattle.store.specs.declared.Copy.{Copy}
 use Rattle.store.specs.declared.Slot.{Slot}
 use Rattle.store.specs.Copies.{hasValue, Kind, kindNumber, valueHeld, copy, keyOf}
-use Rattle.store.specs.Copies.Kind.{withdrawn, result}
-use Rattle.store.specs.State.{State, nodeAt, slotAt, idle, line, lastClock, slotCount}
+use Rattle.store.specs.State.{State, nodeAt, slotAt, idle, line, lastClock, slotCount, idleMark, runningMark}
 use Rattle.store.specs.StateRules.{KindAndValue, OnPath, StateRules}
 use Rattle.store.specs.Calls.{Effect}
+use Rattle.store.proofs.KindLaws.{kind-known}
 use Rattle.store.proofs.Lifting.{Keeps}
 use Rattle.steps.specs.Entries.{room, entered, entry, entryStep}
 use Rattle.steps.specs.Carries.{Merged, bit, mergeAlong, carriedTo, carriedOut, carryStep}
@@ -132,9 +132,11 @@ entry-keeps kind k v fit p rules s good = go (entry-way kind k v p s)
 
 -- A copy of an entry has a kind that there is, and a value or 0.
 pub entry-fits : (kind : Kind) (k v t : ℕ) → KindAndValue (copy k (kindNumber kind) (valueHeld kind v) t)
-unfolding hasValue
-entry-fits withdrawn k v t = (omega arith, inr refl)
-entry-fits result k v t = (omega arith, inl refl)
+entry-fits kind k v t = (kind-known kind, go (hasValue (kindNumber kind)))
+  where
+    go : (has : Bool) → (has ≡ true) ⊎ (cond has v 0 ≡ 0)
+    go true = inl refl
+    go false = inr refl
 
 pub kind-keeps : (kind : Kind) (k v : ℕ) → Keeps (entryStep kind k v)
 kind-keeps kind k v = entry-keeps (kindNumber kind) k (valueHeld kind v) (entry-fits kind k v)
@@ -149,8 +151,8 @@ carry-keeps n i p rules s good = go (carry-way n i p s)
 
 -- The rules of one slot.
 record SlotFits (p : Plan) (q : Slot) : Type 0 where
-  idle-zero : q .running ≡ 0 → q ≡ idle
-  on-path : (q .running ≡ 0 → ⊥) → (q .running ≡ 1) × OnPath p (q .key) (q .node) (q .visits)
+  idle-zero : q .running ≡ idleMark → q ≡ idle
+  on-path : (q .running ≡ idleMark → ⊥) → (q .running ≡ runningMark) × OnPath p (q .key) (q .node) (q .visits)
 
 idle-fits : (p : Plan) → SlotFits p idle
 idle-fits p = record { idle-zero = λ e. refl; on-path = λ f. absurd (f refl) }
@@ -171,7 +173,7 @@ slot-keeps p s good i q h f =
       stamps-below-the-clock = good .stamps-below-the-clock;
       stamps-all-different = good .stamps-all-different;
       stamps-fall-down-a-path = good .stamps-fall-down-a-path;
-      slots-within = simp length-set (good .slots-within);
+      slots-long = simp length-set (good .slots-long);
       idle-slots-all-zero = λ j g. at j g .idle-zero;
       running-searches-on-their-paths = λ j g. at j g .on-path;
     }
@@ -193,7 +195,7 @@ start-keeps k p rules s good = go (start-way k p s)
     go (starts i h f g) = slot-keeps p s good i (running k 0 0) h (search-fits p k 0 0 (root-on-path p rules k))
 
 running-keeps : (Done : Effect → Type 0) (p : Plan) (s : State) (i : ℕ) → StateRules p s
-    → ((e : Effect) → i < length (s .slots) → slotAt s i .running ≢ 0 → Done e → StateRules p (e .after))
+    → ((e : Effect) → i < length (s .slots) → slotAt s i .running ≢ idleMark → Done e → StateRules p (e .after))
     → {e : Effect} → RunningWay Done i s e → StateRules p (e .after)
 running-keeps Done p s i good f (no-slot h) = good
 running-keeps Done p s i good f (slot-idle h g) = good
@@ -202,11 +204,11 @@ running-keeps Done p s i good f (slot-runs {e = e} h g d) = f e h g d
 pub step-keeps : (i : ℕ) → Keeps (stepStep i)
 step-keeps i p rules s good = running-keeps (Visit i p s) p s i good (λ e. go) (step-way i p s)
   where
-    go : {e : Effect} → i < length (s .slots) → slotAt s i .running ≢ 0 → Visit i p s e → StateRules p (e .after)
+    go : {e : Effect} → i < length (s .slots) → slotAt s i .running ≢ idleMark → Visit i p s e → StateRules p (e .after)
     go h f (finds x g) = slot-keeps p s good i idle h (idle-fits p)
     go h f (never g c) = slot-keeps p s good i idle h (idle-fits p)
     go h f (goes g t c) =
-        let o = good .running-searches-on-their-paths i (omega (arith, good .slots-within)) f .1 in
+        let o = good .running-searches-on-their-paths i (omega (arith, good .slots-long)) f .1 in
         slot-keeps p s good i (running (slotAt s i .key) t (suc (slotAt s i .visits))) h
         (search-fits p (slotAt s i .key) t (suc (slotAt s i .visits))
         (next-on-path p rules (slotAt s i .key) (slotAt s i .node) t (slotAt s i .visits) o c))
@@ -214,5 +216,5 @@ step-keeps i p rules s good = running-keeps (Visit i p s) p s i good (λ e. go) 
 pub cancel-keeps : (i : ℕ) → Keeps (cancelStep i)
 cancel-keeps i p rules s good = running-keeps (Freed i s) p s i good (λ e. go) (cancel-way i p s)
   where
-    go : {e : Effect} → i < length (s .slots) → slotAt s i .running ≢ 0 → Freed i s e → StateRules p (e .after)
+    go : {e : Effect} → i < length (s .slots) → slotAt s i .running ≢ idleMark → Freed i s e → StateRules p (e .after)
     go h f freed = slot-keeps p s good i idle h (idle-fits p)

@@ -1,5 +1,5 @@
 -- Where a node stands on a key's path: the root first, and the key's next node one place further. Assumes nothing.
-use mathlib.Core.Path.{_≡_, sym, _∙_}
+use mathlib.Core.Path.{_≡_, sym}
 use Prim.Native.Nat.{ℕ, suc, _-_, _<_, _≤_}
 use native.Mathlib.Omega.{arith}
 use native.Mathlib.Decide.{decLt}
@@ -10,7 +10,7 @@ use Rattle.plan.specs.declared.Hop.the-variants.{To}
 use Rattle.plan.specs.Plan.{Plan, size, next, path, IsPath}
 use Rattle.plan.specs.PlanRules.{PlanRules}
 use Rattle.plan.proofs.NextLaws.{not-both-hops, one-target, root-in-plan}
-use Rattle.plan.proofs.PathLaws.{path-some, path-first, path-next, path-is, path-down, path-in-plan, path-end, one-place}
+use Rattle.plan.proofs.PathLaws.{path-some, path-first, path-next, path-is, path-down, path-in-plan, path-end}
 use Rattle.store.specs.StateRules.{OnPath}
 
 module _ (p : Plan) (rules : PlanRules p) (k : ℕ) where
@@ -25,11 +25,7 @@ module _ (p : Plan) (rules : PlanRules p) (k : ℕ) where
   pub on-path-in-plan : (n above : ℕ) → OnPath p k n above → n < size p
   on-path-in-plan n above o = omega (arith, path-in-plan p rules k above (o .inside), o .here)
 
-  -- has one place in it,
-  pub one-above : (n a b : ℕ) → OnPath p k n a → OnPath p k n b → a ≡ b
-  one-above n a b o q = one-place p rules k a b (o .inside) (q .inside) (o .here ∙ sym (q .here))
-
-  -- and the next node the next place.
+  -- and its next node stands in the next place.
   pub next-on-path : (n t above : ℕ) → OnPath p k n above → next p n k ≡ To t → OnPath p k t (suc above)
   next-on-path n t above o e = go (decLt (suc above) (length (path p k)))
     where

@@ -10,9 +10,9 @@ use Rattle.lists.proofs.Truths.{not-both}
 use Rattle.plan.specs.Plan.{Plan, size, capacityOf, edgesOf}
 use Rattle.plan.specs.PlanRules.{PlanRules}
 use Rattle.plan.proofs.NextLaws.{root-in-plan}
-use Rattle.store.specs.Answers.{DONE, GOING, CLOCK, FULL, NODE, EDGE, SLOTS, SLOT, IDLE}
+use Rattle.store.specs.Answers.{GOING, CLOCK, FULL, NODE, EDGE, SLOTS, SLOT, IDLE}
 use Rattle.store.specs.Copies.{keyOf, find}
-use Rattle.store.specs.State.{State, lastClock, slotCount, nodeAt, slotAt}
+use Rattle.store.specs.State.{State, lastClock, slotCount, nodeAt, slotAt, idleMark}
 use Rattle.store.specs.StateRules.{StateRules}
 use Rattle.store.specs.Calls.{Effect}
 use Rattle.steps.specs.Entries.{entry}
@@ -101,25 +101,12 @@ module _ (p : Plan) (rules : PlanRules p) (s : State) (good : StateRules p s) wh
 
   module _ (k : ℕ) where
     -- SLOTS: "all 8 running".
-    pub slots-exactly : (startStep k p s .answer .number ≡ SLOTS) ↔ ((i : ℕ) → i < slotCount → slotAt s i .running ≢ 0)
+    pub slots-exactly : (startStep k p s .answer .number ≡ SLOTS) ↔ ((i : ℕ) → i < slotCount → slotAt s i .running ≢ idleMark)
     slots-exactly = go (start-way k p s)
       where
-        go : {o : Effect} → StartWay k s o → (o .answer .number ≡ SLOTS) ↔ ((i : ℕ) → i < slotCount → slotAt s i .running ≢ 0)
-        go (all-running h) = (λ e i g. h i (omega (arith, good .slots-within)), λ f. refl)
-        go (starts i h f g) = (λ e. absurd (omega arith), λ all. absurd (all i (omega (arith, good .slots-within)) f))
-
-    -- The slot that a start takes was idle, and every lower one runs.
-    pub record LowestIdle (i : ℕ) : Type 0 where
-      pub is-slot : i < slotCount
-      pub is-idle : slotAt s i .running ≡ 0
-      pub lower-run : (j : ℕ) → j < i → slotAt s j .running ≢ 0
-
-    pub start-lowest : startStep k p s .answer .number ≡ DONE → LowestIdle (startStep k p s .answer .a)
-    start-lowest = go (start-way k p s)
-      where
-        go : {o : Effect} → StartWay k s o → o .answer .number ≡ DONE → LowestIdle (o .answer .a)
-        go (all-running h) = λ e. absurd (omega arith)
-        go (starts i h f g) = λ e. record { is-slot = omega (arith, good .slots-within); is-idle = f; lower-run = g }
+        go : {o : Effect} → StartWay k s o → (o .answer .number ≡ SLOTS) ↔ ((i : ℕ) → i < slotCount → slotAt s i .running ≢ idleMark)
+        go (all-running h) = (λ e i g. h i (omega (arith, good .slots-long)), λ f. refl)
+        go (starts i h f g) = (λ e. absurd (omega arith), λ all. absurd (all i (omega (arith, good .slots-long)) f))
 
     pub start-unaltered : Unaltered s (startStep k p s)
     start-unaltered = go (start-way k p s)
@@ -131,13 +118,13 @@ module _ (p : Plan) (rules : PlanRules p) (s : State) (good : StateRules p s) wh
   -- What is done with a slot, and is no refusal when it is done.
   module _ (Done : Effect → Type 0) (i : ℕ) (accepted : (o : Effect) → Done o → o .answer .number ≤ GOING) where
     running-slot : {o : Effect} → RunningWay Done i s o → (o .answer .number ≡ SLOT) ↔ (slotCount ≤ i)
-    running-slot (no-slot h) = (λ e. omega (arith, good .slots-within), λ g. refl)
-    running-slot (slot-idle h f) = (λ e. absurd (omega arith), λ g. absurd (omega (arith, good .slots-within)))
-    running-slot (slot-runs {e = o} h f d) = (λ e. absurd (omega (arith, accepted o d)), λ g. absurd (omega (arith, good .slots-within)))
+    running-slot (no-slot h) = (λ e. omega (arith, good .slots-long), λ g. refl)
+    running-slot (slot-idle h f) = (λ e. absurd (omega arith), λ g. absurd (omega (arith, good .slots-long)))
+    running-slot (slot-runs {e = o} h f d) = (λ e. absurd (omega (arith, accepted o d)), λ g. absurd (omega (arith, good .slots-long)))
 
-    running-idle : {o : Effect} → RunningWay Done i s o → (o .answer .number ≡ IDLE) ↔ ((i < slotCount) × (slotAt s i .running ≡ 0))
-    running-idle (no-slot h) = (λ e. absurd (omega arith), λ g. absurd (omega (arith, good .slots-within, g .0)))
-    running-idle (slot-idle h f) = (λ e. (omega (arith, good .slots-within), f), λ g. refl)
+    running-idle : {o : Effect} → RunningWay Done i s o → (o .answer .number ≡ IDLE) ↔ ((i < slotCount) × (slotAt s i .running ≡ idleMark))
+    running-idle (no-slot h) = (λ e. absurd (omega arith), λ g. absurd (omega (arith, good .slots-long, g .0)))
+    running-idle (slot-idle h f) = (λ e. (omega (arith, good .slots-long), f), λ g. refl)
     running-idle (slot-runs {e = o} h f d) = (λ e. absurd (omega (arith, accepted o d)), λ g. absurd (f (g .1)))
 
     running-unaltered : {o : Effect} → RunningWay Done i s o → Unaltered s o
@@ -164,7 +151,7 @@ module _ (p : Plan) (rules : PlanRules p) (s : State) (good : StateRules p s) wh
     pub step-slot-exactly : (stepStep i p s .answer .number ≡ SLOT) ↔ (slotCount ≤ i)
     step-slot-exactly = running-slot (Visit i p s) i visit-accepted (step-way i p s)
 
-    pub step-idle-exactly : (stepStep i p s .answer .number ≡ IDLE) ↔ ((i < slotCount) × (slotAt s i .running ≡ 0))
+    pub step-idle-exactly : (stepStep i p s .answer .number ≡ IDLE) ↔ ((i < slotCount) × (slotAt s i .running ≡ idleMark))
     step-idle-exactly = running-idle (Visit i p s) i visit-accepted (step-way i p s)
 
     pub step-unaltered : Unaltered s (stepStep i p s)
@@ -173,7 +160,7 @@ module _ (p : Plan) (rules : PlanRules p) (s : State) (good : StateRules p s) wh
     pub cancel-slot-exactly : (cancelStep i p s .answer .number ≡ SLOT) ↔ (slotCount ≤ i)
     cancel-slot-exactly = running-slot (Freed i s) i freed-accepted (cancel-way i p s)
 
-    pub cancel-idle-exactly : (cancelStep i p s .answer .number ≡ IDLE) ↔ ((i < slotCount) × (slotAt s i .running ≡ 0))
+    pub cancel-idle-exactly : (cancelStep i p s .answer .number ≡ IDLE) ↔ ((i < slotCount) × (slotAt s i .running ≡ idleMark))
     cancel-idle-exactly = running-idle (Freed i s) i freed-accepted (cancel-way i p s)
 
     pub cancel-unaltered : Unaltered s (cancelStep i p s)

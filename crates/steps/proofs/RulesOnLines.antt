@@ -12,7 +12,7 @@ use Rattle.plan.specs.Plan.{Plan, size, capacityOf}
 use Rattle.store.specs.declared.Copy.{Copy}
 use Rattle.store.specs.declared.Slot.{Slot}
 use Rattle.store.specs.Copies.{noCopy, keyOf}
-use Rattle.store.specs.State.{State, nodeAt, copyAt, idle, line, lastClock, slotCount}
+use Rattle.store.specs.State.{State, nodeAt, copyAt, idle, line, lastClock, slotCount, idleMark, runningMark}
 use Rattle.store.specs.StateRules.{HeldAt, KindAndValue, OnPath, StateRules}
 use Rattle.steps.proofs.NodeLists.{find-key, find-place, find-at}
 
@@ -28,11 +28,11 @@ pub record LineRules (p : Plan) (s : State) : Type 0 where
 
 -- The rules on slots.
 pub record SlotRules (p : Plan) (qs : List Slot) : Type 0 where
-  pub eight : length qs ≡ slotCount
-  pub idle-zero : (i : ℕ) → i < slotCount → getD qs i idle .running ≡ 0 → getD qs i idle ≡ idle
+  pub slots-long : length qs ≡ slotCount
+  pub idle-zero : (i : ℕ) → i < slotCount → getD qs i idle .running ≡ idleMark → getD qs i idle ≡ idle
   pub on-paths :
-      (i : ℕ) → i < slotCount → (getD qs i idle .running ≡ 0 → ⊥)
-      → (getD qs i idle .running ≡ 1) × OnPath p (getD qs i idle .key) (getD qs i idle .node) (getD qs i idle .visits)
+      (i : ℕ) → i < slotCount → (getD qs i idle .running ≡ idleMark → ⊥)
+      → (getD qs i idle .running ≡ runningMark) × OnPath p (getD qs i idle .key) (getD qs i idle .node) (getD qs i idle .visits)
 
 module _ (p : Plan) (s : State) where
   -- The keys of each node rise.
@@ -94,7 +94,7 @@ module _ (p : Plan) (s : State) where
 
   pub slot-rules : StateRules p s → SlotRules p (s .slots)
   slot-rules good =
-      record { eight = good .slots-within; idle-zero = good .idle-slots-all-zero; on-paths = good .running-searches-on-their-paths }
+      record { slots-long = good .slots-long; idle-zero = good .idle-slots-all-zero; on-paths = good .running-searches-on-their-paths }
 
   -- The rules by line, with those on nodes and slots, give the state rules.
   pub from-lines : length (s .nodes) ≡ size p → (1 ≤ s .clock) × (s .clock ≤ lastClock)
@@ -111,7 +111,7 @@ module _ (p : Plan) (s : State) where
         stamps-below-the-clock = λ n i h. l .stamps (copyAt s n i .key) n (copyAt s n i) (at n i h);
         stamps-all-different = different;
         stamps-fall-down-a-path = fall;
-        slots-within = q .eight;
+        slots-long = q .slots-long;
         idle-slots-all-zero = q .idle-zero;
         running-searches-on-their-paths = q .on-paths;
       }

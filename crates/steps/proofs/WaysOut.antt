@@ -18,7 +18,7 @@ use Rattle.store.specs.declared.Copy.{Copy}
 use Rattle.store.specs.declared.Slot.{Slot}
 use Rattle.store.specs.Answers.{DONE, GOING, CLOCK, FULL, NODE, EDGE, SLOTS, SLOT, IDLE, answer, bare}
 use Rattle.store.specs.Copies.{copy, keyOf, find}
-use Rattle.store.specs.State.{State, lastClock, nodeAt, slotAt, idle, line}
+use Rattle.store.specs.State.{State, lastClock, nodeAt, slotAt, idle, line, idleMark}
 use Rattle.store.specs.Calls.{Effect}
 use Rattle.steps.specs.Entries.{room, refused, entered, entry}
 use Rattle.steps.specs.Carries.{mergeAlong, carriedOut, carryStep}
@@ -68,32 +68,32 @@ carry-way n i p s = go (ltb n (size p)) (ltb i (length (edgesOf p n))) refl refl
 
 -- A start: no slot is idle, or the lowest idle slot takes the key.
 pub data StartWay (k : ℕ) (s : State) : Effect → Type 0 where
-  all-running : ((i : ℕ) → i < length (s .slots) → slotAt s i .running ≢ 0) → StartWay k s (refused SLOTS s)
-  starts : (i : ℕ) → i < length (s .slots) → slotAt s i .running ≡ 0 → ((j : ℕ) → j < i → slotAt s j .running ≢ 0)
+  all-running : ((i : ℕ) → i < length (s .slots) → slotAt s i .running ≢ idleMark) → StartWay k s (refused SLOTS s)
+  starts : (i : ℕ) → i < length (s .slots) → slotAt s i .running ≡ idleMark → ((j : ℕ) → j < i → slotAt s j .running ≢ idleMark)
       → StartWay k s (record { answer = answer DONE i 0 0 0; after = withSlot i (running k 0 0) s })
 
 -- Below the lowest idle slot all run,
-pub below-lowest : (qs : List Slot) (j : ℕ) → j < lowestIdle qs → getD qs j idle .running ≢ 0
+pub below-lowest : (qs : List Slot) (j : ℕ) → j < lowestIdle qs → getD qs j idle .running ≢ idleMark
 unfolding lowestIdle
 below-lowest [] j h = absurd (not-suc-le-zero h)
-below-lowest (q ∷ qs) j h = go (eqb (q .running) 0) refl j h (below-lowest qs)
+below-lowest (q ∷ qs) j h = go (eqb (q .running) idleMark) refl j h (below-lowest qs)
   where
-    go : (b : Bool) → eqb (q .running) 0 ≡ b → (j : ℕ) → j < cond b 0 (suc (lowestIdle qs))
-        → ((j : ℕ) → j < lowestIdle qs → getD qs j idle .running ≢ 0) → getD (q ∷ qs) j idle .running ≢ 0
+    go : (b : Bool) → eqb (q .running) idleMark ≡ b → (j : ℕ) → j < cond b 0 (suc (lowestIdle qs))
+        → ((j : ℕ) → j < lowestIdle qs → getD qs j idle .running ≢ idleMark) → getD (q ∷ qs) j idle .running ≢ idleMark
     go true e j h again = absurd (not-suc-le-zero h)
-    go false e zero h again = eqb-false (q .running) 0 e
+    go false e zero h again = eqb-false (q .running) idleMark e
     go false e (suc j) h again = again j (le-of-suc-le-suc h)
 
 -- and if it is a slot at all, it is idle.
-pub lowest-idle : (qs : List Slot) → lowestIdle qs < length qs → getD qs (lowestIdle qs) idle .running ≡ 0
+pub lowest-idle : (qs : List Slot) → lowestIdle qs < length qs → getD qs (lowestIdle qs) idle .running ≡ idleMark
 unfolding lowestIdle
 lowest-idle [] h = absurd (not-suc-le-zero h)
-lowest-idle (q ∷ qs) h = go (eqb (q .running) 0) refl h (lowest-idle qs)
+lowest-idle (q ∷ qs) h = go (eqb (q .running) idleMark) refl h (lowest-idle qs)
   where
-    go : (b : Bool) → eqb (q .running) 0 ≡ b → cond b 0 (suc (lowestIdle qs)) < suc (length qs)
-        → (lowestIdle qs < length qs → getD qs (lowestIdle qs) idle .running ≡ 0)
-        → getD (q ∷ qs) (cond b 0 (suc (lowestIdle qs))) idle .running ≡ 0
-    go true e h again = eqb-true (q .running) 0 e
+    go : (b : Bool) → eqb (q .running) idleMark ≡ b → cond b 0 (suc (lowestIdle qs)) < suc (length qs)
+        → (lowestIdle qs < length qs → getD qs (lowestIdle qs) idle .running ≡ idleMark)
+        → getD (q ∷ qs) (cond b 0 (suc (lowestIdle qs))) idle .running ≡ idleMark
+    go true e h again = eqb-true (q .running) idleMark e
     go false e h again = again (le-of-suc-le-suc h)
 
 pub start-way : (k : ℕ) (p : Plan) (s : State) → StartWay k s (startStep k p s)
@@ -114,19 +114,19 @@ start-way k p s = go (ltb (lowestIdle (s .slots)) (length (s .slots))) refl
 -- What is done with a running slot: there is no such slot, or it is idle, or it is done.
 pub data RunningWay (Done : Effect → Type 0) (i : ℕ) (s : State) : Effect → Type 0 where
   no-slot : length (s .slots) ≤ i → RunningWay Done i s (refused SLOT s)
-  slot-idle : i < length (s .slots) → slotAt s i .running ≡ 0 → RunningWay Done i s (refused IDLE s)
-  slot-runs : {e : Effect} → i < length (s .slots) → slotAt s i .running ≢ 0 → Done e → RunningWay Done i s e
+  slot-idle : i < length (s .slots) → slotAt s i .running ≡ idleMark → RunningWay Done i s (refused IDLE s)
+  slot-runs : {e : Effect} → i < length (s .slots) → slotAt s i .running ≢ idleMark → Done e → RunningWay Done i s e
 
 pub running-way : (Done : Effect → Type 0) (f : Slot → Effect) (i : ℕ) (s : State) → Done (f (slotAt s i))
     → RunningWay Done i s (withRunning f i s)
 unfolding withRunning
-running-way Done f i s d = go (ltb i (length (s .slots))) (eqb (slotAt s i .running) 0) refl refl
+running-way Done f i s d = go (ltb i (length (s .slots))) (eqb (slotAt s i .running) idleMark) refl refl
   where
-    go : (a b : Bool) → ltb i (length (s .slots)) ≡ a → eqb (slotAt s i .running) 0 ≡ b
+    go : (a b : Bool) → ltb i (length (s .slots)) ≡ a → eqb (slotAt s i .running) idleMark ≡ b
         → RunningWay Done i s (cond a (cond b (refused IDLE s) (f (slotAt s i))) (refused SLOT s))
     go false b g h = no-slot (ltb-false i (length (s .slots)) g)
-    go true true g h = slot-idle (ltb-true i (length (s .slots)) g) (eqb-true (slotAt s i .running) 0 h)
-    go true false g h = slot-runs (ltb-true i (length (s .slots)) g) (eqb-false (slotAt s i .running) 0 h) d
+    go true true g h = slot-idle (ltb-true i (length (s .slots)) g) (eqb-true (slotAt s i .running) idleMark h)
+    go true false g h = slot-runs (ltb-true i (length (s .slots)) g) (eqb-false (slotAt s i .running) idleMark h) d
 
 -- A visit: a copy is found and ends the search, a withdrawn one too; or nothing, at the path's end or on the way to the next node.
 pub data Visit (i : ℕ) (p : Plan) (s : State) : Effect → Type 0 where

@@ -13,13 +13,13 @@ use Rattle.store.specs.declared.Copy.{Copy}
 use Rattle.store.specs.declared.Slot.{Slot}
 use Rattle.store.specs.Answers.{DONE, GOING, SLOTS, SLOT, IDLE, answer, bare}
 use Rattle.store.specs.Copies.{isSome}
-use Rattle.store.specs.State.{State, slotAt, idle, line, current}
+use Rattle.store.specs.State.{State, slotAt, idleMark, runningMark, idle, line, current}
 use Rattle.store.specs.Calls.{Effect}
 use Rattle.steps.specs.Entries.{refused}
 
 -- A running search: its key, the node that it stands at, and the nodes visited so far.
 abbrev pub running : ℕ → ℕ → ℕ → Slot
-running k n visits = record { running = 1; key = k; node = n; visits = visits }
+running k n visits = record { running = runningMark; key = k; node = n; visits = visits }
 
 -- The state with another slot i.
 abbrev pub withSlot : ℕ → Slot → State → State
@@ -28,7 +28,7 @@ withSlot i q s = record { clock = s .clock; nodes = s .nodes; slots = set (s .sl
 -- The place of the lowest idle slot, or the number of slots.
 unfoldable pub lowestIdle : List Slot → ℕ
 lowestIdle [] = 0
-lowestIdle (q ∷ qs) = cond (eqb (q .running) 0) 0 (suc (lowestIdle qs))
+lowestIdle (q ∷ qs) = cond (eqb (q .running) idleMark) 0 (suc (lowestIdle qs))
 
 -- "The lowest idle slot takes the key, at the root, 0 visits."
 unfoldable pub startStep : ℕ → Plan → State → Effect
@@ -54,7 +54,7 @@ visited none (To t) i q s =
 -- What is done with a running slot: SLOT before IDLE.
 unfoldable pub withRunning : (Slot → Effect) → ℕ → State → Effect
 withRunning f i s =
-    cond (ltb i (length (s .slots))) (cond (eqb (slotAt s i .running) 0) (refused IDLE s) (f (slotAt s i))) (refused SLOT s)
+    cond (ltb i (length (s .slots))) (cond (eqb (slotAt s i .running) idleMark) (refused IDLE s) (f (slotAt s i))) (refused SLOT s)
 
 -- "One node is visited."
 unfoldable pub stepStep : ℕ → Plan → State → Effect

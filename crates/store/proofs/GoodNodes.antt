@@ -2,7 +2,7 @@
 use mathlib.Core.Path.{_≡_, sym, ap}
 use mathlib.Core.Bool.{true}
 use mathlib.Core.List.{List}
-use Prim.Native.Nat.{ℕ, _+_, _-_, _*_, _<_, _≤_}
+use Prim.Native.Nat.{ℕ, _+_, _-_, _*_, _<_}
 use native.Mathlib.Omega.{arith}
 use lib.ListN.{length}
 use Rattle.lists.specs.Indexed.{tabulate}
@@ -15,7 +15,7 @@ use Rattle.store.specs.Copies.{keyOf}
 use Rattle.store.specs.State.{nodeAt}
 use Rattle.store.specs.Layout.{planOf, width, nodeIn, nodeOf, countOf, stateOf, column, storeOf}
 use Rattle.store.specs.StoreRules.{goodStore}
-use Rattle.store.specs.Workers.{below, placeIn, RisesIn, Lookable}
+use Rattle.store.specs.Workers.{below, placeIn, RisesIn, WithinPlaces, Lookable}
 use Rattle.store.proofs.Lifting.{plan-good, good-ordered, good-back}
 use Rattle.store.proofs.Halving.{place-of-copy}
 
@@ -38,8 +38,8 @@ module _ (z : Store) (good : goodStore z ≡ true) where
   root-there = omega (arith, plan-good z good .nodes-within)
 
   -- A node's copies have places,
-  pub count-fits : (n : ℕ) → n < mostNodes → countOf z n ≤ width
-  count-fits n h = good-ordered z good n h .fits
+  pub counts-fit : WithinPlaces (z .counts)
+  counts-fit n h = good-ordered z good n h .fits
 
   -- and their keys rise.
   pub node-rises : (n from end : ℕ) → n < mostNodes → from ≡ width * n → end ≡ width * n + countOf z n → RisesIn (z .keys) from end

@@ -11,7 +11,7 @@ use Rattle.store.specs.declared.Found.the-variants.{Held, Nothing}
 use Rattle.store.specs.Copies.{copy, noCopy, keyOf, find, foundOf}
 use Rattle.store.specs.Layout.{copyIn}
 use Rattle.store.specs.Workers.{numberIn, itself, below, placeIn, Rises, RisesIn}
-use Rattle.store.proofs.Seeking.{below-keys, rises-run, place-within, place-up, place-down, place-hit, place-none}
+use Rattle.store.proofs.Seeking.{below-keys, rises-tabulated, place-within, place-up, place-down, place-hit, place-none}
 
 -- The place of a key among the copies is its place among their keys.
 pub place-of-copy : (keys kinds values stamps : List ℕ) (from n k : ℕ)
@@ -35,12 +35,12 @@ module _ (keys : List ℕ) (from end : ℕ) (o : from ≤ end) where
     pub half-up : (k m : ℕ) → from ≤ m → m < end → numberIn keys m < k → m < placeIn keys from end k
     half-up k m p q h =
         place-down itself 0 (numberIn keys) from (end - from) k (placeIn keys from end k) refl
-        (rises-run itself 0 (numberIn keys) from (end - from) (λ i a b. r i a (omega arith)))
+        (rises-tabulated itself 0 (numberIn keys) from (end - from) (λ i a b. r i a (omega arith)))
         m p (omega arith) h
 
     module _ (kinds values stamps : List ℕ) where
       pub copies-rise : Rises keyOf noCopy (tabulate from (end - from) (copyIn keys kinds values stamps))
-      copies-rise = rises-run keyOf noCopy (copyIn keys kinds values stamps) from (end - from) (λ i a b. r i a (omega arith))
+      copies-rise = rises-tabulated keyOf noCopy (copyIn keys kinds values stamps) from (end - from) (λ i a b. r i a (omega arith))
 
       -- The copy at a place with the key is found,
       pub found-at : (k at : ℕ) → from ≤ at → at < end → numberIn keys at ≡ k

@@ -9,7 +9,7 @@ use lib.ListN.{length, getD, set, replicate, length-set, length-map, length-appe
 use lib.Seq.{ext-getD, sets, length-sets, getD-append-seam, getD-append-add, getD-set-same, getD-set-other}
 use Rattle.lists.specs.Indexed.{tabulate}
 use Rattle.lists.proofs.Tabulating.{length-tabulate, getD-tabulate, getD-tabulate-0, getD-tabulate-past, as-tabulate}
-use Rattle.lists.proofs.Storing.{sets-below, sets-past, sets-inside, set-run, getD-same, getD-map}
+use Rattle.lists.proofs.Storing.{sets-below, sets-past, sets-inside, set-tabulated, getD-same, getD-map}
 use Rattle.plan.specs.Sizes.{mostNodes}
 use Rattle.plan.specs.Plan.{Plan, size}
 use Rattle.plan.specs.PlanRules.{PlanRules}
@@ -192,7 +192,7 @@ module _ {n : ℕ} {ys : List Copy} {ns ms : List (List Copy)} (one : OneNode n 
   pub counts-written : tabulate 0 mostNodes (λ m. length (getD ms m [])) ≡ set (tabulate 0 mostNodes (λ m. length (getD ns m []))) n (length ys)
   counts-written =
       sym
-      (set-run (λ m. length (getD ns m [])) (λ m. length (getD ms m [])) mostNodes n (length ys) (ap length (one .here))
+      (set-tabulated (λ m. length (getD ns m [])) (λ m. length (getD ms m [])) mostNodes n (length ys) (ap length (one .here))
       (λ m e. ap length (one .others m e)))
 
 -- A column where one copy of a node is replaced.
@@ -372,7 +372,7 @@ module _ (plan : ℕ) (low : 1 ≤ plan) (high : plan ≤ plans) {s : State} (ru
   unfolding storeOf
   rules-store =
       record {
-        shape = stored-shape plan s (rules .slots-within);
+        shape = stored-shape plan s (rules .slots-long);
         plan-known = (low, high);
         unused-places-all-zero =
             λ n i h u g. stored-copy plan s n i h g ∙ List·getD-eq-default (nodeAt s n) noCopy (omega (arith, stored-count plan s n h));

@@ -1,3 +1,5 @@
+pub mod KindLaws
+pub mod Widths
 pub mod WhichPlan
 pub mod Laying
 pub mod RulingLists

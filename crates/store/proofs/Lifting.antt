@@ -107,7 +107,7 @@ module _ (p : Plan) where
         stamps-below-the-clock = λ n i h. absurd (nothing-held n i h);
         stamps-all-different = λ n i m j h g e. absurd (nothing-held n i h);
         stamps-fall-down-a-path = λ n i m j h g e d. absurd (nothing-held n i h);
-        slots-within = length-replicate slotCount idle;
+        slots-long = length-replicate slotCount idle;
         idle-slots-all-zero = λ i h e. fresh-slot i;
         running-searches-on-their-paths = λ i h runs. absurd (runs (ap (λ (q : Slot). q .running) (fresh-slot i)));
       }

@@ -139,7 +139,7 @@ module _ (z : Store) where
           stamps-all-different = test-different;
           stamps-fall-down-a-path =
               falls-by-reach p plan-rules s test-rise (λ n i h. test-copy n i h .on) (λ n i h. test-copy n i h .reach);
-          slots-within = rw (state-slots z) (test-shape .slots-long);
+          slots-long = rw (state-slots z) (test-shape .slots-long);
           idle-slots-all-zero = λ i h. slot-idle p (slotAt s i) (test-slot i h);
           running-searches-on-their-paths = λ i h. slot-runs p (slotAt s i) (test-slot i h);
         }

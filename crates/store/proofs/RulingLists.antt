@@ -100,35 +100,35 @@ at-different (x ∷ xs) d =
         (λ (t : member x xs ≡ false). t)
         (bool? (member x xs))
 
--- The same of a run, by the numbers that it runs over.
+-- The same of a tabulated list, by its numbers.
 module _ (f : ℕ → ℕ) (i n : ℕ) where
-  run-at : (j : ℕ) → i ≤ j → j < i + n → getD (tabulate i n f) (j - i) 0 ≡ f j
-  run-at j h g =
+  tabulated-at : (j : ℕ) → i ≤ j → j < i + n → getD (tabulate i n f) (j - i) 0 ≡ f j
+  tabulated-at j h g =
       let e : i + (j - i) ≡ j = omega arith in
       getD-tabulate f i n (j - i) 0 (omega arith) ∙ ap f e
 
-  pub member-run : (t : ℕ) → member t (tabulate i n f) ≡ true → (j : ℕ) × (i ≤ j) × (j < i + n) × (f j ≡ t)
-  member-run t m =
+  pub member-tabulated : (t : ℕ) → member t (tabulate i n f) ≡ true → (j : ℕ) × (i ≤ j) × (j < i + n) × (f j ≡ t)
+  member-tabulated t m =
       let w = member-at t (tabulate i n f) m in
       let h : w .0 < n = omega (arith, w .1, length-tabulate f i n) in
       (i + w .0, omega arith, omega arith, sym (getD-tabulate f i n (w .0) 0 h) ∙ w .2)
 
-  pub run-member : (j : ℕ) → i ≤ j → j < i + n → member (f j) (tabulate i n f) ≡ true
-  run-member j h g =
-      rw (run-at j h g) at (at-member (tabulate i n f) (j - i) (omega (arith, length-tabulate f i n)))
+  pub tabulated-member : (j : ℕ) → i ≤ j → j < i + n → member (f j) (tabulate i n f) ≡ true
+  tabulated-member j h g =
+      rw (tabulated-at j h g) at (at-member (tabulate i n f) (j - i) (omega (arith, length-tabulate f i n)))
 
-  pub different-run : different (tabulate i n f) ≡ true
+  pub different-tabulated : different (tabulate i n f) ≡ true
       → (j k : ℕ) → i ≤ j → j < i + n → i ≤ k → k < i + n → f j ≡ f k → j ≡ k
-  different-run d j k a b c e q =
+  different-tabulated d j k a b c e q =
       let l = length-tabulate f i n in
       let r : j - i ≡ k - i =
-      different-at (tabulate i n f) d (j - i) (k - i) (omega arith) (omega arith) (run-at j a b ∙ q ∙ sym (run-at k c e))
+      different-at (tabulate i n f) d (j - i) (k - i) (omega arith) (omega arith) (tabulated-at j a b ∙ q ∙ sym (tabulated-at k c e))
       in
       omega arith
 
-  pub run-different : ((j k : ℕ) → i ≤ j → j < i + n → i ≤ k → k < i + n → f j ≡ f k → j ≡ k)
+  pub tabulated-different : ((j k : ℕ) → i ≤ j → j < i + n → i ≤ k → k < i + n → f j ≡ f k → j ≡ k)
       → different (tabulate i n f) ≡ true
-  run-different d =
+  tabulated-different d =
       at-different (tabulate i n f) (λ j k h g e.
       let a : j < n = omega (arith, length-tabulate f i n) in
       let b : k < n = omega (arith, length-tabulate f i n) in

@@ -15,7 +15,7 @@ use Rattle.store.specs.declared.Copy.{Copy}
 use Rattle.store.specs.declared.Slot.{Slot}
 use Rattle.store.specs.declared.Store.{Store}
 use Rattle.store.specs.Copies.{lastKind, hasValue, noCopy, stampOf, member}
-use Rattle.store.specs.State.{State, copyAt, idle, inReach}
+use Rattle.store.specs.State.{State, copyAt, idle, inReach, idleMark, runningMark}
 use Rattle.store.specs.StateRules.{HeldAt, KindAndValue, OnPath}
 use Rattle.store.specs.Layout.{planOf, width, copyIn, copyOf, countOf, stateOf}
 use Rattle.store.specs.StoreRules.{kindTest, copyTest, unusedTest, slotTest}
@@ -100,32 +100,33 @@ rule-order end i a b r = go (decLt i end)
     go (no h) = or-left (leb end i) (ltb a b) (le-leb end i (omega arith))
 
 -- Search slots.
-pub slot-idle : (p : Plan) (q : Slot) → slotTest p q ≡ true → q .running ≡ 0 → q ≡ idle
+pub slot-idle : (p : Plan) (q : Slot) → slotTest p q ≡ true → q .running ≡ idleMark → q ≡ idle
 unfolding slotTest
 slot-idle p q t e =
-    let zeros = rw (eq-eqb (q .running) 0 e) at t in
+    let zeros = rw (eq-eqb (q .running) idleMark e) at t in
     let key = eqb-true (q .key) 0 (search (and-left, and-right) depth 8) in
     let node = eqb-true (q .node) 0 (search (and-left, and-right) depth 8) in
     let visits = eqb-true (q .visits) 0 (search (and-left, and-right) depth 8) in
     λ i. record { running = e i; key = key i; node = node i; visits = visits i }
 
-pub slot-runs : (p : Plan) (q : Slot) → slotTest p q ≡ true → (q .running ≡ 0 → ⊥) → (q .running ≡ 1) × OnPath p (q .key) (q .node) (q .visits)
+pub slot-runs : (p : Plan) (q : Slot) → slotTest p q ≡ true → (q .running ≡ idleMark → ⊥)
+    → (q .running ≡ runningMark) × OnPath p (q .key) (q .node) (q .visits)
 unfolding slotTest
 slot-runs p q t e =
-    let runs = rw (ne-eqb (q .running) 0 e) at t in
+    let runs = rw (ne-eqb (q .running) idleMark e) at t in
     let w = stands-at (q .node) (path p (q .key)) (q .visits) (search (and-left, and-right) depth 8) in
-    (eqb-true (q .running) 1 (search and-left), record { inside = w .0; here = w .1 })
+    (eqb-true (q .running) runningMark (search and-left), record { inside = w .0; here = w .1 })
 
-pub rules-slot : (p : Plan) (q : Slot) → (q .running ≡ 0 → q ≡ idle)
-    → ((q .running ≡ 0 → ⊥) → (q .running ≡ 1) × OnPath p (q .key) (q .node) (q .visits)) → slotTest p q ≡ true
+pub rules-slot : (p : Plan) (q : Slot) → (q .running ≡ idleMark → q ≡ idle)
+    → ((q .running ≡ idleMark → ⊥) → (q .running ≡ runningMark) × OnPath p (q .key) (q .node) (q .visits)) → slotTest p q ≡ true
 unfolding slotTest
-rules-slot p q rests runs = go (ℕ-discrete (q .running) 0)
+rules-slot p q rests runs = go (ℕ-discrete (q .running) idleMark)
   where
-    go : Dec (q .running ≡ 0) → slotTest p q ≡ true
+    go : Dec (q .running ≡ idleMark) → slotTest p q ≡ true
     go (yes e) = ap (λ (x : Slot). slotTest p x) (rests e)
     go (no e) =
         let w = runs e in
-        rw (ne-eqb (q .running) 0 e, eq-eqb (q .running) 1 (w .0))
+        rw (ne-eqb (q .running) idleMark e, eq-eqb (q .running) runningMark (w .0))
         (at-stands (q .node) (path p (q .key)) (q .visits) (w .1 .inside) (w .1 .here))
 
 -- Unused places.

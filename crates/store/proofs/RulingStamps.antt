@@ -12,7 +12,18 @@ use Rattle.lists.proofs.Truths.{not-both}
 use Rattle.store.specs.Copies.{member, different}
 use Rattle.store.specs.Layout.{width}
 use Rattle.store.specs.StoreRules.{stampsFrom}
-use Rattle.store.proofs.RulingLists.{member-run, run-member, different-run, run-different, member-left, member-right, member-sides, BothDifferent, different-both, both-different}
+use Rattle.store.proofs.RulingLists.{
+  member-tabulated,
+  tabulated-member,
+  different-tabulated,
+  tabulated-different,
+  member-left,
+  member-right,
+  member-sides,
+  BothDifferent,
+  different-both,
+  both-different,
+}
 
 -- The node n is one of the m from node b on, and its count takes in its place i.
 pub record Counted (counts : List ℕ) (b m n i : ℕ) : Type 0 where
@@ -38,12 +49,12 @@ module _ (counts stamps : List ℕ) where
 
   here-at : (n t : ℕ) → member t (here n) ≡ true → (i : ℕ) × (i < getD counts n 0) × (stamp n i ≡ t)
   here-at n t h =
-      let w = member-run (λ i. getD stamps i 0) (width * n) (getD counts n 0) t h in
+      let w = member-tabulated (λ i. getD stamps i 0) (width * n) (getD counts n 0) t h in
       let e : width * n + (w .0 - width * n) ≡ w .0 = omega (arith, w .1) in
       (w .0 - width * n, omega (arith, w .1, w .2), ap (λ (i : ℕ). getD stamps i 0) e ∙ w .3)
 
   at-here : (n i : ℕ) → i < getD counts n 0 → member (stamp n i) (here n) ≡ true
-  at-here n i h = run-member (λ i. getD stamps i 0) (width * n) (getD counts n 0) (width * n + i) (omega arith) (omega arith)
+  at-here n i h = tabulated-member (λ i. getD stamps i 0) (width * n) (getD counts n 0) (width * n + i) (omega arith) (omega arith)
 
   later-at : (b m t : ℕ) → member t (later b m) ≡ true → (n i : ℕ) × Counted counts b m n i × (stamp n i ≡ t)
   unfolding stampsFrom member
@@ -93,7 +104,7 @@ module _ (counts stamps : List ℕ) where
           let u : i < getD counts b 0 = rw x at (h .place) in
           let v : j < getD counts b 0 = rw y at (g .place) in
           let r : width * n + i ≡ width * l + j =
-          different-run (λ q. getD stamps q 0) (width * b) (getD counts b 0) (w .first) (width * n + i) (width * l + j) (omega arith) (omega arith)
+          different-tabulated (λ q. getD stamps q 0) (width * b) (getD counts b 0) (w .first) (width * n + i) (width * l + j) (omega arith) (omega arith)
           (omega arith) (omega arith) e
           in
           (omega arith, omega arith)
@@ -104,7 +115,7 @@ module _ (counts stamps : List ℕ) where
   apart-different b (suc m) d =
       both-different (here b) (later (suc b) m)
       (record {
-        first = run-different (λ i. getD stamps i 0) (width * b) (getD counts b 0) one;
+        first = tabulated-different (λ i. getD stamps i 0) (width * b) (getD counts b 0) one;
         second = apart-different (suc b) m (λ n i l j h g e. d n i l j (before h) (before g) e);
         no-shared = λ t a c.
             let v = here-at b t a in

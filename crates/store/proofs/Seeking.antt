@@ -190,25 +190,25 @@ module _ {A B : Type 0} (key : A → ℕ) (g : B → A) where
       go true e = refl
       go false e = e
 
--- A run: its things stand at the places from .. from + n.
+-- A tabulated list: its things stand at the places from .. from + n.
 module _ {A : Type 0} (key : A → ℕ) (d : A) (f : ℕ → A) (from n : ℕ) where
-  in-run : (i : ℕ) → from ≤ i → i < from + n → getD (tabulate from n f) (i - from) d ≡ f i
-  in-run i p q =
+  in-tabulated : (i : ℕ) → from ≤ i → i < from + n → getD (tabulate from n f) (i - from) d ≡ f i
+  in-tabulated i p q =
       let e : from + (i - from) ≡ i = omega arith in
       getD-tabulate f from n (i - from) d (omega arith) ∙ ap f e
 
   -- Its keys rise exactly when they rise from place to place.
-  pub rises-run : ((i : ℕ) → from ≤ i → suc i < from + n → key (f i) < key (f (suc i))) → Rises key d (tabulate from n f)
-  rises-run h i g =
+  pub rises-tabulated : ((i : ℕ) → from ≤ i → suc i < from + n → key (f i) < key (f (suc i))) → Rises key d (tabulate from n f)
+  rises-tabulated h i g =
       let l = length-tabulate f from n in
       let s : suc (from + i) ≡ from + suc i = omega arith in
       rw (getD-tabulate f from n i d (omega arith), getD-tabulate f from n (suc i) d (omega arith), ← s) (h (from + i) (omega arith) (omega arith))
 
-  pub run-rises : Rises key d (tabulate from n f) → (i : ℕ) → from ≤ i → suc i < from + n → key (f i) < key (f (suc i))
-  run-rises r i p q =
+  pub tabulated-rises : Rises key d (tabulate from n f) → (i : ℕ) → from ≤ i → suc i < from + n → key (f i) < key (f (suc i))
+  tabulated-rises r i p q =
       let l = length-tabulate f from n in
       let e : suc (i - from) ≡ suc i - from = omega arith in
-      rw (e, in-run i (omega arith) (omega arith), in-run (suc i) (omega arith) (omega arith)) at (r (i - from) (omega arith))
+      rw (e, in-tabulated i (omega arith) (omega arith), in-tabulated (suc i) (omega arith) (omega arith)) at (r (i - from) (omega arith))
 
   -- The place of k in it is at.
   module _ (k at : ℕ) (e : at ≡ from + below key (tabulate from n f) k) where
@@ -222,18 +222,18 @@ module _ {A : Type 0} (key : A → ℕ) (d : A) (f : ℕ → A) (from n : ℕ) w
     place-before i p q =
         let l = length-tabulate f from n in
         let b = below-length key (tabulate from n f) k in
-        rw (in-run i p (omega arith)) at (before-below key d (tabulate from n f) k (i - from) (omega arith))
+        rw (in-tabulated i p (omega arith)) at (before-below key d (tabulate from n f) k (i - from) (omega arith))
 
     pub place-up : (i : ℕ) → from ≤ i → i < from + n → k ≤ key (f i) → at ≤ i
     place-up i p q h =
-        let b = below-up key d (tabulate from n f) k (i - from) (rw (in-run i p q) h) in
+        let b = below-up key d (tabulate from n f) k (i - from) (rw (in-tabulated i p q) h) in
         omega arith
 
     module _ (r : Rises key d (tabulate from n f)) where
       pub place-down : (i : ℕ) → from ≤ i → i < from + n → key (f i) < k → i < at
       place-down i p q h =
           let l = length-tabulate f from n in
-          let b = below-down key d (tabulate from n f) r k (i - from) (omega arith) (rw (in-run i p q) h) in
+          let b = below-down key d (tabulate from n f) r k (i - from) (omega arith) (rw (in-tabulated i p q) h) in
           omega arith
 
       pub place-none : (at < from + n → key (f at) ≡ k → ⊥) → find key (tabulate from n f) k ≡ none
@@ -243,14 +243,14 @@ module _ {A : Type 0} (key : A → ℕ) (d : A) (f : ℕ → A) (from n : ℕ) w
           let l = length-tabulate f from n in
           let b : at - from ≡ below key (tabulate from n f) k = omega arith in
           let g : at < from + n = omega arith in
-          h g (sym (ap key (rw b at (in-run at (omega arith) g))) ∙ q))
+          h g (sym (ap key (rw b at (in-tabulated at (omega arith) g))) ∙ q))
 
   -- Where keys rise, the thing of the key k is found at any place.
   pub place-hit : Rises key d (tabulate from n f) → (k i : ℕ) → from ≤ i → i < from + n → key (f i) ≡ k → find key (tabulate from n f) k ≡ some (f i)
   place-hit r k i p q h =
       let l = length-tabulate f from n in
-      let g = in-run i p q in
+      let g = in-tabulated i p q in
       find-rising key d (tabulate from n f) r k (i - from) (omega arith) (ap key g ∙ h) ∙ ap some g
 
-  pub find-run : (k : ℕ) → find key (tabulate from n f) k ≡ Option·map f (find (λ i. key (f i)) (tabulate from n itself) k)
-  find-run k = ap (λ (xs : List A). find key xs k) (sym (map-tabulate f itself from n)) ∙ find-map key f (tabulate from n itself) k
+  pub find-tabulated : (k : ℕ) → find key (tabulate from n f) k ≡ Option·map f (find (λ i. key (f i)) (tabulate from n itself) k)
+  find-tabulated k = ap (λ (xs : List A). find key xs k) (sym (map-tabulate f itself from n)) ∙ find-map key f (tabulate from n itself) k

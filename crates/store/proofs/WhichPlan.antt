@@ -10,24 +10,17 @@ use Rattle.plan.specs.PlanRules.{PlanRules}
 use Rattle.plan.specs.PlanArrays.{Grid, RowsOf, capacitiesRow, countsRow, gridOf}
 use Rattle.plan_table.specs.PlanTable.{planNumbered, plans}
 use Rattle.plan_table.proofs.TableLaws.{table-rules}
-use Rattle.store.specs.declared.Slot.{Slot}
 use Rattle.store.specs.declared.Store.{Store}
 use Rattle.store.specs.State.{State}
 use Rattle.store.specs.Layout.{planOf, storeOf}
 use Rattle.store.specs.StoreRules.{planNumberTest}
-use Rattle.store.specs.Workers.{ofParts}
 
 -- It is that of the store's number,
 pub plan-numbered : (z : Store) → planOf z ≡ planNumbered (z .plan)
 unfolding planOf
 plan-numbered z = refl
 
--- whatever the other parts are,
-pub plan-of-parts : (plan clock : ℕ) (counts keys kinds values stamps : List ℕ) (slots : List Slot)
-    → planOf (ofParts plan clock counts keys kinds values stamps slots) ≡ planNumbered plan
-plan-of-parts plan clock counts keys kinds values stamps slots = plan-numbered (ofParts plan clock counts keys kinds values stamps slots)
-
--- and whatever the state is.
+-- whatever the state is.
 pub plan-back : (plan : ℕ) (s : State) → planOf (storeOf plan s) ≡ planNumbered plan
 unfolding storeOf
 plan-back plan s = plan-numbered (storeOf plan s)

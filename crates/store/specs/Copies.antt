@@ -37,8 +37,7 @@ kindNumber result = RESULT
 
 -- What an entry of this kind holds where a value is given: "a withdrawn copy holds 0".
 abbrev pub valueHeld : Kind → ℕ → ℕ
-valueHeld withdrawn v = 0
-valueHeld result v = v
+valueHeld kind v = cond (hasValue (kindNumber kind)) v 0
 
 -- "A copy has a key, a kind (0 withdrawn, 1 result), a value .. and a stamp."
 abbrev pub copy : ℕ → ℕ → ℕ → ℕ → Copy

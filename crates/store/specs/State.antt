@@ -32,9 +32,17 @@ nodeAt s n = getD (s .nodes) n []
 abbrev pub copyAt : State → ℕ → ℕ → Copy
 copyAt s n i = getD (nodeAt s n) i noCopy
 
+-- A slot's mark: no search runs in it,
+abbrev pub idleMark : ℕ
+idleMark = 0
+
+-- or one runs.
+abbrev pub runningMark : ℕ
+runningMark = 1
+
 -- An idle slot is all zero.
 abbrev pub idle : Slot
-idle = record { running = 0; key = 0; node = 0; visits = 0 }
+idle = record { running = idleMark; key = 0; node = 0; visits = 0 }
 
 -- A slot by its number.
 abbrev pub slotAt : State → ℕ → Slot

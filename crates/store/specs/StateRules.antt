@@ -7,7 +7,7 @@ use lib.ListN.{length, getD}
 use Rattle.plan.specs.Plan.{Plan, size, capacityOf, path}
 use Rattle.store.specs.declared.Copy.{Copy}
 use Rattle.store.specs.Copies.{lastKind, hasValue}
-use Rattle.store.specs.State.{State, nodeAt, copyAt, slotAt, idle, lastClock, slotCount}
+use Rattle.store.specs.State.{State, nodeAt, copyAt, slotAt, idleMark, runningMark, idle, lastClock, slotCount}
 
 -- Node n holds a copy at place i.
 abbrev pub HeldAt : State → ℕ → ℕ → Type 0
@@ -45,10 +45,10 @@ pub record StateRules (p : Plan) (s : State) : Type 0 where
   pub stamps-fall-down-a-path :
       (n i m j : ℕ) → HeldAt s n i → HeldAt s m j → copyAt s n i .key ≡ copyAt s m j .key → n < m → copyAt s m j .stamp < copyAt s n i .stamp
   -- "8 search slots"
-  pub slots-within : length (s .slots) ≡ slotCount
+  pub slots-long : length (s .slots) ≡ slotCount
   -- "idle slots all zero"
-  pub idle-slots-all-zero : (i : ℕ) → i < slotCount → slotAt s i .running ≡ 0 → slotAt s i ≡ idle
+  pub idle-slots-all-zero : (i : ℕ) → i < slotCount → slotAt s i .running ≡ idleMark → slotAt s i ≡ idle
   -- "a running search stands on its key's path, its visits equal to the path nodes above it"
   pub running-searches-on-their-paths :
-      (i : ℕ) → i < slotCount → (slotAt s i .running ≡ 0 → ⊥)
-      → (slotAt s i .running ≡ 1) × OnPath p (slotAt s i .key) (slotAt s i .node) (slotAt s i .visits)
+      (i : ℕ) → i < slotCount → (slotAt s i .running ≡ idleMark → ⊥)
+      → (slotAt s i .running ≡ runningMark) × OnPath p (slotAt s i .key) (slotAt s i .node) (slotAt s i .visits)

@@ -14,7 +14,7 @@ use Rattle.store.specs.declared.Copy.{Copy}
 use Rattle.store.specs.declared.Slot.{Slot}
 use Rattle.store.specs.declared.Store.{Store}
 use Rattle.store.specs.Copies.{lastKind, hasValue, noCopy, stampOf, member, different}
-use Rattle.store.specs.State.{State, lastClock, slotCount, idle, inReach}
+use Rattle.store.specs.State.{State, lastClock, slotCount, idleMark, runningMark, idle, inReach}
 use Rattle.store.specs.StateRules.{StateRules}
 use Rattle.store.specs.Layout.{planOf, width, places, copyOf, countOf, stateOf, Shape}
 
@@ -90,9 +90,9 @@ standsAt n (m ∷ ms) (suc above) = standsAt n ms above
 -- An idle slot all zero, or a search at the node of its key's path that its visits say.
 unfoldable pub slotTest : Plan → Slot → Bool
 slotTest p q =
-    cond (eqb (q .running) 0)
+    cond (eqb (q .running) idleMark)
     (eqb (q .key) 0 && eqb (q .node) 0 && eqb (q .visits) 0)
-    (eqb (q .running) 1 && standsAt (q .node) (path p (q .key)) (q .visits))
+    (eqb (q .running) runningMark && standsAt (q .node) (path p (q .key)) (q .visits))
 
 -- The store rules as one test.
 unfoldable pub goodStore : Store → Bool

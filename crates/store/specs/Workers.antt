@@ -48,9 +48,21 @@ Rises key none xs = (i : ℕ) → suc i < length xs → key (getD xs i none) < k
 abbrev pub RisesIn : List ℕ → ℕ → ℕ → Type 0
 RisesIn keys from end = (i : ℕ) → from ≤ i → suc i < end → numberIn keys i < numberIn keys (suc i)
 
--- A node in which a look can go by halves: it has room for its copies, and their keys rise.
+-- Node n has places for as many copies as a list says of it: its count, or its capacity.
+abbrev pub HasPlaces : List ℕ → ℕ → Type 0
+HasPlaces list n = numberIn list n ≤ width
+
+-- All nodes have.
+abbrev pub WithinPlaces : List ℕ → Type 0
+WithinPlaces list = (n : ℕ) → n < mostNodes → HasPlaces list n
+
+-- The same of a lent list, and there are no more nodes than a store has.
+abbrev pub LentWithinPlaces : ℕ → RefT (List ℕ) → Type 0
+LentWithinPlaces nodes list = (nodes ≤ mostNodes) × WithinPlaces (list .now)
+
+-- A node in which a look can go by halves: it has places for its copies, and their keys rise.
 pub record Ordered (counts keys : List ℕ) (n : ℕ) : Type 0 where
-  pub fits : getD counts n 0 ≤ width
+  pub fits : HasPlaces counts n
   pub rises : RisesIn keys (width * n) (width * n + getD counts n 0)
 
 -- All nodes are such.
@@ -69,10 +81,6 @@ pub record Sized (counts keys kinds values stamps : List ℕ) : Type 0 where
 abbrev pub ofParts : ℕ → ℕ → List ℕ → List ℕ → List ℕ → List ℕ → List ℕ → List Slot → Store
 ofParts plan clock counts keys kinds values stamps slots =
     record { plan = plan; clock = clock; counts = counts; keys = keys; kinds = kinds; values = values; stamps = stamps; slots = slots }
-
--- The same for a look: it reads no searches, so there are none.
-abbrev pub holding : ℕ → ℕ → List ℕ → List ℕ → List ℕ → List ℕ → List ℕ → Store
-holding plan clock counts keys kinds values stamps = ofParts plan clock counts keys kinds values stamps []
 
 -- The store whose columns are lent.
 abbrev pub lentStore : ℕ → ℕ → RefT (List ℕ) → RefT (List ℕ) → RefT (List ℕ) → RefT (List ℕ) → RefT (List ℕ) → List Slot → Store

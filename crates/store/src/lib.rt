@@ -19,7 +19,7 @@ pub struct Copy {
     pub stamp: u32,
 }
 
-// A search slot: 1 if a search runs in it, its key, the node that it stands at, and the nodes visited. An idle slot is all zero.
+// A search slot: whether a search runs in it, its key, the node that it stands at, and the nodes visited. An idle slot is all zero.
 #[repr(C)]
 pub struct Slot {
     pub running: u32,
@@ -64,11 +64,23 @@ pub enum Found {
     Nothing,
 }
 
-// A slot's running mark.
+// A slot's running mark, and the idle slot.
 impl Slot {
     pub const IDLE: u32 = 0;
 
     pub const RUNNING: u32 = 1;
+
+    // "all slots idle": an idle slot is all zero.
+    pub fn idle() -> Slot
+        ensures { λ r. ⌜ r ≡ idle ⌝ }
+    {
+        Slot {
+            running: Slot::IDLE,
+            key: 0,
+            node: 0,
+            visits: 0,
+        }
+    }
 }
 
 // The kinds of copies, the largest of them, and which have a value.
@@ -84,20 +96,6 @@ impl Copy {
         ensures { λ r. ⌜ r ≡ hasValue kind ⌝ }
     {
         kind == Copy::RESULT
-    }
-}
-
-impl Slot {
-    // "all slots idle": an idle slot is all zero.
-    pub fn idle() -> Slot
-        ensures { λ r. ⌜ r ≡ idle ⌝ }
-    {
-        Slot {
-            running: 0,
-            key: 0,
-            node: 0,
-            visits: 0,
-        }
     }
 }
 
@@ -166,18 +164,6 @@ impl Answer {
             b: b,
             c: c,
             d: d,
-        }
-    }
-}
-
-impl Outcome {
-    // A refusal: its number, and the store as it was.
-    pub fn refused(number: u32, store: Store) -> Outcome
-        ensures { λ r. ⌜ r ≡ record { answer = bare number; store = store } ⌝ }
-    {
-        Outcome {
-            answer: Answer::bare(number),
-            store: store,
         }
     }
 }

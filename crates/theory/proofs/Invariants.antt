@@ -151,18 +151,13 @@ unfolding held fresh
 held-fresh p = flatten-empty (size p)
 
 module _ (p : Plan) (rules : PlanRules p) where
-  -- The history after one sequence and another, and so it only grows.
+  -- The history after one sequence and another.
   pub entered-append : (es fs : List Event) (s : State) → enteredCopies p (es ++ fs) s ≡ enteredCopies p es s ++ enteredCopies p fs (stateAfterAll p es s)
   unfolding enteredCopies stateAfterAll
   entered-append [] fs s = refl
   entered-append (e ∷ es) fs s =
       ap (λ (xs : List Copy). optionList (entryOf p e s) ++ xs) (entered-append es fs (after p e s))
       ∙ sym (append-assoc (optionList (entryOf p e s)) (enteredCopies p es (after p e s)) (enteredCopies p fs (stateAfterAll p es (after p e s))))
-
-  pub history-grows : (es fs : List Event) (s : State) (x : Copy) → List·Memᴰ x (held s ++ enteredCopies p es s) → List·Memᴰ x (held s ++ enteredCopies p (es ++ fs) s)
-  history-grows es fs s x m =
-      rw (entered-append es fs s, ← (append-assoc (held s) (enteredCopies p es s) (enteredCopies p fs (stateAfterAll p es s))))
-      (Memᴰ·append-left (enteredCopies p fs (stateAfterAll p es s)) m)
 
   module _ (s : State) (good : StateRules p s) where
     -- The copies that a state holds are those of its lines,

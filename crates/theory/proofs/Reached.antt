@@ -21,7 +21,7 @@ use Rattle.plan.proofs.NextLaws.{not-both-hops, one-target, next-in-plan, root-
 use Rattle.plan.proofs.PathLaws.{path-is}
 use Rattle.store.specs.declared.Copy.{Copy}
 use Rattle.store.specs.Answers.{DONE, answer}
-use Rattle.store.specs.Copies.{RESULT, copy, keyOf, find}
+use Rattle.store.specs.Copies.{RESULT, valueHeld, copy, keyOf, find}
 use Rattle.store.specs.Copies.Kind.{result}
 use Rattle.store.specs.State.{State, lastClock, nodeAt, line, fresh}
 use Rattle.store.specs.StateRules.{StateRules}
@@ -118,7 +118,11 @@ module _ (p : Plan) (rules : PlanRules p) (k : ℕ) where
     counts-entered : bit (ofLine k (entryOf p e s)) ≡ joins
     clock : after p e s .clock ≡ ticks + s .clock
 
-  enters-alone : (s : State) → Ready s → (v : ℕ) → s .clock < lastClock → Leads 0 (copy k RESULT v (s .clock)) s (enters result k v) 0 1 1
+  -- The copy of an entered result.
+  abbrev resultOf : ℕ → State → Copy
+  resultOf v s = copy k RESULT (valueHeld result v) (s .clock)
+
+  enters-alone : (s : State) → Ready s → (v : ℕ) → s .clock < lastClock → Leads 0 (resultOf v s) s (enters result k v) 0 1 1
   unfolding effect entryOf carriesLine
   enters-alone s r v h =
       record {
@@ -138,12 +142,12 @@ module _ (p : Plan) (rules : PlanRules p) (k : ℕ) where
       }
     where
       x : Copy
-      x = copy k RESULT v (s .clock)
+      x = resultOf v s
 
       root : 0 < length (s .nodes)
       root = omega (arith, r .good .a-list-for-each-node, rules .nodes-within)
 
-      was : entry RESULT k v p s ≡ record { answer = answer DONE (s .clock) 0 0 0; after = entered x s }
+      was : entry RESULT k (valueHeld result v) p s ≡ record { answer = answer DONE (s .clock) 0 0 0; after = entered x s }
       was =
           unfold entry in
           rw (
@@ -256,7 +260,7 @@ module _ (p : Plan) (rules : PlanRules p) (k : ℕ) where
       let b = enters-alone s y v (omega arith) in
       let s₁ : State = after p (enters result k v) s in
       let downward : List Event = carriesDown p k (path p k) in
-      let d = carries-down (path-is p rules k 0 (root-in-plan p rules)) s₁ (b .ready) (copy k RESULT v (s .clock)) refl (b .stands) in
+      let d = carries-down (path-is p rules k 0 (root-in-plan p rules)) s₁ (b .ready) (resultOf v s) refl (b .stands) in
       let f = all-rounds v r (stateAfterAll p downward s₁) (d .ready) (omega (arith, b .clock, d .clock)) in
       record {
         ready = subst Ready (sym (after-all-append p downward (rounds p k v r) s₁)) (f .ready);

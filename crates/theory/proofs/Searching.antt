@@ -24,7 +24,7 @@ use Rattle.store.specs.declared.Copy.{Copy}
 use Rattle.store.specs.declared.Slot.{Slot}
 use Rattle.store.specs.Answers.{DONE, GOING, SLOTS, answer}
 use Rattle.store.specs.Copies.{kindNumber, valueHeld, stampOf}
-use Rattle.store.specs.State.{State, slotAt, slotCount, idle, line, orElse, inReach, current}
+use Rattle.store.specs.State.{State, slotAt, slotCount, idle, line, orElse, inReach, current, idleMark}
 use Rattle.store.specs.StateRules.{OnPath, StateRules}
 use Rattle.store.specs.Calls.{Effect}
 use Rattle.store.proofs.RulingLines.{reach-ends, reach-goes}
@@ -44,7 +44,7 @@ use Rattle.theory.proofs.EventSteps.{event-keeps}
 use Rattle.theory.proofs.Invariants.{reach-increases}
 
 -- A slot that runs is one of the slots.
-pub slot-there : (s : State) (i : ℕ) → slotAt s i .running ≢ 0 → i < length (s .slots)
+pub slot-there : (s : State) (i : ℕ) → slotAt s i .running ≢ idleMark → i < length (s .slots)
 slot-there s i r = go (decLt i (length (s .slots)))
   where
     go : Dec (i < length (s .slots)) → i < length (s .slots)
@@ -69,10 +69,10 @@ other-running Done s i j f (slot-idle h g) = refl
 other-running Done s i j f (slot-runs {e = o} h g d) = f o d
 
 module _ (p : Plan) (s : State) (i : ℕ) where
-  other-started : {o : Effect} {k : ℕ} → slotAt s i .running ≢ 0 → StartWay k s o → slotAt (o .after) i ≡ slotAt s i
+  other-started : {o : Effect} {k : ℕ} → slotAt s i .running ≢ idleMark → StartWay k s o → slotAt (o .after) i ≡ slotAt s i
   other-started r (all-running h) = refl
   other-started {k = k} r (taken j h f g) =
-      slot-other j (running k 0 0) s i (λ (q : i ≡ j). r (subst (λ (l : ℕ). slotAt s l .running ≡ 0) (sym q) f))
+      slot-other j (running k 0 0) s i (λ (q : i ≡ j). r (subst (λ (l : ℕ). slotAt s l .running ≡ idleMark) (sym q) f))
 
   other-stepped : (j : ℕ) → i ≢ j → slotAt (after p (steps j) s) i ≡ slotAt s i
   unfolding effect
@@ -91,7 +91,7 @@ module _ (p : Plan) (s : State) (i : ℕ) where
       go freed = slot-other j idle s i h
 
   -- An event that is no step of the search's own and does not cancel it leaves its slot.
-  slot-stays : (e : Event) → isOwnStep i e ≡ false → cancelsSlot i e ≡ false → slotAt s i .running ≢ 0
+  slot-stays : (e : Event) → isOwnStep i e ≡ false → cancelsSlot i e ≡ false → slotAt s i .running ≢ idleMark
       → slotAt (after p e s) i ≡ slotAt s i
   unfolding effect isOwnStep cancelsSlot
   slot-stays (enters kind k v) a b r = ap (λ (qs : List Slot). getD qs i idle) (entry-slots (kindNumber kind) k (valueHeld kind v) p s)
@@ -147,13 +147,13 @@ ended-done (some x) v = refl
 
 module _ (p : Plan) (rules : PlanRules p) (k t₀ i : ℕ) where
   module _ (s : State) (good : StateRules p s) where
-    runs : (v : ℕ) → Searches p k t₀ i v s → slotAt s i .running ≢ 0
+    runs : (v : ℕ) → Searches p k t₀ i v s → slotAt s i .running ≢ idleMark
     runs v r z = let one = ap (λ (q : Slot). q .running) (r .at) in omega arith
 
     -- A running search stands on its key's path, its visits equal to the path nodes above it,
     pub stands : (v : ℕ) → (r : Searches p k t₀ i v s) → OnPath p k (r .node) v
     stands v r =
-        let there : i < slotCount = omega (arith, slot-there s i (runs v r), good .slots-within) in
+        let there : i < slotCount = omega (arith, slot-there s i (runs v r), good .slots-long) in
         rw (r .at) at (good .running-searches-on-their-paths i there (runs v r) .1)
 
     -- so it has made fewer steps than the path has nodes.

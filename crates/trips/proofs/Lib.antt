@@ -1,4 +1,3 @@
 pub mod ImageParts
 pub mod ImageReads
-pub mod ImageBytes
 pub mod RoundTrips

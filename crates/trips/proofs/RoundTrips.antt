@@ -57,7 +57,7 @@ idle-rules r =
       stamps-below-the-clock = r .stamps-below-the-clock;
       stamps-all-different = r .stamps-all-different;
       stamps-fall-down-a-path = r .stamps-fall-down-a-path;
-      slots-within = length-replicate slotCount idle;
+      slots-long = length-replicate slotCount idle;
       idle-slots-all-zero = λ i h e. getD-same slotCount i idle;
       running-searches-on-their-paths = λ i h runs. absurd (runs (ap (λ (q : Slot). q .running) (getD-same slotCount i idle)));
     }
@@ -205,11 +205,3 @@ load-all-idle s = go (load-way s)
     go (trails r) = rw r (fresh-idle 1 .all-idle)
     go (breaks r) = rw r (fresh-idle 1 .all-idle)
     go (accepts {z} {end} e h g r) = rw r (reads-idle s .each z end e)
-
--- No accepted image is the beginning of another.
-pub accepted-apart : (s : List ℕ) → Bytes s → loadOutcome s .answer .number ≡ DONE → (rest : List ℕ) → Bytes (s ++ rest)
-    → loadOutcome (s ++ rest) .answer .number ≡ DONE → rest ≡ []
-accepted-apart s bytes done rest all accepted =
-    images-apart (loadOutcome s .store) (loadOutcome (s ++ rest) .store) (load-good s) (load-idle s bytes .declared) (load-good (s ++ rest))
-    (load-idle (s ++ rest) all .declared) rest
-    (ap (λ (l : List ℕ). l ++ rest) (loaded-saves s bytes done) ∙ sym (loaded-saves (s ++ rest) all accepted))

@@ -9,25 +9,16 @@ use Rattle.store.specs.Answers.{DONE, answer}
 use Rattle.store.specs.State.{slotCount, idle}
 use Rattle.copies.specs.CopyBytes.{lastValue}
 use Rattle.image_loading.specs.Loading.{copiesHeld}
+use Rattle.image_loading.specs.Workers.{idleStore}
 
 -- A store of the declared type: its keys and values have 32 bits. (Its other numbers have them by the store rules.)
 pub record Declared (z : Store) : Type 0 where
   pub keys-fit : (i : ℕ) → getD (z .keys) i 0 ≤ lastKey
   pub values-fit : (i : ℕ) → getD (z .values) i 0 ≤ lastValue
 
--- A store with all slots idle.
+-- A store as it is, but with all slots idle.
 unfoldable pub idled : Store → Store
-idled z =
-    record {
-      plan = z .plan;
-      clock = z .clock;
-      counts = z .counts;
-      keys = z .keys;
-      kinds = z .kinds;
-      values = z .values;
-      stamps = z .stamps;
-      slots = replicate slotCount idle;
-    }
+idled z = idleStore (z .plan) (z .clock) (z .counts) (z .keys) (z .kinds) (z .values) (z .stamps)
 
 -- "loading a saved store gives it with all slots idle": DONE with the copies held, and the store.
 abbrev pub loadedAsItself : Store → Outcome

@@ -1,4 +1,3 @@
 pub mod Chains
 pub mod Buffers
-pub mod ByteStrings
 pub mod Parts

@@ -6,7 +6,7 @@ use borrow.Author.Tests.{not-true, not-false}
 use Rattle.store.specs.declared.Store.{Store}
 use Rattle.store.specs.StoreRules.{goodStore}
 use Rattle.store.specs.Workers.{ofParts}
-use Rattle.image_writing.proofs.ImageLengths.{good-within}
+use Rattle.store.proofs.GoodNodes.{counts-fit}
 use Rattle.image.proofs.SaveWays.{save-bad, good-nodes, save-small, save-done}
 use borrow.Author.Needs.{needs}
 use Rattle.image.proofs.save_lent.Statement.{statement}
@@ -46,7 +46,7 @@ image-length-requires : tie.Need-image-length-requires
 image-length-requires c κs =
     let test = c .before in
     let z = asked (test .before) in
-    (good-nodes z (good test) (c .nodes .ensures), good-within z (good test))
+    (good-nodes z (good test) (c .nodes .ensures), counts-fit z (good test))
 
 of-requires : tie.Need-of-requires
 of-requires c κs = search needs
@@ -66,7 +66,7 @@ write-image-requires c κs =
     let test = nodes .before in
     let z = asked (test .before) in
     let fits = c .before .if2 .left in
-    ((good-nodes z (good test) (nodes .nodes .ensures), good-within z (good test)), omega (arith, length .image-length .ensures))
+    ((good-nodes z (good test) (nodes .nodes .ensures), counts-fit z (good test)), omega (arith, length .image-length .ensures))
 
 of-requires-2 : tie.Need-of-requires-2
 of-requires-2 c κs = search needs

@@ -31,14 +31,14 @@ cast-sum : tie.Need-cast-sum Inv-loop μ-loop
 cast-sum c =
     let l = c .before .before in
     let start = l .before in
-    let w = start .pre .1 (l .loop .n) in
+    let w = start .pre .1 (l .loop .n) (omega arith) in
     search needs
 
 add-sum : tie.Need-add-sum Inv-loop μ-loop
 add-sum c =
     let l = c .before .before in
     let start = l .before in
-    let w = start .pre .1 (l .loop .n) in
+    let w = start .pre .1 (l .loop .n) (omega arith) in
     search needs
 
 add-n : tie.Need-add-n Inv-loop μ-loop
@@ -51,7 +51,7 @@ loop-again : tie.Need-loop-again Inv-loop μ-loop
 loop-again c =
     let l = c .before .before in
     let start = l .before in
-    let w = start .pre .1 (l .loop .n) in
+    let w = start .pre .1 (l .loop .n) (omega arith) in
     (search needs, omega arith, held-turn (start .args .counts .now) (l .loop .n) (l .loop .sum) (l .loop .inv .2) (let long = start .pre .0 in let more = c .before .loop-test .taken in omega arith))
 
 returns : tie.Need-returns Inv-loop μ-loop

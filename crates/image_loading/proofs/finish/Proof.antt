@@ -7,7 +7,7 @@ use Rattle.store.specs.StoreRules.{goodStore}
 use Rattle.store.proofs.Ruling.{good-rules}
 use Rattle.wire.specs.Reading.{got}
 use Rattle.image_loading.specs.Workers.{idleStore}
-use Rattle.image_writing.proofs.ImageLengths.{good-within}
+use Rattle.store.proofs.GoodNodes.{counts-fit}
 use Rattle.image_loading.proofs.LoadEnds.{finish-trails, finish-breaks, good-idle, finish-done}
 use borrow.Author.Needs.{needs}
 use Rattle.image_loading.proofs.finish.Statement.{statement}
@@ -58,7 +58,7 @@ returns-2 c =
 copies-held-requires : tie.Need-copies-held-requires
 copies-held-requires c κs =
     let z = asked (first (c .before .before)) in
-    (good-rules z (good (c .before)) .shape .counts-long, good-within z (good (c .before)))
+    (good-rules z (good (c .before)) .shape .counts-long, counts-fit z (good (c .before)))
 
 of-requires : tie.Need-of-requires
 of-requires c κs = search needs

@@ -8,6 +8,7 @@ use Rattle.plan.specs.PlanArrays.{capacitiesRow}
 use Rattle.plan.specs.Sizes.{mostNodes}
 use Rattle.store.specs.Layout.{width}
 use Rattle.image_reading.specs.Workers.{columns}
+use Rattle.store.proofs.Widths.{at-fits}
 use Rattle.image_reading.proofs.NodeWays.{capacity-here, Sofar, sofar-none, sofar-end, sofar-stops, sofar-turn}
 use borrow.Author.Needs.{needs}
 use Rattle.image_reading.proofs.read_nodes.Statement.{statement}
@@ -41,7 +42,7 @@ read-node-requires c κs =
     let start = l .before .before in
     let few = start .pre .0 .0 in
     let more = test .loop-test .taken in
-    (omega arith, omega (arith, row .capacity-in .ensures, start .pre .0 .1 (l .loop .n)))
+    (omega arith, omega (arith, row .capacity-in .ensures, at-fits (start .args .capacities .now) (start .pre .0 .1) (l .loop .n)))
 
 returns : tie.Need-returns Inv-loop μ-loop
 returns c =
@@ -85,7 +86,8 @@ loop-again c =
     let start = l .before .before in
     let few = start .pre .0 .0 in
     let more = test .loop-test .taken in
-    let room : row .capacity-in .result ≤ width = omega (arith, row .capacity-in .ensures, start .pre .0 .1 (l .loop .n)) in (
+    let room : row .capacity-in .result ≤ width =
+    omega (arith, row .capacity-in .ensures, at-fits (start .args .capacities .now) (start .pre .0 .1) (l .loop .n)) in (
       search needs,
       λ p size-is row-is.
           sofar-turn (l .loop .inv .1 p size-is row-is) (omega arith)

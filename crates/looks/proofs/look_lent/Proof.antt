@@ -1,15 +1,17 @@
 -- `looks::look_lent` meets its contract. Assumes nothing.
-use mathlib.Core.Path.{_≡_, sym, _∙_}
+use mathlib.Core.Path.{_≡_, refl, sym, _∙_}
 use mathlib.Core.Bool.{true, false}
 use borrow.Author.Tests.{not-true, not-false}
 use Rattle.plan.specs.Plan.{size}
 use Rattle.plan.specs.PlanArrays.{RowsOf}
+use Rattle.plan.proofs.RowsLent.{own-count}
 use Rattle.store.specs.declared.Store.{Store}
 use Rattle.store.specs.StoreRules.{goodStore}
 use Rattle.store.specs.Layout.{planOf}
 use Rattle.store.specs.Workers.{ofParts}
+use Rattle.store.proofs.WhichPlan.{rows-known}
+use Rattle.store.proofs.Lifting.{plan-good}
 use Rattle.store.proofs.GoodNodes.{good-lookable}
-use Rattle.looks.proofs.Rows.{good-rows}
 use Rattle.looks.proofs.Descending.{look-lent, look-refused}
 use borrow.Author.Needs.{needs}
 use Rattle.looks.proofs.look_lent.Statement.{statement}
@@ -34,8 +36,10 @@ rows-here : (c : tie.After-targets-of) → let e = c .before .before .before .be
     (c .before .before .before .edge-counts-of .result) (c .before .before .lowest-of .result) (c .before .highest-of .result) (c .targets-of .result)
 rows-here c =
     let e = c .before .before .before .before in
-    good-rows (asked (e .before .before)) (good-here e) _ _ _ _
-    (c .before .before .before .edge-counts-of .ensures) (c .before .before .lowest-of .ensures) (c .before .highest-of .ensures) (c .targets-of .ensures)
+    let z = asked (e .before .before) in
+    own-count
+    (rows-known z (plan-good z (good-here e)) _ _ _ _ _ refl (c .before .before .before .edge-counts-of .ensures)
+    (c .before .before .lowest-of .ensures) (c .before .highest-of .ensures) (c .targets-of .ensures))
 
 good-requires : tie.Need-good-requires
 good-requires c κs = search needs

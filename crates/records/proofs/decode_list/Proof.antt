@@ -47,6 +47,7 @@ use denote.Triple.Walked.{says, Stays, stay-none, stay-none-slice, walkOf, goes-
 use denote.Exit.{yes}
 use denote.Triple.Clauses.{ensured, lasts}
 use borrow.Rule.Slice.Shared.{parts-cells}
+use Rattle.schedule.specs.Schedule.{mostSteps}
 use Rattle.schedule.specs.Promises.{Decodes}
 use Rattle.schedule.specs.declared.Step.{Step}
 use Rattle.store.specs.declared.Answer.{Answer}
@@ -67,13 +68,13 @@ use Rattle.records.proofs.decode_list.Statement as stated
 use Rattle.records.proofs.decode_list.Code as code
 
 abbrev RA : RattleType
-RA = Array T.the-row 256
+RA = Array T.the-row mostSteps
 
 abbrev vals : List Step → List Val
 vals = array-vals (LL.vals T.the-type T′.the-laws)
 
 abbrev arrTy : Ty
-arrTy = tyArray T′.mir 256
+arrTy = tyArray T′.mir mostSteps
 
 abbrev sliceMir : Ty
 sliceMir = sliceTy (tyRef erased mut (pointee (T.the-row .written)))
@@ -150,7 +151,7 @@ module _ {M : Type 1} (𝓤 : URA M) (H : Heap 𝓤) (A : Atoms 𝓤) (W : Given
       qed W (‵ (flft κ q) ∷ ‵ Own ∷ []) ∵
       suffices ! _ (ends-at 𝓤 H A f.ended stayed (f.clauses 𝓤 H A mem run) W (((κ, tt), (q, tt), tt, x, at), tt) (ml r (map mt zs)) (listed r zs) (tt, (tt, tt)) (tt, (tt, tt))) $ says ! e $
       nothing ! $ move ! (1 ∷ 0 ∷ []) $ join ! $ frame ! $
-      nothing ! $ owned ! RA (Is RA) (array-makes 𝓤 H A W T.the-row (LL.makes T.the-type T′.the-plain 𝓤 H A) 256) ls _ ia $ fjoin ! $ move ! (1 ∷ 0 ∷ []) $ fjoin ! $
+      nothing ! $ owned ! RA (Is RA) (array-makes 𝓤 H A W T.the-row (LL.makes T.the-type T′.the-plain 𝓤 H A) mostSteps) ls _ ia $ fjoin ! $ move ! (1 ∷ 0 ∷ []) $ fjoin ! $
       owned ! L.the-row (Is L.the-row) (LL.makes L.the-type L′.the-plain 𝓤 H A) (listed r zs) _ il $ move ! (1 ∷ 0 ∷ []) $ done !
 
   -- the call of `decode`
@@ -180,9 +181,9 @@ module _ {M : Type 1} (𝓤 : URA M) (H : Heap 𝓤) (A : Atoms 𝓤) (W : Given
     walk : Room u8 (length (bs .now)) → Is RA ls (va ls ∷ []) → ent 𝓤 (onEntry 𝓤 H A f.signature (κ, tt) (q, tt) x at) (WpFn 𝓤 H C Λ code.function (vb ∷ va ls ∷ []) Post)
     unfolding partOf
     walk gb ia =
-        let long : length ls ≡ 256 = ia .1 .0 .1 in
+        let long : length ls ≡ mostSteps = ia .1 .0 .1 in
         let room : Room T.the-row (length ls) = subst (Room T.the-row) (sym long) (lit< tt, lit< tt) in
-        let lawful = array-lawful 𝓤 H A W T.the-row (LL.lawful T.the-type T′.the-laws 𝓤 H A W) 256 in
+        let lawful = array-lawful 𝓤 H A W T.the-row (LL.lawful T.the-type T′.the-laws 𝓤 H A W) mostSteps in
         qed W ((‵ (flft κ q) ⊛ ‵ ftrue) ∷ ‵ (owns (ShrSlice (named 0) κ u8 ∷ RA ∷ []) x at) ∷ []) ∵ enter ! C Λ code.function (vb ∷ va ls ∷ []) _ $
         alloc1 ! (λ l₀. alloc1 ! (λ l₁. alloc1 ! (λ l₂. alloc1 ! (λ l₃. alloc1 ! (λ l₄. alloc1 ! (λ l₅. alloc1 ! (λ l₆. alloc1 ! (λ l₇. alloc0 ! $ params1 ! $
         pass1 ! (init ! 12 refl (tt, (tt, (record { fits = gb .0 }, tt)))) $ pass1 ! (init ! 10 refl (lawful .typed ls _ ia .0)) $ pass0 ! $
@@ -192,8 +193,8 @@ module _ {M : Type 1} (𝓤 : URA M) (H : Heap 𝓤) (A : Atoms 𝓤) (W : Given
         rewrite ! 2 (λ (m : ℕ). ‵ (fat fullShare sliceMir l₆ 0 (sliceVal (l₃, 0) m))) (sym long) refl $
         -- the array is its elements, side by side, and they are lent
         move ! (8 ∷ []) $ use1 W (‵ (cellAt fullShare (RA .mir) (va ls ∷ []) l₃ 0)) (W .laws .at-raw fullShare arrTy l₃ 0 (va ls)) $
-        owned ! RA (Is RA) (array-makes 𝓤 H A W T.the-row (LL.makes T.the-type T′.the-plain 𝓤 H A) 256) ls _ ia $ move ! (1 ∷ 0 ∷ []) $ fjoin ! $ fpack ! (List Val) (λ us. fsep (cellAt fullShare (RA .mir) us l₃ 0) (RA .own ls us)) (va ls ∷ []) $
-        use1 W (‵ (arr-parts (shares T.the-row) 256 .part fullShare ls l₃ 0)) (array-apart 𝓤 H A W T.the-row fullShare tt 256 ls l₃ 0) $ fsplit ! $ feqL ! (λ _.
+        owned ! RA (Is RA) (array-makes 𝓤 H A W T.the-row (LL.makes T.the-type T′.the-plain 𝓤 H A) mostSteps) ls _ ia $ move ! (1 ∷ 0 ∷ []) $ fjoin ! $ fpack ! (List Val) (λ us. fsep (cellAt fullShare (RA .mir) us l₃ 0) (RA .own ls us)) (va ls ∷ []) $
+        use1 W (‵ (arr-parts (shares T.the-row) mostSteps .part fullShare ls l₃ 0)) (array-apart 𝓤 H A W T.the-row fullShare tt mostSteps ls l₃ 0) $ fsplit ! $ feqL ! (λ _.
         rewrite ! 0 (λ (G : Fml). ‵ G) (parts-cells T.the-row fullShare ls l₃ 0) refl $
         lft-new ! tt (λ α. move ! (1 ∷ []) $
         use1 W (later (some (λ (γ : GName). ‵ (Mine l₃ α γ) ⊛ ‵ (flent (α ∷ []) (Held T.the-row (length ls) l₃ 0 γ))))) (lends-slice 𝓤 H A W T.the-row (named 1) (α ∷ []) ls l₃ 0 room) $ await ! tt $ pick ! (λ γ. split ! $
@@ -211,8 +212,8 @@ module _ {M : Type 1} (𝓤 : URA M) (H : Heap 𝓤) (A : Atoms 𝓤) (W : Given
         lft-end ! tt $ move ! (0 ∷ 10 ∷ 4 ∷ []) $ use3 W (later (‵ (Arr (memory.mem T.the-row) (length ls) .lies (ws .1 .0) l₃ 0))) (slice-back 𝓤 H A W T.the-row (α ∷ []) γ (ws .1 .0) (length ls) l₃ 0) $ await ! tt $
         rewrite ! 0 (λ (m : ℕ). ‵ (Arr (memory.mem T.the-row) m .lies (ws .1 .0) l₃ 0)) long refl $ fsplit ! $ move ! (1 ∷ []) $
         rewrite ! 0 (λ (G : Fml). ‵ G) (sym (parts-cells T.the-row fullShare (ws .1 .0) l₃ 0)) refl $ move ! (1 ∷ 0 ∷ []) $ fjoin ! $
-        use1 W (‵ (partAt RA fullShare (ws .1 .0) l₃ 0)) (array-whole 𝓤 H A W T.the-row fullShare 256 (ws .1 .0) l₃ 0) $ fpick ! (λ vs. fsplit ! $
-        spelt ! RA (Is RA) (shows 𝓤 H A RA) vals (array-tells T.the-row (LL.vals T.the-type T′.the-laws) (LL.tells T.the-type T′.the-laws) 256) fullShare (ws .1 .0) vs l₃ 0 $
+        use1 W (‵ (partAt RA fullShare (ws .1 .0) l₃ 0)) (array-whole 𝓤 H A W T.the-row fullShare mostSteps (ws .1 .0) l₃ 0) $ fpick ! (λ vs. fsplit ! $
+        spelt ! RA (Is RA) (shows 𝓤 H A RA) vals (array-tells T.the-row (LL.vals T.the-type T′.the-laws) (LL.tells T.the-type T′.the-laws) mostSteps) fullShare (ws .1 .0) vs l₃ 0 $
         use1 W (‵ (fat fullShare arrTy l₃ 0 (va (ws .1 .0)))) (W .laws .raw-at fullShare arrTy l₃ 0 (va (ws .1 .0))) $
         move ! (1 ∷ []) $ peeks ! RA (Is RA) (shows 𝓤 H A RA) (ws .1 .0) (va (ws .1 .0) ∷ []) (λ iz.
         -- [what _3 owns; _3; true; the token of bytes; the answer; true; true; what bytes owns; what list owned; true; _7; …]
@@ -231,7 +232,7 @@ module _ {M : Type 1} (𝓤 : URA M) (H : Heap 𝓤) (A : Atoms 𝓤) (W : Given
 
 module _ {M : Type 1} (𝓤 : URA M) (H : Heap 𝓤) (A : Atoms 𝓤) (W : Given 𝓤 H A) (mem : Memory → SProp 𝓤) (run : Routine → Fun 𝓤) where
   f-walks : (C : Calls 𝓤 H) (Λ : Loops 𝓤 H) → FmC 𝓤 H (W .laws) C → Triple 𝓤 (C #records·decode) (Dc 𝓤 H A mem run) → Walks 𝓤 H A f.ended stayed (WpFn 𝓤 H C Λ code.function) (f.clauses 𝓤 H A mem run)
-  f-walks C Λ fm known = walked 𝓤 H A f.ended stayed (f.clauses 𝓤 H A mem run) (WpFn 𝓤 H C Λ code.function) (λ κs. (slice-vals, (vals, tt))) (λ κs. (shr-slice-tells (named 0) (κs .0) u8, (array-tells T.the-row (LL.vals T.the-type T′.the-laws) (LL.tells T.the-type T′.the-laws) 256, tt)))
+  f-walks C Λ fm known = walked 𝓤 H A f.ended stayed (f.clauses 𝓤 H A mem run) (WpFn 𝓤 H C Λ code.function) (λ κs. (slice-vals, (vals, tt))) (λ κs. (shr-slice-tells (named 0) (κs .0) u8, (array-tells T.the-row (LL.vals T.the-type T′.the-laws) (LL.tells T.the-type T′.the-laws) mostSteps, tt)))
       (λ κs qs bounds a g are. via 𝓤 _ (fst∗ 𝓤 _ (emp 𝓤)) (walk 𝓤 H A W mem run (κs .0) (qs .0) (a .0) (a .1 .0) C Λ fm known (are .0 .0 .1) (are .1 .0)))
 
 f-meets : {M : Type 1} (𝓤 : URA M) (H : Heap 𝓤) (A : Atoms 𝓤) (W : Given 𝓤 H A) (mem : Memory → SProp 𝓤) (run : Routine → Fun 𝓤) (𝓣 : Tables 𝓤 H)

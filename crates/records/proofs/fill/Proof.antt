@@ -48,6 +48,7 @@ use denote.Triple.Table.{entered, cited}
 use denote.Triple.Walked.{says, needs, Stays, stay-slice, stay-none, walkOf, Walks, ends-at, walked, goes-slice, goes-none, walk-meets}
 use denote.Triple.Clauses.{ensured, lasts}
 use denote.Exit.{yes}
+use Rattle.schedule.specs.Schedule.{mostSteps}
 use Rattle.schedule.specs.Running.{noStep}
 use Rattle.records.specs.Filling.{filled}
 use Rattle.records.proofs.FillLaws.{filled-length, filled-more, filled-none}
@@ -110,7 +111,7 @@ module _ {M : Type 1} (𝓤 : URA M) (H : Heap 𝓤) (A : Atoms 𝓤) (W : Given
   abbrev to-one : ℕ → One 𝓤 H A mem run .Ghost
   to-one i = ((tt, tt, tt, (d, (i, tt)), (md ∷ [], (vint w64 i ∷ [], tt))), tt)
 
-  goes-one : (i : ℕ) → Is D.the-row d (md ∷ []) → i < 2 ^ 64 → i < 256 → ent 𝓤 (emp 𝓤) (One 𝓤 H A mem run .pre (to-one i))
+  goes-one : (i : ℕ) → Is D.the-row d (md ∷ []) → i < 2 ^ 64 → i < mostSteps → ent 𝓤 (emp 𝓤) (One 𝓤 H A mem run .pre (to-one i))
   goes-one i is g l =
       qed W [] ∵ says ! l $ nothing ! $ owned ! usize (Is usize) (uint-makes 𝓤 H A W w64) i _ (refl, g) $ fjoin ! $
       owned ! D.the-row (Is D.the-row) (LL.makes D.the-type D′.the-plain 𝓤 H A) d _ is $ fjoin ! $ nothing ! $ frame ! $ done !
@@ -130,7 +131,7 @@ module _ {M : Type 1} (𝓤 : URA M) (H : Heap 𝓤) (A : Atoms 𝓤) (W : Given
       abbrev I : ℕ → List (Item 𝓤)
       I t = Items (n - t)
 
-    walk : Room T.the-row (length ys) → Is D.the-row d (md ∷ []) → n < 2 ^ 64 → (n ≤ 256) × (n ≤ length ys) → ent 𝓤 (onEntry 𝓤 H A f.signature (κ, tt) (q, tt) x at)
+    walk : Room T.the-row (length ys) → Is D.the-row d (md ∷ []) → n < 2 ^ 64 → (n ≤ mostSteps) × (n ≤ length ys) → ent 𝓤 (onEntry 𝓤 H A f.signature (κ, tt) (q, tt) x at)
         (WpFn 𝓤 H (𝓣 .C) (𝓣 .Λ) code.function (sliceVal (b, o) (length ys) ∷ md ∷ vint w64 n ∷ []) Post)
     unfolding afterTurn
     walk gn is g le =
@@ -179,10 +180,10 @@ module _ {M : Type 1} (𝓤 : URA M) (H : Heap 𝓤) (A : Atoms 𝓤) (W : Given
         start : 0 ≡ n - n
         start = omega arith
 
-        times : Room T.the-row (length ys) → (t : ℕ) → n - t < n → (n ≤ 256) × (n ≤ length ys) → (n - t) * 12 < 2 ^ 64
+        times : Room T.the-row (length ys) → (t : ℕ) → n - t < n → (n ≤ mostSteps) × (n ≤ length ys) → (n - t) * 12 < 2 ^ 64
         times gn t small le = omega arith
 
-        inside : (t : ℕ) → n - t < n → (n ≤ 256) × (n ≤ length ys) → n - t < length (filled (d .steps) (n - t) ys)
+        inside : (t : ℕ) → n - t < n → (n ≤ mostSteps) × (n ≤ length ys) → n - t < length (filled (d .steps) (n - t) ys)
         inside t small le = rw (filled-length) (omega arith)
 
         onward : (t : ℕ) → n - t < n → n - t + 1 ≡ n - (n - (n - t + 1))
@@ -191,7 +192,7 @@ module _ {M : Type 1} (𝓤 : URA M) (H : Heap 𝓤) (A : Atoms 𝓤) (W : Given
 module _ {M : Type 1} (𝓤 : URA M) (H : Heap 𝓤) (A : Atoms 𝓤) (W : Given 𝓤 H A) (mem : Memory → SProp 𝓤) (run : Routine → Fun 𝓤) (𝓣 : Tables 𝓤 H) (known : Triple 𝓤 (𝓣 .C #records·step-in) (One 𝓤 H A mem run)) where
   f-walks : Walks 𝓤 H A f.ended stayed (WpFn 𝓤 H (𝓣 .C) (𝓣 .Λ) code.function) (f.clauses 𝓤 H A mem run)
   f-walks = walked 𝓤 H A f.ended stayed (f.clauses 𝓤 H A mem run) (WpFn 𝓤 H (𝓣 .C) (𝓣 .Λ) code.function) (λ κs. (slice-vals, (LL.vals D.the-type D′.the-laws, (uint-vals w64, tt)))) (λ κs. (mut-slice-tells (named 0) (κs .0) T.the-row, (LL.tells D.the-type D′.the-laws, (uint-tells w64, tt))))
-      (λ κs qs bounds a g are. needs 𝓤 ((a .1 .1 .0 ≤ 256) × (a .1 .1 .0 ≤ length (now (a .0)))) _
+      (λ κs qs bounds a g are. needs 𝓤 ((a .1 .1 .0 ≤ mostSteps) × (a .1 .1 .0 ≤ length (now (a .0)))) _
       (walk 𝓤 H A W mem run (κs .0) (qs .0) (a .0 .ptr .0) (a .0 .ptr .1) (a .0 .name) (a .0 .now) (a .1 .0) (a .1 .1 .0) 𝓣 known (are .0 .0 .1) (are .1 .0) (are .1 .1 .0 .1)))
 
   f-meets : Meets 𝓤 H A f.signature (WpFn 𝓤 H (𝓣 .C) (𝓣 .Λ) code.function) (f.spec 𝓤 H A mem run)

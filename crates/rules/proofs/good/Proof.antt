@@ -11,7 +11,7 @@ use Rattle.store.specs.Layout.{planOf}
 use Rattle.store.specs.StoreRules.{planNumberTest}
 use Rattle.store.specs.Workers.{ofParts, AllOrdered}
 use Rattle.store.proofs.WhichPlan.{number-rules, capacities-known, rows-known}
-use Rattle.rules_nodes.proofs.Tidying.{rows-fit}
+use Rattle.store.proofs.Widths.{rows-fit}
 use Rattle.rules.proofs.Judging.{clock-low, clock-in, number-fails, clock-fails, tidy-fails, paths-fail, stamps-decide, tidy-ordered}
 use borrow.Author.Needs.{needs}
 use Rattle.rules.proofs.good.Statement.{statement}

@@ -5,6 +5,7 @@ use native.Mathlib.Omega.{arith}
 use lib.ListN.{getD}
 use borrow.Author.Tests.{not-true, not-false}
 use Rattle.store.specs.Layout.{width}
+use Rattle.store.proofs.Widths.{at-fits}
 use Rattle.rules_nodes.proofs.Tidying.{node-over, node-used, node-unused}
 use borrow.Author.Needs.{needs}
 use Rattle.rules_nodes.proofs.node_tidy.Statement.{statement}
@@ -25,7 +26,7 @@ returns c =
     let a = s .args in
     let n = a .node in
     let cap = c .before .capacity-in .ensures in
-    let fits = s .pre .1 n in
+    let fits = at-fits (a .capacities .now) (s .pre .1) n in
     sym (node-over (a .capacities .now) (a .clock) (a .counts .now) (a .keys .now) (a .kinds .now) (a .values .now) (a .stamps .now) n (omega arith))
 
 mul-from : tie.Need-mul-from
@@ -43,7 +44,7 @@ used-good-requires c κs =
     let a = s .args in
     let n = a .node in
     let cap = c .before .capacity-in .ensures in
-    let fits = s .pre .1 n in
+    let fits = at-fits (a .capacities .now) (s .pre .1) n in
     omega arith
 
 returns-2 : tie.Need-returns-2
@@ -52,7 +53,7 @@ returns-2 c =
     let a = s .args in
     let n = a .node in
     let cap = c .before .before .before .capacity-in .ensures in
-    let fits = s .pre .1 n in
+    let fits = at-fits (a .capacities .now) (s .pre .1) n in
     sym (node-used (a .capacities .now) (a .clock) (a .counts .now) (a .keys .now) (a .kinds .now) (a .values .now) (a .stamps .now) n (width * n) (width * n + getD (a .counts .now) n 0) refl refl (sym (c .before .used-good .ensures) ∙ not-true (c .before .used-good .result) (c .if2 .taken)))
 
 add-unused-good : tie.Need-add-unused-good
@@ -64,7 +65,7 @@ unused-good-requires c κs =
     let a = s .args in
     let n = a .node in
     let cap = c .before .before .before .capacity-in .ensures in
-    let fits = s .pre .1 n in
+    let fits = at-fits (a .capacities .now) (s .pre .1) n in
     let size = s .pre .2 in
     (omega arith, omega arith, (size .keys-long, size .kinds-long, size .values-long, size .stamps-long))
 
@@ -74,7 +75,7 @@ returns-3 c =
     let a = s .args in
     let n = a .node in
     let cap = c .before .before .before .before .capacity-in .ensures in
-    let fits = s .pre .1 n in
+    let fits = at-fits (a .capacities .now) (s .pre .1) n in
     let used = c .before .before .used-good in
     c .unused-good .ensures
     ∙ sym (node-unused (a .capacities .now) (a .clock) (a .counts .now) (a .keys .now) (a .kinds .now) (a .values .now) (a .stamps .now) n (width * n) (width * n + getD (a .counts .now) n 0) refl refl (omega arith) (sym (used .ensures) ∙ not-false (used .result) (c .before .if2 .left)))

@@ -1,8 +1,11 @@
 -- `searches::step_lent` meets its contract. Assumes nothing.
-use mathlib.Core.Path.{sym, _∙_}
+use mathlib.Core.Path.{refl, sym, _∙_}
 use mathlib.Core.Logic.{⊎-elim}
+use Rattle.plan.proofs.RowsLent.{own-count}
 use Rattle.store.specs.declared.Store.{Store}
 use Rattle.store.specs.Workers.{ofParts}
+use Rattle.store.proofs.WhichPlan.{rows-known}
+use Rattle.store.proofs.Lifting.{plan-good}
 use Rattle.steps.specs.Searches.{stepStep}
 use Rattle.searches.proofs.Moving.{Changes, good-steppable, stepped-good, refused-bad, change-done}
 use borrow.Author.Needs.{needs}
@@ -24,7 +27,9 @@ changes c =
     let i = s .args .slot in
     ⊎-elim
     (λ w. stepped-good z (g .result) (g .ensures) (c .if1 .change) (w .0 .taken) i
-    (w .1 .ensures) (w .2 .ensures) (w .3 .ensures) (w .4 .ensures) (w .10) (w .9 .ensures))
+    (own-count (rows-known z (plan-good z (sym (g .ensures) ∙ w .0 .taken)) _ _ _ _ _ refl (w .1 .ensures) (w .2 .ensures)
+    (w .3 .ensures) (w .4 .ensures)))
+    (w .10) (w .9 .ensures))
     (λ w. refused-bad z (g .result) (g .ensures) (c .if1 .change) (w .0 .left) (stepStep i) (w .2) (w .1 .ensures))
     (c .if1 .came)
 

@@ -1,4 +1,4 @@
--- `carries::settling::settle_lent` meets its contract.
+-- `carries::settling::settle_lent` meets its contract. Assumes nothing.
 use mathlib.Core.Path.{_≡_, refl, sym, _∙_}
 use mathlib.Core.Bool.{true, false}
 use borrow.Author.Needs.{needs}
@@ -7,13 +7,11 @@ use Rattle.store.specs.declared.Store.{Store}
 use Rattle.store.specs.Answers.{BADSTORE, NODE, EDGE, bare}
 use Rattle.store.specs.StoreRules.{goodStore}
 use Rattle.store.specs.Workers.{ofParts}
-use Rattle.store.proofs.Lifting.{on-broken}
+use Rattle.store.proofs.WhichPlan.{rows-known}
+use Rattle.store.proofs.Lifting.{plan-good, on-broken}
 use Rattle.steps.specs.Carries.{carryStep}
 use Rattle.carries.specs.Settlings.{Carriable}
 use Rattle.carries.proofs.Carrying.{no-node, no-edge, carriable, settled-none}
-use Rattle.carries.proofs.settling.settle_lent.Statement.{statement}
-use Rattle.carries.proofs.settling.settle_lent.Tie as tie
-use borrow.Author.Needs.{needs}
 use Rattle.carries.proofs.settling.settle_lent.Statement.{statement}
 use Rattle.carries.proofs.settling.settle_lent.Tie as tie
 
@@ -50,9 +48,11 @@ known c =
     let n = j .before in
     let s = begun c in
     carriable (lent s) (checked (n .before)) (s .args .node) (s .args .edge) (n .nodes .ensures) (j .if2 .left) (r .edge-counts-of .ensures)
-    (q .edge-count-in .ensures) (i .if3 .left) (l .lowest-of .result) (h .highest-of .result) (t .targets-of .result) (l .lowest-of .ensures)
-    (h .highest-of .ensures) (t .targets-of .ensures) (e .edge-in .result) (e .edge-in .ensures) (k .capacities-of .result)
-    (k .capacities-of .ensures) (c .capacity-in .result) (c .capacity-in .ensures)
+    (q .edge-count-in .ensures) (i .if3 .left)
+    (rows-known (lent s) (plan-good (lent s) (checked (n .before))) _ _ _ _ _ (n .nodes .ensures) (r .edge-counts-of .ensures) (l .lowest-of .ensures)
+    (h .highest-of .ensures) (t .targets-of .ensures))
+    (e .edge-in .result) (e .edge-in .ensures) (k .capacities-of .result) (k .capacities-of .ensures)
+    (c .capacity-in .result) (c .capacity-in .ensures)
 
 element-copy-out-first : tie.Need-element-copy-out-first
 element-copy-out-first c = search needs

@@ -46,7 +46,7 @@ few c =
     let start = nodes .before in
     let a = start .args in
     image-adds-few (a .plan) (asked start) (format .length-of .ensures) (plan .length-of2 .ensures) (c .length-of3 .ensures) (nodes .nodes-length .ensures) (a .nodes) (start .pre .0)
-    (nodes-in-short (a .nodes) (a .counts .now) (a .keys .now) (a .kinds .now) (a .values .now) (a .stamps .now) (start .pre .1))
+    (nodes-in-short (a .nodes) (a .counts .now) (a .keys .now) (a .kinds .now) (a .values .now) (a .stamps .now) (start .pre .0) (start .pre .1))
 
 add-result-2 : tie.Need-add-result-2
 add-result-2 c = omega (arith, few c)

@@ -33,7 +33,7 @@ node-length-requires : tie.Need-node-length-requires Inv-loop μ-loop
 node-length-requires c κs =
     let l = c .before .before in
     let start = l .before in
-    let w = start .pre .1 (l .loop .n) in
+    let w = start .pre .1 (l .loop .n) (omega arith) in
     search needs
 
 add-sum : tie.Need-add-sum Inv-loop μ-loop
@@ -44,7 +44,7 @@ add-sum c =
     let a = start .args in
     let f = nodeIn (a .counts .now) (a .keys .now) (a .kinds .now) (a .values .now) (a .stamps .now) in
     let t = nodes-count f (a .nodes) (l .loop .sum) (l .loop .n) (l .loop .inv .1) (c .before .before .loop-test .taken) (c .node-length .ensures) in
-    omega (arith, nodes-in-short (a .nodes) (a .counts .now) (a .keys .now) (a .kinds .now) (a .values .now) (a .stamps .now) (start .pre .1))
+    omega (arith, nodes-in-short (a .nodes) (a .counts .now) (a .keys .now) (a .kinds .now) (a .values .now) (a .stamps .now) (start .pre .0) (start .pre .1))
 
 add-n : tie.Need-add-n Inv-loop μ-loop
 add-n c = search needs

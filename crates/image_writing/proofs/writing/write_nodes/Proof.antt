@@ -1,5 +1,6 @@
 -- `image_writing::writing::write_nodes` meets its contract. Assumes nothing.
 use Prim.Native.Nat.{_-_, _≤_}
+use native.Mathlib.Omega.{arith}
 use Rattle.lists.specs.Indexed.{tabulate}
 use Rattle.store.specs.Layout.{nodeIn}
 use Rattle.wire.proofs.Parts.{write-room, write-on, write-off}
@@ -34,7 +35,7 @@ unfolding nodeIn
 write-node-requires c κs =
     let l = c .before .before .before in
     let start = l .before .before in
-    let w = start .pre .0 .1 (l .loop .n) in
+    let w = start .pre .0 .1 (l .loop .n) (omega arith) in
     let few = start .pre .0 .0 in
     (search needs, search needs, write-room _ _ _ _ _ _ (l .loop .inv .1) (c .before .before .loop-test .taken))
 

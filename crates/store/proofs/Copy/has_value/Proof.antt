@@ -1,12 +1,11 @@
 -- `store::Copy::has_value` meets its contract. Assumes nothing.
-use mathlib.Core.Path.{refl}
-use Rattle.store.specs.Copies.{hasValue}
+use mathlib.Core.Path.{sym}
+use Rattle.store.proofs.KindLaws.{valued-is}
 use Rattle.store.proofs.Copy.has_value.Statement.{statement}
 use Rattle.store.proofs.Copy.has_value.Tie as tie
 
 returns : tie.Need-returns
-unfolding hasValue
-returns c = refl
+returns c = sym (valued-is _)
 
 pub has-value-spec : {M : Type 1} → statement M
 has-value-spec = tie.close (tie.spec returns)
