@@ -15,7 +15,7 @@ use Rattle.plan.proofs.PathLaws.{one-path, path-rest, path-is}
 use Rattle.store.specs.declared.Copy.{Copy}
 use Rattle.store.specs.Answers.{DONE, GOING, answer}
 use Rattle.store.specs.Copies.{stampOf}
-use Rattle.store.specs.State.{State, line, inReach, current, slotAt, slotCount}
+use Rattle.store.specs.State.{State, line, inReach, current, slotAt, slotCount, idleMark, runningMark}
 use Rattle.store.specs.StateRules.{OnPath, StateRules}
 use Rattle.steps.specs.Searches.{running}
 use Rattle.steps.proofs.OnPaths.{on-path-in-plan}
@@ -100,11 +100,11 @@ module _ (p : Plan) (rules : PlanRules p) (s : State) (t₀ : ℕ) (H₀ : CopyS
       }
 
 -- Of a state that meets the rules every slot that runs is a search for its key at its node, after its visits.
-pub running-slot : (p : Plan) (s : State) → StateRules p s → (i : ℕ) → slotAt s i .running ≢ 0
+pub running-slot : (p : Plan) (s : State) → StateRules p s → (i : ℕ) → slotAt s i .running ≢ idleMark
     → slotAt s i ≡ running (slotAt s i .key) (slotAt s i .node) (slotAt s i .visits)
 running-slot p s good i r =
     let there : i < slotCount = omega (arith, slot-there s i r, good .slots-within) in
-    let one : slotAt s i .running ≡ 1 = good .running-searches-on-their-paths i there r .0 in
+    let one : slotAt s i .running ≡ runningMark = good .running-searches-on-their-paths i there r .0 in
     λ j. record { running = one j; key = slotAt s i .key; node = slotAt s i .node; visits = slotAt s i .visits }
 
 -- A search that already runs.

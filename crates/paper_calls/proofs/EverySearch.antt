@@ -12,7 +12,7 @@ use Rattle.lists.proofs.Truths.{bool?}
 use Rattle.lists.proofs.Options.{option?}
 use Rattle.store.specs.declared.Slot.{Slot}
 use Rattle.store.specs.declared.Store.{Store}
-use Rattle.store.specs.State.{State, slotAt, idle}
+use Rattle.store.specs.State.{State, slotAt, idle, idleMark}
 use Rattle.store.specs.Layout.{planOf, stateOf}
 use Rattle.store.specs.StoreRules.{goodStore}
 use Rattle.steps.specs.Searches.{running}
@@ -101,5 +101,5 @@ module _ (z : Store) (good : goodStore z ≡ true) (i : ℕ) where
       go : Dec (slotAt (stateOf z) i .running ≡ 0) → Finished z cs d i ⊎ FinishedAtHand z cs d i
       go (yes q) = inl (from-idle z good i q cs d is-step done)
       go (no q) =
-          let r : getD (z .slots) i idle .running ≢ 0 = subst (λ (x : Slot). x .running ≢ 0) (in-state z i) q in
+          let r : getD (z .slots) i idle .running ≢ idleMark = subst (λ (x : Slot). x .running ≢ idleMark) (in-state z i) q in
           from-running _ _ _ (slot-in-use z good i r) cs d is-step done

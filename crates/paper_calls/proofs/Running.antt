@@ -13,7 +13,7 @@ use Rattle.store.specs.declared.Answer.{Answer}
 use Rattle.store.specs.declared.Copy.{Copy}
 use Rattle.store.specs.declared.Slot.{Slot}
 use Rattle.store.specs.declared.Store.{Store}
-use Rattle.store.specs.State.{slotAt, idle}
+use Rattle.store.specs.State.{slotAt, idle, idleMark}
 use Rattle.store.specs.Layout.{planOf, stateOf}
 use Rattle.store.specs.StoreRules.{goodStore}
 use Rattle.store.proofs.Laying.{state-slots}
@@ -38,11 +38,11 @@ pub in-state : (z : Store) (i : ℕ) → slotAt (stateOf z) i ≡ getD (z .slots
 in-state z i = ap (λ (qs : List Slot). getD qs i idle) (state-slots z)
 
 -- In a good store every slot in use is a search for its key at its node, after its visits.
-pub slot-in-use : (z : Store) → goodStore z ≡ true → (i : ℕ) → getD (z .slots) i idle .running ≢ 0
+pub slot-in-use : (z : Store) → goodStore z ≡ true → (i : ℕ) → getD (z .slots) i idle .running ≢ idleMark
     → getD (z .slots) i idle ≡ running (getD (z .slots) i idle .key) (getD (z .slots) i idle .node) (getD (z .slots) i idle .visits)
 slot-in-use z good i r =
     subst (λ (q : Slot). q ≡ running (q .key) (q .node) (q .visits)) (in-state z i)
-    (running-slot (planOf z) (stateOf z) (state-good z good) i (subst (λ (q : Slot). q .running ≢ 0) (sym (in-state z i)) r))
+    (running-slot (planOf z) (stateOf z) (state-good z good) i (subst (λ (q : Slot). q .running ≢ idleMark) (sym (in-state z i)) r))
 
 -- What such a search finds, through any calls that do not replace the store.
 module _ (z : Store) (good : goodStore z ≡ true) (between : List Call) (k n visits i : ℕ) (runs : RunsAtHand z between k n visits i)

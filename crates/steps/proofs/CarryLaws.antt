@@ -1,6 +1,7 @@
--- What a carry does, in document 01's words: what it carries and what it leaves, and what its three numbers count. Assumes nothing.
+-- What a carry does, in document 01's words: what it carries and what it leaves, what its three numbers count, that it moves each copy
+-- to the target and nowhere else, and that the same carry again moves nothing. Assumes nothing.
 use mathlib.Core.Path.{_≡_, refl, sym, ap, _∙_}
-use mathlib.Core.Bool.{true, _&&_}
+use mathlib.Core.Bool.{true, false, _&&_}
 use mathlib.Core.List.{List, []}
 use mathlib.Core.Option.{none, some}
 use Prim.Native.Nat.{ℕ, _+_, _-_, _<_, _≤_}
@@ -8,7 +9,10 @@ use native.Mathlib.Omega.{arith}
 use lib.ListN.{length, set}
 use lib.Seq.{set-getD}
 use borrow.Author.Tests.{lt-ltb}
-use Rattle.lists.proofs.Options.{not-none-and-some}
+use Rattle.lists.proofs.Truths.{not-both}
+use Rattle.lists.proofs.Options.{not-none-and-some, one-some}
+use Rattle.lists.proofs.Orders.{Order, order?}
+use Rattle.lists.proofs.Orders.Order.{less, equal, more}
 use Rattle.plan.specs.declared.Edge.{Edge}
 use Rattle.plan.specs.Plan.{Plan, size, capacityOf, edgesOf, edgeOf, holds}
 use Rattle.plan.specs.PlanRules.{IsEdge, PlanRules}
@@ -33,9 +37,10 @@ use Rattle.steps.proofs.Merges.{
   carried-count,
   rise-count,
   none-carried,
+  merge-twice,
 }
 use Rattle.steps.proofs.Merges.KeyMerged.{untouched, carried}
-use Rattle.steps.proofs.RulesOnLines.{rising-nodes}
+use Rattle.steps.proofs.RulesOnLines.{rising-nodes, line-rules}
 use Rattle.steps.proofs.LineSteps.{afterCarry, merging-along, carried-key, carried-from, carried-into, every-node-carried}
 use Rattle.steps.proofs.Keeping.{carried-keeps}
 
@@ -86,13 +91,43 @@ module _ (p : Plan) (rules : PlanRules p) (s : State) (good : StateRules p s) (n
     pub had : line s k n ≡ some x
     pub gone : line s′ k n ≡ none
 
-  -- A line that is not carried is as it was, in every node.
+  -- A carried line's key is in the edge's range; the carried copy stands in the target, and nowhere else.
+  pub carried-in-range : (k : ℕ) (x : Copy) → LineCarried k x → holds e k ≡ true
+  carried-in-range k x c = go (carried-key p rules s good k n e)
+    where
+      go : KeyMerged keyOf e (nodeAt s n) (nodeAt s t) (merged .stay) (merged .target) k → holds e k ≡ true
+      go (untouched f g) = absurd (not-none-and-some (sym (line-n k ∙ f) ∙ c .gone) (c .had))
+      go (carried y f h g j) = h
+
+  pub carried-stands : (k : ℕ) (x : Copy) → LineCarried k x → line s′ k t ≡ some x
+  carried-stands k x c = go (carried-key p rules s good k n e)
+    where
+      go : KeyMerged keyOf e (nodeAt s n) (nodeAt s t) (merged .stay) (merged .target) k → line s′ k t ≡ some x
+      go (untouched f g) = absurd (not-none-and-some (sym (line-n k ∙ f) ∙ c .gone) (c .had))
+      go (carried y f h g j) = line-t k ∙ (j ∙ ap some (one-some f (c .had)))
+
+  pub carried-once : (k : ℕ) (x : Copy) → LineCarried k x → (m : ℕ) → line s′ k m ≡ some x → m ≡ t
+  carried-once k x c m f = go (order? m t)
+    where
+      fall : (a b : ℕ) → line s′ k a ≡ some x → line s′ k b ≡ some x → a < b → x .stamp < x .stamp
+      fall a b = line-rules p s′ (carried-keeps p rules s good n i d) .fall k a b x x
+
+      go : Order m t → m ≡ t
+      go (less h) = absurd (omega (arith, fall m t f (carried-stands k x c) h))
+      go (equal h) = h
+      go (more h) = absurd (omega (arith, fall t m (carried-stands k x c) f h))
+
+  -- A line that is not carried is as it was, in every node;
   pub not-carried : (k : ℕ) → ((x : Copy) → LineCarried k x → ⊥) → (m : ℕ) → line s′ k m ≡ line s k m
   not-carried k c = go (carried-key p rules s good k n e)
     where
       go : KeyMerged keyOf e (nodeAt s n) (nodeAt s t) (merged .stay) (merged .target) k → (m : ℕ) → line s′ k m ≡ line s k m
       go (untouched f g) = every-node-carried n t merged s (down .0) exists (λ j xs. find keyOf xs k ≡ line s k j) f g (λ j. refl)
       go (carried x f h g j) = absurd (c x (record { had = f; gone = line-n k ∙ g }))
+
+  -- so is one outside the edge's range.
+  pub outside-untouched : (k : ℕ) → holds e k ≡ false → (m : ℕ) → line s′ k m ≡ line s k m
+  outside-untouched k h = not-carried k (λ x c. not-both (carried-in-range k x c) h)
 
   -- A copy in the range that stays had no room: the target lacked its key, lacks it, and is full.
   pub left-no-room : (k : ℕ) (x : Copy) → line s′ k n ≡ some x → holds e k ≡ true
@@ -179,3 +214,23 @@ module _ (p : Plan) (rules : PlanRules p) (s : State) (good : StateRules p s) (n
       let w =
       none-carried keyOf (capacityOf p t) e along (omega (arith, stay-short keyOf (capacityOf p t) e along, ap length at-n)) in
       as-it-was-done (as-it-was (w .0) (w .1))
+
+  -- The same merge again gives what is there.
+  again : (mergeAlong p n e s′ .stay ≡ nodeAt s′ n) × (mergeAlong p n e s′ .target ≡ nodeAt s′ t)
+  again =
+      let w =
+      merge-twice keyOf (capacityOf p t) e along (rising-nodes p s good n) (rw (at-n, at-t) at (merging-along p n e s′)) in
+      (w .0 ∙ sym at-n, w .1 ∙ sym at-t)
+
+-- Carrying twice: the second carry moves nothing, and leaves what the first left.
+pub carry-twice : (p : Plan) → PlanRules p → (s : State) → StateRules p s → (n i : ℕ) → IsEdge p n i
+    → carryStep n i p (carryStep n i p s .after)
+    ≡ record {
+      answer = answer DONE 0 0 (carryStep n i p s .answer .c) 0;
+      after = carryStep n i p s .after;
+    }
+carry-twice p rules s good n i d =
+    let good′ = carried-keeps p rules s good n i d in
+    let w = again p rules s good n i d in
+    rw (carry-after p rules s good n i d, carry-answer p rules s good n i d)
+    (as-it-was-done p rules (afterCarry p n i s) good′ n i d (as-it-was p rules (afterCarry p n i s) good′ n i d (w .0) (w .1)))

@@ -9,7 +9,7 @@ use Prim.Native.Nat.{ℕ, suc, _+_, _≤_}
 use native.Mathlib.Omega.{arith}
 use native.Mathlib.Decide.{ℕ-discrete}
 use lib.ListN.{length}
-use Rattle.lists.proofs.Truths.{bool?, and-left, and-right}
+use Rattle.lists.proofs.Truths.{bool?, not-both, and-left, and-right}
 use Rattle.lists.proofs.Options.{option?, not-none-and-some}
 use Rattle.lists.proofs.RisingKeys.{Rising, rising-from}
 use Rattle.lists.proofs.RisingKeys.Rising.{end, above}
@@ -29,6 +29,7 @@ use Rattle.steps.proofs.NodeLists.{
   put-adds,
   put-replaces,
   put-least,
+  room-none,
   no-room,
   put-fits,
 }
@@ -230,7 +231,7 @@ module _ {A : Type 0} (key : A → ℕ) (capacity : ℕ) (e : Edge) where
             (λ y i. ap (λ (b : Bool). b && has key ys y) (lacks-on x stay y i)),
       ))
 
-  -- A merge that leaves the node's count carries nothing.
+  -- A merge that leaves the node's count carries nothing,
   pub none-carried : {xs ys stay target : List A} → Merging key capacity e xs ys stay target → length stay ≡ length xs
       → (stay ≡ xs) × (target ≡ ys)
   none-carried through h = (refl, refl)
@@ -238,3 +239,24 @@ module _ {A : Type 0} (key : A → ℕ) (capacity : ℕ) (e : Edge) where
   none-carried (keep {x = x} t m) h =
       let w = none-carried m (omega arith) in
       (ap (λ (l : List A). x ∷ l) (w .0), w .1)
+
+  -- and so does one with no room for any key of the range.
+  pub none-fits : {b : ℕ} {xs ys stay target : List A} → Merging key capacity e xs ys stay target → Rising key b xs
+      → ((k : ℕ) (x : A) → find key xs k ≡ some x → holds e k ≡ true → (find key ys k ≡ none) × (capacity ≤ length ys))
+      → (stay ≡ xs) × (target ≡ ys)
+  none-fits through end h = (refl, refl)
+  none-fits (carry {x = x} {xs = xs} {ys = ys} t m) (above g r) h =
+      let n = h (key x) x (find-same key x xs (key x) refl) (carries-holds x ys t) in
+      absurd (not-both (carries-room x ys t) (room-none key capacity ys (key x) (n .0) (n .1)))
+  none-fits (keep {x = x} {xs = xs} t m) (above g r) h =
+      let w = none-fits m r (λ k y f. h k y (later k y f)) in
+      (ap (λ (l : List A). x ∷ l) (w .0), w .1)
+    where
+      later : (k : ℕ) (y : A) → find key xs k ≡ some y → find key (x ∷ xs) k ≡ some y
+      later k y f =
+          find-other key x xs k (λ (q : key x ≡ k). not-none-and-some (find-low key r k (omega arith)) f) ∙ f
+
+  -- So the same merge again carries nothing.
+  pub merge-twice : {b : ℕ} {xs ys stay target stay′ target′ : List A} → Merging key capacity e xs ys stay target → Rising key b xs
+      → Merging key capacity e stay target stay′ target′ → (stay′ ≡ stay) × (target′ ≡ target)
+  merge-twice m r again = none-fits again (stay-rising m r) (left-full m r)

@@ -1,3 +1,4 @@
 pub mod ImageParts
 pub mod ImageReads
+pub mod ImageBytes
 pub mod RoundTrips

@@ -79,6 +79,10 @@ module _ {A : Type 0} {R : A → ℕ → Type 0} where
   gives-cond true m k h g = h refl
   gives-cond false m k h g = g refl
 
+-- Two properties at once.
+pub gives-both : {A : Type 0} {R S : A → ℕ → Type 0} {m : Got A} → Gives R m → Gives S m → Gives (λ x next. R x next × S x next) m
+gives-both h k = record { each = λ x next e. (h .each x next e, k .each x next e) }
+
 pub gives-any : {A : Type 0} (m : Got A) → Gives (λ x next. Unit {0}) m
 gives-any m = record { each = λ x next e. tt }
 

@@ -1,3 +1,4 @@
 pub mod Chains
 pub mod Buffers
+pub mod ByteStrings
 pub mod Parts
