@@ -98,7 +98,7 @@ module _ (z : Store) (good : goodStore z ≡ true) (i : ℕ) where
       → Finished z cs d i ⊎ FinishedAtHand z cs d i
   every-search-at-hand cs d is-step done = go (ℕ-discrete (slotAt (stateOf z) i .running) 0)
     where
-      go : Dec (slotAt (stateOf z) i .running ≡ 0) → Finished z cs d i ⊎ FinishedAtHand z cs d i
+      go : Dec (slotAt (stateOf z) i .running ≡ idleMark) → Finished z cs d i ⊎ FinishedAtHand z cs d i
       go (yes q) = inl (from-idle z good i q cs d is-step done)
       go (no q) =
           let r : getD (z .slots) i idle .running ≢ idleMark = subst (λ (x : Slot). x .running ≢ idleMark) (in-state z i) q in
