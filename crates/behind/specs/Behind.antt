@@ -12,7 +12,7 @@ use Rattle.schedule.specs.Schedule.{stepRecord}
 use Rattle.export.specs.Promises.{FreshensBehind, StepsBehind, LoadsBehind}
 use Rattle.calls.specs.PublicCalls.{Call, accepted}
 use Rattle.calls.specs.PublicCalls.Call.{fresh, load, reads, run}
-use Rattle.calls.specs.PublicCalls.Reading.{look, save, page, serve}
+use Rattle.calls.specs.PublicCalls.Reading.{look, save, page, serveLength}
 
 -- The calls of the C interface, each with its arguments and its answer (a serve's is a length); of a lent buffer the bytes at entry and at exit.
 pub data CallBehind : Type 0 where
@@ -49,7 +49,7 @@ unfoldable pub publicCall : CallBehind → Call
 publicCall (freshens plan r) = orFresh r (fresh plan)
 publicCall (steps number x y r) = run (stepRecord number x y ∷ []) 0
 publicCall (looks k r) = reads (look k)
-publicCall (saves before r after) = reads save
+publicCall (saves before r after) = reads (save before)
 publicCall (loads bytes r) = orFresh r (load bytes)
-publicCall (pages sample before r after) = reads (page sample)
-publicCall (serves sample kept n) = reads (serve sample)
+publicCall (pages sample before r after) = reads (page sample before)
+publicCall (serves sample kept n) = reads (serveLength sample kept)

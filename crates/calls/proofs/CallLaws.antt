@@ -58,7 +58,7 @@ calls-increase cs z good stays n k h =
 
 module _ (z : Store) (good : goodStore z ≡ true) (k : ℕ) where
   look-is : answerTo (reads (look k)) z ≡ some (lookAnswer k (planOf z) (stateOf z))
-  unfolding answerTo
+  unfolding gives answerTo
   look-is = ap some (of-good (lookAnswer k) z good)
 
   -- A look says the line's current result, after as many visits as there are path nodes down to the first that has a copy, or all.

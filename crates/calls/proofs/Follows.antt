@@ -10,22 +10,19 @@ use lib.Dec.{eqb}
 use lib.ListN.{getD}
 use Rattle.lists.proofs.Truths.{bool?, not-both, and-right, both-le}
 use Rattle.lists.proofs.Options.{option?, not-none-and-some, one-some}
-use Rattle.plan.specs.Plan.{Plan}
 use Rattle.plan_table.specs.PlanTable.{plans}
 use Rattle.plan_table.proofs.TableLaws.{first-plan}
 use Rattle.store.specs.declared.Outcome.{Outcome}
 use Rattle.store.specs.declared.Store.{Store}
 use Rattle.store.specs.Copies.{Kind, isSome}
 use Rattle.store.specs.Copies.Kind.{withdrawn, result}
-use Rattle.store.specs.State.{State}
 use Rattle.store.specs.Layout.{planOf, stateOf, freshStore}
 use Rattle.store.specs.StoreRules.{planNumberTest, goodStore}
-use Rattle.store.specs.Calls.{Effect, onStore}
 use Rattle.store.specs.Promises.{freshOutcome}
-use Rattle.store.proofs.Lifting.{same-call, Keeps, on-bad, on-good, number-stays, plan-stays, store-stays, on-keeps, state-agrees, fresh-good}
+use Rattle.store.proofs.Lifting.{Keeps, on-bad, on-good, number-stays, plan-stays, store-stays, on-keeps, state-agrees, fresh-good}
 use Rattle.schedule.specs.declared.Step.{Step}
 use Rattle.schedule.specs.Schedule.{ENTER, WITHDRAW, CARRY, START, STEP, CANCEL}
-use Rattle.schedule.specs.Running.{noStep, unknownStep, stepOf, runOutcome}
+use Rattle.schedule.specs.Running.{noStep, unknownStep, unknownOutcome, recordOutcome, runOutcome}
 use Rattle.trips.specs.Trips.{Declared}
 use Rattle.image_loading.specs.Loading.{loadOutcome}
 use Rattle.trips.proofs.RoundTrips.{load-good, fresh-idle, load-idle, load-all-idle}
@@ -38,13 +35,13 @@ use Rattle.calls.specs.PublicCalls.Call.{fresh, load, enter, carry, star
 use Rattle.calls.specs.Following.{eventOfRecord, eventOf, eventsOf, onEvent, ownOutcome, storeIfAccepted, replacement, sameStore}
 use Rattle.calls.specs.DeclaredNumbers.{DeclaredCall}
 
--- The step and the event of a record, by the six tests of its number.
-stepBy : Bool → Bool → Bool → Bool → Bool → Bool → Step → ℕ → Plan → State → Effect
-stepBy a b c d e f r place p s =
-    cond a (effect p (enters result (r .x) (r .y)) s)
-    (cond b (effect p (enters withdrawn (r .x) 0) s)
-    (cond c (effect p (carries (r .x) (r .y)) s)
-    (cond d (effect p (starts (r .x)) s) (cond e (effect p (steps (r .x)) s) (cond f (effect p (cancels (r .x)) s) (unknownStep place s))))))
+-- The outcome and the event of a record, by the six tests of its number.
+outcomeBy : Bool → Bool → Bool → Bool → Bool → Bool → Store → Step → ℕ → Outcome
+outcomeBy a b c d e f z r place =
+    cond a (onEvent (enters result (r .x) (r .y)) z)
+    (cond b (onEvent (enters withdrawn (r .x) 0) z)
+    (cond c (onEvent (carries (r .x) (r .y)) z)
+    (cond d (onEvent (starts (r .x)) z) (cond e (onEvent (steps (r .x)) z) (cond f (onEvent (cancels (r .x)) z) (unknownOutcome z place))))))
 
 eventBy : Bool → Bool → Bool → Bool → Bool → Bool → Step → Event
 eventBy a b c d e f r =
@@ -53,25 +50,17 @@ eventBy a b c d e f r =
     (cond c (carries (r .x) (r .y)) (cond d (starts (r .x)) (cond e (steps (r .x)) (cond f (cancels (r .x)) asks)))))
 
 -- Either they are one, or the step is unknown.
-by-tests : (a b c d e f : Bool) (r : Step) (place : ℕ)
-    → ((p : Plan) (s : State) → stepBy a b c d e f r place p s ≡ effect p (eventBy a b c d e f r) s)
-    ⊎ ((eventBy a b c d e f r ≡ asks) × ((p : Plan) (s : State) → stepBy a b c d e f r place p s .after ≡ s))
-unfolding stepBy eventBy
-by-tests true b c d e f r place = inl (λ p s. refl)
-by-tests false true c d e f r place = inl (λ p s. refl)
-by-tests false false true d e f r place = inl (λ p s. refl)
-by-tests false false false true e f r place = inl (λ p s. refl)
-by-tests false false false false true f r place = inl (λ p s. refl)
-by-tests false false false false false true r place = inl (λ p s. refl)
-by-tests false false false false false false r place = inr (refl, λ p s. refl)
-
-record-way : (r : Step) (place : ℕ)
-    → ((p : Plan) (s : State) → stepOf r place p s ≡ effect p (eventOfRecord r) s)
-    ⊎ ((eventOfRecord r ≡ asks) × ((p : Plan) (s : State) → stepOf r place p s .after ≡ s))
-unfolding stepOf eventOfRecord effect stepBy eventBy
-record-way r place =
-    by-tests (eqb (r .number) ENTER) (eqb (r .number) WITHDRAW) (eqb (r .number) CARRY) (eqb (r .number) START) (eqb (r .number) STEP)
-    (eqb (r .number) CANCEL) r place
+by-tests : (a b c d e f : Bool) (z : Store) (r : Step) (place : ℕ)
+    → (outcomeBy a b c d e f z r place ≡ onEvent (eventBy a b c d e f r) z)
+    ⊎ ((eventBy a b c d e f r ≡ asks) × (outcomeBy a b c d e f z r place .store ≡ z))
+unfolding outcomeBy eventBy
+by-tests true b c d e f z r place = inl refl
+by-tests false true c d e f z r place = inl refl
+by-tests false false true d e f z r place = inl refl
+by-tests false false false true e f z r place = inl refl
+by-tests false false false false true f z r place = inl refl
+by-tests false false false false false true z r place = inl refl
+by-tests false false false false false false z r place = inr (refl, store-stays (unknownStep place) z refl)
 
 pub asks-nothing : (z : Store) → onEvent asks z .store ≡ z
 unfolding onEvent effect
@@ -81,18 +70,11 @@ asks-nothing z = store-stays (λ p s. effect p asks s) z refl
 pub run-way : (z : Store) (list : List Step) (place : ℕ)
     → (runOutcome z list place ≡ onEvent (eventOfRecord (getD list place noStep)) z)
     ⊎ ((eventOfRecord (getD list place noStep) ≡ asks) × (runOutcome z list place .store ≡ z))
-unfolding runOutcome onEvent
-run-way z list place = go (record-way r place)
-  where
-    r : Step
-    r = getD list place noStep
-
-    go : ((p : Plan) (s : State) → stepOf r place p s ≡ effect p (eventOfRecord r) s)
-        ⊎ ((eventOfRecord r ≡ asks) × ((p : Plan) (s : State) → stepOf r place p s .after ≡ s))
-        → (onStore (stepOf r place) z ≡ onStore (λ p s. effect p (eventOfRecord r) s) z)
-        ⊎ ((eventOfRecord r ≡ asks) × (onStore (stepOf r place) z .store ≡ z))
-    go (inl h) = inl (same-call (stepOf r place) (λ p s. effect p (eventOfRecord r) s) z (h (planOf z) (stateOf z)))
-    go (inr w) = inr (w .0, store-stays (stepOf r place) z (w .1 (planOf z) (stateOf z)))
+unfolding runOutcome recordOutcome eventOfRecord onEvent effect outcomeBy eventBy
+run-way z list place =
+    let r = getD list place noStep in
+    by-tests (eqb (r .number) ENTER) (eqb (r .number) WITHDRAW) (eqb (r .number) CARRY) (eqb (r .number) START) (eqb (r .number) STEP)
+    (eqb (r .number) CANCEL) z r place
 
 run-event : (z : Store) (list : List Step) (place : ℕ) → runOutcome z list place .store ≡ onEvent (eventOfRecord (getD list place noStep)) z .store
 run-event z list place = go (run-way z list place)
@@ -141,7 +123,7 @@ run-answer z list place = go (run-way z list place)
     go (inr w) = inr (w .0)
 
 pub call-way : (c : Call) → OnEvent c ⊎ OwnOutcome c
-unfolding storeAfter answerTo ownOutcome eventOf onEvent effect
+unfolding storeAfter gives answerTo ownOutcome eventOf onEvent effect
 call-way (fresh plan) =
     inr
     (record {

@@ -133,7 +133,7 @@ callOf (carries n i) = carry n i
 callOf (starts k) = start k
 callOf (steps i) = step i
 callOf (cancels i) = cancel i
-callOf asks = reads save
+callOf asks = reads (save [])
 
 -- The calls of some events.
 unfoldable pub callsOf : List Event → List Call

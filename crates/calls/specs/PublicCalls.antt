@@ -1,34 +1,36 @@
--- Sequences of public calls on a store, every one of them, refused ones too, by the definitions that the promises cite.
+-- Sequences of public calls on a store, every one of them, refused ones too, with all their arguments and all that they give, by the outcomes
+-- that the promises cite.
 use mathlib.Core.Path.{_≡_}
 use mathlib.Core.Bool.{Bool, cond}
 use mathlib.Core.List.{List, [], _∷_}
 use mathlib.Core.Option.{Option, none, some}
 use Prim.Native.Nat.{ℕ}
 use lib.Dec.{eqb}
+use denote.Ref.{RefT}
 use Rattle.store.specs.declared.Answer.{Answer}
 use Rattle.store.specs.declared.Outcome.{Outcome}
 use Rattle.store.specs.declared.Store.{Store}
 use Rattle.store.specs.Answers.{DONE}
 use Rattle.store.specs.Copies.{Kind}
-use Rattle.store.specs.Calls.{onStore, ofStore}
 use Rattle.store.specs.Promises.{freshOutcome}
-use Rattle.steps.specs.Entries.{entryStep}
-use Rattle.steps.specs.Carries.{carryStep}
-use Rattle.steps.specs.Searches.{startStep, stepStep, cancelStep, lookAnswer}
+use Rattle.steps.specs.Promises.{entryOutcome, carryOutcome, startOutcome, stepOutcome, cancelOutcome, lookOutcome}
 use Rattle.image_loading.specs.Loading.{loadOutcome}
+use Rattle.image.specs.Promises.{saveOutcome}
+use Rattle.page.specs.Promises.{Handed, pageOutcome, served, servedLength}
 use Rattle.schedule.specs.declared.Step.{Step}
 use Rattle.schedule.specs.Running.{runOutcome}
+use Rattle.schedule.specs.Promises.{decodeOutcome}
 
--- The public calls that leave the store alone, with their arguments. (A save's buffer, a page's buffer and a kept page have no part in what
--- follows.)
+-- The public calls that leave the store alone, with their arguments; of a lent buffer or list what it holds at entry.
 pub data Reading : Type 0 where
-  look : ℕ → Reading
-  save : Reading
-  page : ℕ → Reading
-  serve : ℕ → Reading
+  look : (key : ℕ) → Reading
+  save : (buffer : List ℕ) → Reading
+  page : (sample : ℕ) (buffer : List ℕ) → Reading
+  serve : (sample : ℕ) (kept notice : RefT (List ℕ)) → Reading
+  serveLength : (sample : ℕ) (kept : List ℕ) → Reading
+  decode : (bytes : List ℕ) (list : List Step) → Reading
 
--- The public calls that take or give a store, with their arguments. Enter and withdraw are an entry with its kind; of a withdrawal the value
--- is not read. (Decode takes no store and gives none: a schedule's bytes, and the records that `run` takes.)
+-- The public calls, with their arguments. Enter and withdraw are an entry with its kind; of a withdrawal the value is not read.
 pub data Call : Type 0 where
   fresh : ℕ → Call
   load : List ℕ → Call
@@ -52,33 +54,54 @@ replaced o z = cond (accepted (o .answer)) (o .store) z
 unfoldable pub storeAfter : Call → Store → Store
 storeAfter (fresh plan) z = replaced (freshOutcome plan) z
 storeAfter (load bytes) z = replaced (loadOutcome bytes) z
-storeAfter (enter kind k v) z = onStore (entryStep kind k v) z .store
-storeAfter (carry n i) z = onStore (carryStep n i) z .store
-storeAfter (start k) z = onStore (startStep k) z .store
-storeAfter (step i) z = onStore (stepStep i) z .store
-storeAfter (cancel i) z = onStore (cancelStep i) z .store
+storeAfter (enter kind k v) z = entryOutcome kind z k v .store
+storeAfter (carry n i) z = carryOutcome z n i .store
+storeAfter (start k) z = startOutcome z k .store
+storeAfter (step i) z = stepOutcome z i .store
+storeAfter (cancel i) z = cancelOutcome z i .store
 storeAfter (reads r) z = z
 storeAfter (run list place) z = runOutcome z list place .store
 
--- The answer of a call that leaves the store alone. (Those of save, page and serve are also of a buffer or of kept bytes, which a call here
--- has not.)
-abbrev pub readAnswer : Reading → Store → Option Answer
-readAnswer (look k) z = some (ofStore (lookAnswer k) z)
-readAnswer save z = none
-readAnswer (page sample) z = none
-readAnswer (serve sample) z = none
+-- What a call gives beside the store: an answer, with the buffer or the list at exit; whose bytes are handed back, and which; or how many.
+pub data Given : Type 0 where
+  answered : Answer → Given
+  wrote : Answer × List ℕ → Given
+  listed : Answer × List Step → Given
+  handedBack : Handed → Given
+  counted : ℕ → Given
+
+-- What a call gives that leaves the store alone.
+abbrev pub readGives : Reading → Store → Given
+readGives (look key) z = answered (lookOutcome z key)
+readGives (save buffer) z = wrote (saveOutcome z buffer)
+readGives (page sample buffer) z = wrote (pageOutcome z sample buffer)
+readGives (serve sample kept notice) z = handedBack (served z sample kept notice)
+readGives (serveLength sample kept) z = counted (servedLength z sample kept)
+readGives (decode bytes list) z = listed (decodeOutcome bytes list)
+
+-- What a call gives.
+unfoldable pub gives : Call → Store → Given
+gives (fresh plan) z = answered (freshOutcome plan .answer)
+gives (load bytes) z = answered (loadOutcome bytes .answer)
+gives (enter kind k v) z = answered (entryOutcome kind z k v .answer)
+gives (carry n i) z = answered (carryOutcome z n i .answer)
+gives (start k) z = answered (startOutcome z k .answer)
+gives (step i) z = answered (stepOutcome z i .answer)
+gives (cancel i) z = answered (cancelOutcome z i .answer)
+gives (reads r) z = readGives r z
+gives (run list place) z = answered (runOutcome z list place .answer)
+
+-- The answer in what a call gives; a serve has none.
+abbrev pub answerIn : Given → Option Answer
+answerIn (answered a) = some a
+answerIn (wrote w) = some (w .0)
+answerIn (listed w) = some (w .0)
+answerIn (handedBack h) = none
+answerIn (counted n) = none
 
 -- The answer of a call.
 unfoldable pub answerTo : Call → Store → Option Answer
-answerTo (fresh plan) z = some (freshOutcome plan .answer)
-answerTo (load bytes) z = some (loadOutcome bytes .answer)
-answerTo (enter kind k v) z = some (onStore (entryStep kind k v) z .answer)
-answerTo (carry n i) z = some (onStore (carryStep n i) z .answer)
-answerTo (start k) z = some (onStore (startStep k) z .answer)
-answerTo (step i) z = some (onStore (stepStep i) z .answer)
-answerTo (cancel i) z = some (onStore (cancelStep i) z .answer)
-answerTo (reads r) z = readAnswer r z
-answerTo (run list place) z = some (runOutcome z list place .answer)
+answerTo c z = answerIn (gives c z)
 
 -- A call answers DONE.
 abbrev pub Done : Call → Store → Type 0
@@ -88,3 +111,8 @@ Done c z = (a : Answer) × (answerTo c z ≡ some a) × (a .number ≡ DONE)
 unfoldable pub storeAfterAll : List Call → Store → Store
 storeAfterAll [] z = z
 storeAfterAll (c ∷ cs) z = storeAfterAll cs (storeAfter c z)
+
+-- What the calls of a sequence give, one after another.
+unfoldable pub allGiven : List Call → Store → List Given
+allGiven [] z = []
+allGiven (c ∷ cs) z = gives c z ∷ allGiven cs (storeAfter c z)

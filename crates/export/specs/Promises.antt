@@ -6,11 +6,10 @@ use Prim.Native.Nat.{ℕ}
 use Rattle.store.specs.declared.Answer.{Answer}
 use Rattle.store.specs.declared.Outcome.{Outcome}
 use Rattle.store.specs.declared.Store.{Store}
-use Rattle.store.specs.Calls.{onStore}
 use Rattle.store.specs.Promises.{freshOutcome}
 use Rattle.image_loading.specs.Loading.{loadOutcome}
 use Rattle.schedule.specs.Schedule.{stepRecord}
-use Rattle.schedule.specs.Running.{stepOf}
+use Rattle.schedule.specs.Running.{recordOutcome}
 
 -- An outcome in two parts: its answer is returned, its store stands behind the pointer.
 abbrev pub Gives : Outcome → Answer → Store → Type 0
@@ -22,7 +21,7 @@ FreshensBehind plan = Gives (freshOutcome plan)
 
 -- The step of a record of these numbers, as if at place 0.
 abbrev pub StepsBehind : Store → ℕ → ℕ → ℕ → Answer → Store → Type 0
-StepsBehind before number x y = Gives (onStore (stepOf (stepRecord number x y) 0) before)
+StepsBehind before number x y = Gives (recordOutcome before (stepRecord number x y) 0)
 
 -- The store of the image, or the first fault and a fresh store of plan 1, whatever stood there.
 abbrev pub LoadsBehind : List ℕ → Answer → Store → Type 0

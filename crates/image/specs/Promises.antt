@@ -21,9 +21,13 @@ saveAnswer z before = cond (goodStore z) (writtenAnswer (image z) before) (bare 
 unfoldable pub saveBuffer : Store → List ℕ → List ℕ
 saveBuffer z before = cond (goodStore z) (writtenBuffer (image z) before) before
 
+-- The outcome of a save into a buffer: the answer, and the buffer at exit.
+abbrev pub saveOutcome : Store → List ℕ → Answer × List ℕ
+saveOutcome store before = (saveAnswer store before, saveBuffer store before)
+
 -- Of a buffer at entry: the answer, and the buffer at exit.
 abbrev pub Saves : Store → List ℕ → Answer → List ℕ → Type 0
-Saves store before r after = (r ≡ saveAnswer store before) × (after ≡ saveBuffer store before)
+Saves store before r after = (r ≡ saveOutcome store before .0) × (after ≡ saveOutcome store before .1)
 
 -- The same of a lent buffer.
 abbrev pub LentSaves : Store → LentList → Answer → Type 0

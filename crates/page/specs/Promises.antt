@@ -28,9 +28,13 @@ pageAnswer z sample before =
 unfoldable pub pageBuffer : Store → ℕ → List ℕ → List ℕ
 pageBuffer z sample before = cond (goodStore z && leb sample lastSample) (writtenBuffer (pageNow z sample) before) before
 
+-- The outcome of a page into a buffer: the answer, and the buffer at exit.
+abbrev pub pageOutcome : Store → ℕ → List ℕ → Answer × List ℕ
+pageOutcome store sample before = (pageAnswer store sample before, pageBuffer store sample before)
+
 -- Of a buffer at entry: the answer, and the buffer at exit.
 abbrev pub Pages : Store → ℕ → List ℕ → Answer → List ℕ → Type 0
-Pages store sample before r after = (r ≡ pageAnswer store sample before) × (after ≡ pageBuffer store sample before)
+Pages store sample before r after = (r ≡ pageOutcome store sample before .0) × (after ≡ pageOutcome store sample before .1)
 
 -- "If the kept bytes begin with the sample's page as it is now": of a good store and a sample that is not too large.
 unfoldable pub stillTrue : Store → ℕ → List ℕ → Bool

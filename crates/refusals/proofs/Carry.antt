@@ -13,9 +13,10 @@ use Rattle.store.specs.Copies.{member}
 use Rattle.store.specs.State.{State}
 use Rattle.store.specs.Layout.{planOf, stateOf}
 use Rattle.store.specs.StoreRules.{goodStore}
-use Rattle.store.specs.Calls.{Effect, onStore}
+use Rattle.store.specs.Calls.{Effect}
 use Rattle.store.proofs.Lifting.{plan-good, state-good}
 use Rattle.steps.specs.Carries.{carriedOut, carryStep}
+use Rattle.steps.specs.Promises.{carryOutcome}
 use Rattle.steps.proofs.WaysOut.{CarryWay, carry-way}
 use Rattle.steps.proofs.WaysOut.CarryWay.{no-node, no-edge, merges}
 use Rattle.steps.proofs.Refusals.{node-exactly, edge-exactly}
@@ -41,25 +42,25 @@ step-refuses node edge p s = go (carry-way node edge p s)
     go (merges d) = λ h. absurd (omega arith)
 
 module _ (z : Store) (node edge : ℕ) where
-  pub carry-badstore : (onStore (carryStep node edge) z .answer .number ≡ BADSTORE) ↔ (goodStore z ≡ false)
+  pub carry-badstore : (carryOutcome z node edge .answer .number ≡ BADSTORE) ↔ (goodStore z ≡ false)
   unfolding member
   carry-badstore = on-badstore (carryStep node edge) z carryAnswers (step-among node edge (planOf z) (stateOf z)) refl
 
   -- "plan has no such node"
-  pub carry-node : (onStore (carryStep node edge) z .answer .number ≡ NODE) ↔ ((goodStore z ≡ true) × (size (planOf z) ≤ node))
+  pub carry-node : (carryOutcome z node edge .answer .number ≡ NODE) ↔ ((goodStore z ≡ true) × (size (planOf z) ≤ node))
   carry-node =
       on-exactly (carryStep node edge) z NODE (λ e. omega arith) λ good.
       node-exactly (planOf z) (plan-good z good) (stateOf z) (state-good z good) node edge
 
   -- "node has no such edge"
-  pub carry-edge : (onStore (carryStep node edge) z .answer .number ≡ EDGE)
+  pub carry-edge : (carryOutcome z node edge .answer .number ≡ EDGE)
       ↔ ((goodStore z ≡ true) × ((node < size (planOf z)) × (length (edgesOf (planOf z) node) ≤ edge)))
   carry-edge =
       on-exactly (carryStep node edge) z EDGE (λ e. omega arith) λ good.
       edge-exactly (planOf z) (plan-good z good) (stateOf z) (state-good z good) node edge
 
-  pub carry-answers : Among (BADSTORE ∷ carryAnswers) (onStore (carryStep node edge) z .answer)
+  pub carry-answers : Among (BADSTORE ∷ carryAnswers) (carryOutcome z node edge .answer)
   carry-answers = on-among (carryStep node edge) z carryAnswers (step-among node edge (planOf z) (stateOf z))
 
-  pub carry-refused : Refuses z (onStore (carryStep node edge) z)
+  pub carry-refused : Refuses z (carryOutcome z node edge)
   carry-refused = on-refuses (carryStep node edge) z (step-refuses node edge (planOf z) (stateOf z))

@@ -12,9 +12,10 @@ use Rattle.store.specs.Copies.{Kind, kindNumber, valueHeld, member}
 use Rattle.store.specs.State.{State, lastClock}
 use Rattle.store.specs.Layout.{planOf, stateOf}
 use Rattle.store.specs.StoreRules.{goodStore}
-use Rattle.store.specs.Calls.{Effect, onStore}
+use Rattle.store.specs.Calls.{Effect}
 use Rattle.store.proofs.Lifting.{plan-good, state-good}
 use Rattle.steps.specs.Entries.{entry, entryStep}
+use Rattle.steps.specs.Promises.{entryOutcome}
 use Rattle.steps.proofs.WaysOut.{EntryWay, entry-way}
 use Rattle.steps.proofs.WaysOut.EntryWay.{at-last-clock, root-full, enters}
 use Rattle.steps.proofs.Refusals.{clock-exactly, full-exactly}
@@ -49,18 +50,18 @@ module _ (z : Store) (kind : Kind) (key value : ℕ) where
   abbrev held : ℕ
   held = valueHeld kind value
 
-  pub entry-badstore : (onStore (entryStep kind key value) z .answer .number ≡ BADSTORE) ↔ (goodStore z ≡ false)
+  pub entry-badstore : (entryOutcome kind z key value .answer .number ≡ BADSTORE) ↔ (goodStore z ≡ false)
   unfolding member
   entry-badstore = on-badstore (entryStep kind key value) z entryAnswers (step-among number key held (planOf z) (stateOf z)) refl
 
   -- "entry at clock 4294967295"
-  pub entry-clock : (onStore (entryStep kind key value) z .answer .number ≡ CLOCK) ↔ ((goodStore z ≡ true) × (z .clock ≡ lastClock))
+  pub entry-clock : (entryOutcome kind z key value .answer .number ≡ CLOCK) ↔ ((goodStore z ≡ true) × (z .clock ≡ lastClock))
   unfolding stateOf
   entry-clock =
       on-exactly (entryStep kind key value) z CLOCK (λ e. omega arith) λ good.
       clock-exactly (planOf z) (plan-good z good) (stateOf z) (state-good z good) number key held
 
-  pub entry-full : (onStore (entryStep kind key value) z .answer .number ≡ FULL) ↔ ((goodStore z ≡ true) × RootFull z key)
+  pub entry-full : (entryOutcome kind z key value .answer .number ≡ FULL) ↔ ((goodStore z ≡ true) × RootFull z key)
   unfolding stateOf
   entry-full =
       on-exactly (entryStep kind key value) z FULL (λ e. omega arith) λ good.
@@ -69,8 +70,8 @@ module _ (z : Store) (kind : Kind) (key value : ℕ) where
         λ r. f .1 (record { clock-left = r .clock-left; lacks-key = r .lacks-key; no-place = r .no-place }),
       )
 
-  pub entry-answers : Among (BADSTORE ∷ entryAnswers) (onStore (entryStep kind key value) z .answer)
+  pub entry-answers : Among (BADSTORE ∷ entryAnswers) (entryOutcome kind z key value .answer)
   entry-answers = on-among (entryStep kind key value) z entryAnswers (step-among number key held (planOf z) (stateOf z))
 
-  pub entry-refused : Refuses z (onStore (entryStep kind key value) z)
+  pub entry-refused : Refuses z (entryOutcome kind z key value)
   entry-refused = on-refuses (entryStep kind key value) z (step-refuses number key held (planOf z) (stateOf z))

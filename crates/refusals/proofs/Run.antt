@@ -8,23 +8,16 @@ use native.Mathlib.Decide.{decLt, ℕ-discrete}
 use native.Mathlib.Omega.{arith}
 use lib.ListN.{length, List·getD-eq-default}
 use Rattle.lists.proofs.Truths.{bool?, not-both}
-use Rattle.plan.specs.Plan.{Plan}
 use Rattle.store.specs.declared.Outcome.{Outcome}
 use Rattle.store.specs.declared.Store.{Store}
 use Rattle.store.specs.Answers.{BADSTORE, OP, answer}
 use Rattle.store.specs.Copies.{member}
 use Rattle.store.specs.Copies.Kind.{withdrawn, result}
-use Rattle.store.specs.State.{State}
-use Rattle.store.specs.Layout.{planOf, stateOf}
 use Rattle.store.specs.StoreRules.{goodStore}
-use Rattle.store.specs.Calls.{Effect, onStore}
-use Rattle.store.proofs.Lifting.{same-call, on-good, store-stays}
-use Rattle.steps.specs.Entries.{enterStep, withdrawStep}
-use Rattle.steps.specs.Carries.{carryStep}
-use Rattle.steps.specs.Searches.{startStep, stepStep, cancelStep}
+use Rattle.store.proofs.Lifting.{on-good, store-stays}
 use Rattle.schedule.specs.declared.Step.{Step}
 use Rattle.schedule.specs.Schedule.{ENTER, WITHDRAW, CARRY, START, STEP, CANCEL, knownStep}
-use Rattle.schedule.specs.Running.{noStep, unknownStep, stepOf, runOutcome}
+use Rattle.schedule.specs.Running.{noStep, unknownStep, runOutcome}
 use Rattle.schedule.proofs.StepLaws.{does-enter, does-withdraw, does-carry, does-start, does-step, does-cancel, does-unknown}
 use Rattle.schedule.proofs.ScheduleLaws.{known-between}
 use Rattle.refusals.specs.Given.{Among, entryAnswers, carryAnswers, startAnswers, stepAnswers, cancelAnswers, Refuses, recordAt, Unknown}
@@ -55,25 +48,16 @@ module _ (z : Store) (list : List Step) (place : ℕ) where
       n : ℕ
       n = recordAt list place .number
 
-      p : Plan
-      p = planOf z
-
-      s : State
-      s = stateOf z
-
-      calls : (g : Plan → State → Effect) → stepOf (recordAt list place) place p s ≡ g p s → runOutcome z list place ≡ onStore g z
-      calls g e = same-call (stepOf (recordAt list place) place) g z e
-
       go : Dec (n ≡ ENTER) → Dec (n ≡ WITHDRAW) → Dec (n ≡ CARRY) → Dec (n ≡ START) → Dec (n ≡ STEP) → Dec (n ≡ CANCEL) → RunWay z list place
-      go (yes e) b c d f g = enters e (calls (enterStep (recordAt list place .x) (recordAt list place .y)) (does-enter n (recordAt list place .x) (recordAt list place .y) place p s e))
-      go (no a) (yes e) c d f g = withdraws e (calls (withdrawStep (recordAt list place .x)) (does-withdraw n (recordAt list place .x) (recordAt list place .y) place p s e))
-      go (no a) (no b) (yes e) d f g = carries e (calls (carryStep (recordAt list place .x) (recordAt list place .y)) (does-carry n (recordAt list place .x) (recordAt list place .y) place p s e))
-      go (no a) (no b) (no c) (yes e) f g = starts e (calls (startStep (recordAt list place .x)) (does-start n (recordAt list place .x) (recordAt list place .y) place p s e))
-      go (no a) (no b) (no c) (no d) (yes e) g = steps e (calls (stepStep (recordAt list place .x)) (does-step n (recordAt list place .x) (recordAt list place .y) place p s e))
-      go (no a) (no b) (no c) (no d) (no f) (yes e) = cancels e (calls (cancelStep (recordAt list place .x)) (does-cancel n (recordAt list place .x) (recordAt list place .y) place p s e))
+      go (yes e) b c d f g = enters e (does-enter z n (recordAt list place .x) (recordAt list place .y) place e)
+      go (no a) (yes e) c d f g = withdraws e (does-withdraw z n (recordAt list place .x) (recordAt list place .y) place e)
+      go (no a) (no b) (yes e) d f g = carries e (does-carry z n (recordAt list place .x) (recordAt list place .y) place e)
+      go (no a) (no b) (no c) (yes e) f g = starts e (does-start z n (recordAt list place .x) (recordAt list place .y) place e)
+      go (no a) (no b) (no c) (no d) (yes e) g = steps e (does-step z n (recordAt list place .x) (recordAt list place .y) place e)
+      go (no a) (no b) (no c) (no d) (no f) (yes e) = cancels e (does-cancel z n (recordAt list place .x) (recordAt list place .y) place e)
       go (no a) (no b) (no c) (no d) (no f) (no g) =
           unknown (other (bool? (knownStep n)))
-          (calls (λ q t. unknownStep place t) (does-unknown n (recordAt list place .x) (recordAt list place .y) place p s a b c d f g))
+          (does-unknown z n (recordAt list place .x) (recordAt list place .y) place a b c d f g)
         where
           other : (knownStep n ≡ true) ⊎ (knownStep n ≡ false) → knownStep n ≡ false
           other (inl t) = let k = known-between n t in absurd (omega (arith, k .0, k .1))
@@ -100,7 +84,7 @@ module _ (z : Store) (list : List Step) (place : ℕ) where
       go (starts n e) = same-exactly e (start-badstore z (recordAt list place .x))
       go (steps n e) = same-exactly e (step-badstore z (recordAt list place .x))
       go (cancels n e) = same-exactly e (cancel-badstore z (recordAt list place .x))
-      go (unknown n e) = same-exactly e (on-badstore (λ p s. unknownStep place s) z (OP ∷ []) refl refl)
+      go (unknown n e) = same-exactly e (on-badstore (unknownStep place) z (OP ∷ []) refl refl)
 
   unknown-number : Unknown list place → knownStep (recordAt list place .number) ≡ false
   unfolding knownStep
@@ -137,7 +121,7 @@ module _ (z : Store) (list : List Step) (place : ℕ) where
       go (steps n e) = not-op (BADSTORE ∷ stepAnswers) n refl e (step-answers z (recordAt list place .x)) refl
       go (cancels n e) = not-op (BADSTORE ∷ cancelAnswers) n refl e (cancel-answers z (recordAt list place .x)) refl
       go (unknown n e) =
-          same-exactly e (on-exactly (λ p s. unknownStep place s) z OP (λ q. omega arith) λ good. (λ q. unknown-why n, λ u. refl))
+          same-exactly e (on-exactly (unknownStep place) z OP (λ q. omega arith) λ good. (λ q. unknown-why n, λ u. refl))
 
   -- "to the runner its place"
   pub run-op-place : runOutcome z list place .answer .number ≡ OP → runOutcome z list place .answer ≡ answer OP place 0 0 0
@@ -151,7 +135,7 @@ module _ (z : Store) (list : List Step) (place : ℕ) where
       go good f (starts n e) = absurd (not-both (rw n) f)
       go good f (steps n e) = absurd (not-both (rw n) f)
       go good f (cancels n e) = absurd (not-both (rw n) f)
-      go good f (unknown n e) = ap (λ (o : Outcome). o .answer) (e ∙ on-good (λ p s. unknownStep place s) z good)
+      go good f (unknown n e) = ap (λ (o : Outcome). o .answer) (e ∙ on-good (unknownStep place) z good)
 
   -- A refusal leaves the store.
   pub run-refused : 2 ≤ runOutcome z list place .answer .number → runOutcome z list place .store ≡ z
@@ -168,4 +152,4 @@ module _ (z : Store) (list : List Step) (place : ℕ) where
       go (starts n e) = leaves e (start-refused z (recordAt list place .x))
       go (steps n e) = leaves e (step-refused z (recordAt list place .x))
       go (cancels n e) = leaves e (cancel-refused z (recordAt list place .x))
-      go (unknown n e) = λ h. ap (λ (w : Outcome). w .store) e ∙ store-stays (λ p s. unknownStep place s) z refl
+      go (unknown n e) = λ h. ap (λ (w : Outcome). w .store) e ∙ store-stays (unknownStep place) z refl

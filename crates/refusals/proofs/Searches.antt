@@ -15,9 +15,10 @@ use Rattle.store.specs.Copies.{member}
 use Rattle.store.specs.State.{State, slotCount, idle, line, current, idleMark}
 use Rattle.store.specs.Layout.{planOf, stateOf}
 use Rattle.store.specs.StoreRules.{goodStore}
-use Rattle.store.specs.Calls.{Effect, onStore, ofStore}
+use Rattle.store.specs.Calls.{Effect}
 use Rattle.store.proofs.Lifting.{plan-good, state-good}
 use Rattle.steps.specs.Searches.{startStep, ended, stepStep, cancelStep, visitsOn, lookAnswer}
+use Rattle.steps.specs.Promises.{startOutcome, stepOutcome, cancelOutcome, lookOutcome}
 use Rattle.steps.proofs.WaysOut.{StartWay, start-way, RunningWay, Visit, step-way, Freed, cancel-way}
 use Rattle.steps.proofs.WaysOut.StartWay.{all-running, starts}
 use Rattle.steps.proofs.WaysOut.RunningWay.{no-slot, slot-idle, slot-runs}
@@ -45,22 +46,22 @@ start-refuses key p s = go (start-way key p s)
     go (starts i h f g) = λ h. absurd (omega arith)
 
 module _ (z : Store) (key : ℕ) where
-  pub start-badstore : (onStore (startStep key) z .answer .number ≡ BADSTORE) ↔ (goodStore z ≡ false)
+  pub start-badstore : (startOutcome z key .answer .number ≡ BADSTORE) ↔ (goodStore z ≡ false)
   unfolding member
   start-badstore = on-badstore (startStep key) z startAnswers (start-among key (planOf z) (stateOf z)) refl
 
   -- "all 8 running"
-  pub start-slots : (onStore (startStep key) z .answer .number ≡ SLOTS)
+  pub start-slots : (startOutcome z key .answer .number ≡ SLOTS)
       ↔ ((goodStore z ≡ true) × ((i : ℕ) → i < slotCount → getD (z .slots) i idle .running ≢ idleMark))
   unfolding stateOf
   start-slots =
       on-exactly (startStep key) z SLOTS (λ e. omega arith) λ good.
       slots-exactly (planOf z) (plan-good z good) (stateOf z) (state-good z good) key
 
-  pub start-answers : Among (BADSTORE ∷ startAnswers) (onStore (startStep key) z .answer)
+  pub start-answers : Among (BADSTORE ∷ startAnswers) (startOutcome z key .answer)
   start-answers = on-among (startStep key) z startAnswers (start-among key (planOf z) (stateOf z))
 
-  pub start-refused : Refuses z (onStore (startStep key) z)
+  pub start-refused : Refuses z (startOutcome z key)
   start-refused = on-refuses (startStep key) z (start-refuses key (planOf z) (stateOf z))
 
 -- ---- step
@@ -93,28 +94,28 @@ step-refuses slot p s = go (step-way slot p s)
     go (slot-runs h f d) = visit d
 
 module _ (z : Store) (slot : ℕ) where
-  pub step-badstore : (onStore (stepStep slot) z .answer .number ≡ BADSTORE) ↔ (goodStore z ≡ false)
+  pub step-badstore : (stepOutcome z slot .answer .number ≡ BADSTORE) ↔ (goodStore z ≡ false)
   unfolding member
   step-badstore = on-badstore (stepStep slot) z stepAnswers (step-among slot (planOf z) (stateOf z)) refl
 
   -- "slot above 7"
-  pub step-slot : (onStore (stepStep slot) z .answer .number ≡ SLOT) ↔ ((goodStore z ≡ true) × (slotCount ≤ slot))
+  pub step-slot : (stepOutcome z slot .answer .number ≡ SLOT) ↔ ((goodStore z ≡ true) × (slotCount ≤ slot))
   step-slot =
       on-exactly (stepStep slot) z SLOT (λ e. omega arith) λ good.
       step-slot-exactly (planOf z) (plan-good z good) (stateOf z) (state-good z good) slot
 
   -- "slot not running"
-  pub step-idle : (onStore (stepStep slot) z .answer .number ≡ IDLE)
+  pub step-idle : (stepOutcome z slot .answer .number ≡ IDLE)
       ↔ ((goodStore z ≡ true) × ((slot < slotCount) × (getD (z .slots) slot idle .running ≡ idleMark)))
   unfolding stateOf
   step-idle =
       on-exactly (stepStep slot) z IDLE (λ e. omega arith) λ good.
       step-idle-exactly (planOf z) (plan-good z good) (stateOf z) (state-good z good) slot
 
-  pub step-answers : Among (BADSTORE ∷ stepAnswers) (onStore (stepStep slot) z .answer)
+  pub step-answers : Among (BADSTORE ∷ stepAnswers) (stepOutcome z slot .answer)
   step-answers = on-among (stepStep slot) z stepAnswers (step-among slot (planOf z) (stateOf z))
 
-  pub step-refused : Refuses z (onStore (stepStep slot) z)
+  pub step-refused : Refuses z (stepOutcome z slot)
   step-refused = on-refuses (stepStep slot) z (step-refuses slot (planOf z) (stateOf z))
 
 -- ---- cancel
@@ -143,26 +144,26 @@ cancel-refuses slot p s = go (cancel-way slot p s)
     go (slot-runs h f d) = frees d
 
 module _ (z : Store) (slot : ℕ) where
-  pub cancel-badstore : (onStore (cancelStep slot) z .answer .number ≡ BADSTORE) ↔ (goodStore z ≡ false)
+  pub cancel-badstore : (cancelOutcome z slot .answer .number ≡ BADSTORE) ↔ (goodStore z ≡ false)
   unfolding member
   cancel-badstore = on-badstore (cancelStep slot) z cancelAnswers (cancel-among slot (planOf z) (stateOf z)) refl
 
-  pub cancel-slot : (onStore (cancelStep slot) z .answer .number ≡ SLOT) ↔ ((goodStore z ≡ true) × (slotCount ≤ slot))
+  pub cancel-slot : (cancelOutcome z slot .answer .number ≡ SLOT) ↔ ((goodStore z ≡ true) × (slotCount ≤ slot))
   cancel-slot =
       on-exactly (cancelStep slot) z SLOT (λ e. omega arith) λ good.
       cancel-slot-exactly (planOf z) (plan-good z good) (stateOf z) (state-good z good) slot
 
-  pub cancel-idle : (onStore (cancelStep slot) z .answer .number ≡ IDLE)
+  pub cancel-idle : (cancelOutcome z slot .answer .number ≡ IDLE)
       ↔ ((goodStore z ≡ true) × ((slot < slotCount) × (getD (z .slots) slot idle .running ≡ idleMark)))
   unfolding stateOf
   cancel-idle =
       on-exactly (cancelStep slot) z IDLE (λ e. omega arith) λ good.
       cancel-idle-exactly (planOf z) (plan-good z good) (stateOf z) (state-good z good) slot
 
-  pub cancel-answers : Among (BADSTORE ∷ cancelAnswers) (onStore (cancelStep slot) z .answer)
+  pub cancel-answers : Among (BADSTORE ∷ cancelAnswers) (cancelOutcome z slot .answer)
   cancel-answers = on-among (cancelStep slot) z cancelAnswers (cancel-among slot (planOf z) (stateOf z))
 
-  pub cancel-refused : Refuses z (onStore (cancelStep slot) z)
+  pub cancel-refused : Refuses z (cancelOutcome z slot)
   cancel-refused = on-refuses (cancelStep slot) z (cancel-refuses slot (planOf z) (stateOf z))
 
 -- ---- look
@@ -176,9 +177,9 @@ look-done key p s = go (current p s key)
     go (some x) = refl
 
 -- A look has no store or buffer to alter.
-pub look-badstore : (z : Store) (key : ℕ) → (ofStore (lookAnswer key) z .number ≡ BADSTORE) ↔ (goodStore z ≡ false)
+pub look-badstore : (z : Store) (key : ℕ) → (lookOutcome z key .number ≡ BADSTORE) ↔ (goodStore z ≡ false)
 look-badstore z key = of-badstore (lookAnswer key) z (λ e. omega (arith, look-done key (planOf z) (stateOf z)))
 
-pub look-answers : (z : Store) (key : ℕ) → Among (BADSTORE ∷ DONE ∷ []) (ofStore (lookAnswer key) z)
+pub look-answers : (z : Store) (key : ℕ) → Among (BADSTORE ∷ DONE ∷ []) (lookOutcome z key)
 unfolding member
 look-answers z key = of-among (lookAnswer key) z (DONE ∷ []) (rw (look-done key (planOf z) (stateOf z)))

@@ -1,10 +1,9 @@
 // The runner: it does the record at a place of a lent list. Document 01, "Bytes": "The schedule is lent as a list of step records".
 ghost use mathlib.Core.Path.{_≡_};
 ghost use lib.ListN.{getD};
-ghost use Rattle.store.specs.Calls.{onStore};
 ghost use Rattle.store.specs.Workers.{LentSized};
 ghost use Rattle.schedule.specs.Schedule.{stepRecord};
-ghost use Rattle.schedule.specs.Running.{noStep, stepOf};
+ghost use Rattle.schedule.specs.Running.{noStep, recordOutcome};
 ghost use Rattle.schedule.specs.Promises.{Runs};
 ghost use Rattle.runner.specs.Workers.{DoesLent};
 use schedule::Step;
@@ -92,7 +91,7 @@ pub fn do_lent<'a>(
 
 // The same on a store by value: its columns are lent, and put back.
 fn do_step(store: Store, number: u32, x: u32, y: u32, place: usize) -> Outcome
-    ensures { λ r. ⌜ r ≡ onStore (stepOf (stepRecord number x y) place) store ⌝ }
+    ensures { λ r. ⌜ r ≡ recordOutcome store (stepRecord number x y) place ⌝ }
 {
     let plan = store.plan;
     let mut counts = store.counts;

@@ -12,9 +12,7 @@ use Rattle.store.specs.Answers.{OP, answer}
 use Rattle.store.specs.State.{State}
 use Rattle.store.specs.Layout.{freshStore}
 use Rattle.store.specs.Calls.{Effect, onStore}
-use Rattle.steps.specs.Entries.{enterStep, withdrawStep}
-use Rattle.steps.specs.Carries.{carryStep}
-use Rattle.steps.specs.Searches.{startStep, stepStep, cancelStep}
+use Rattle.steps.specs.Promises.{enterOutcome, withdrawOutcome, carryOutcome, startOutcome, stepOutcome, cancelOutcome}
 use Rattle.wire.specs.Reading.{Got, got, fault}
 use Rattle.schedule.specs.declared.Step.{Step}
 use Rattle.schedule.specs.Schedule.{ENTER, WITHDRAW, CARRY, START, STEP, CANCEL, Schedule, stepRecord, scheduleAt}
@@ -24,22 +22,26 @@ abbrev pub noStep : Step
 noStep = stepRecord 0 0 0
 
 -- OP with the place, and the state as it was.
-abbrev pub unknownStep : ℕ → State → Effect
-unknownStep place s = record { answer = answer OP place 0 0 0; after = s }
+abbrev pub unknownStep : ℕ → Plan → State → Effect
+unknownStep place p s = record { answer = answer OP place 0 0 0; after = s }
 
--- The step of a record, "ignoring a step's unused numbers".
-unfoldable pub stepOf : Step → ℕ → Plan → State → Effect
-stepOf r place p s =
-    cond (eqb (r .number) ENTER) (enterStep (r .x) (r .y) p s)
-    (cond (eqb (r .number) WITHDRAW) (withdrawStep (r .x) p s)
-    (cond (eqb (r .number) CARRY) (carryStep (r .x) (r .y) p s)
-    (cond (eqb (r .number) START) (startStep (r .x) p s)
-    (cond (eqb (r .number) STEP) (stepStep (r .x) p s)
-    (cond (eqb (r .number) CANCEL) (cancelStep (r .x) p s) (unknownStep place s))))))
+-- The outcome of an unknown step.
+abbrev pub unknownOutcome : Store → ℕ → Outcome
+unknownOutcome z place = onStore (unknownStep place) z
+
+-- The outcome of a record's step: that of its call, "ignoring a step's unused numbers".
+unfoldable pub recordOutcome : Store → Step → ℕ → Outcome
+recordOutcome z r place =
+    cond (eqb (r .number) ENTER) (enterOutcome z (r .x) (r .y))
+    (cond (eqb (r .number) WITHDRAW) (withdrawOutcome z (r .x))
+    (cond (eqb (r .number) CARRY) (carryOutcome z (r .x) (r .y))
+    (cond (eqb (r .number) START) (startOutcome z (r .x))
+    (cond (eqb (r .number) STEP) (stepOutcome z (r .x))
+    (cond (eqb (r .number) CANCEL) (cancelOutcome z (r .x)) (unknownOutcome z place))))))
 
 -- "The runner does the record at a given place, with BADSTORE before OP".
 unfoldable pub runOutcome : Store → List Step → ℕ → Outcome
-runOutcome z steps place = onStore (stepOf (getD steps place noStep) place) z
+runOutcome z steps place = recordOutcome z (getD steps place noStep) place
 
 -- A printed line: six numbers.
 abbrev pub PrintedLine : Type 0
@@ -53,7 +55,7 @@ printedLine first r = first ∷ r .number ∷ r .a ∷ r .b ∷ r .c ∷ r .d �
 unfoldable pub printedSteps : List Step → Store → List PrintedLine
 printedSteps [] z = []
 printedSteps (x ∷ xs) z =
-    let o = onStore (stepOf x 0) z in
+    let o = recordOutcome z x 0 in
     printedLine (x .number) (o .answer) ∷ printedSteps xs (o .store)
 
 -- "It prints one line first: 0, answer number, step count (or, if refused, the offset), 0 0 0; a refused schedule stops there."

@@ -3,10 +3,6 @@ use mathlib.Core.Path.{sym, _∙_}
 use borrow.Author.Tests.{not-true, not-false}
 use Rattle.store.specs.declared.Store.{Store}
 use Rattle.store.specs.Workers.{ofParts}
-use Rattle.steps.specs.Entries.{enterStep, withdrawStep}
-use Rattle.steps.specs.Carries.{carryStep}
-use Rattle.steps.specs.Searches.{startStep, stepStep, cancelStep}
-use Rattle.schedule.specs.Running.{unknownStep}
 use Rattle.schedule.proofs.StepLaws.{does-enter, does-withdraw, does-carry, does-start, does-step, does-cancel, does-unknown}
 use Rattle.runner.proofs.RunWays.{does-call, unknown-bad, unknown-op}
 use borrow.Author.Needs.{needs}
@@ -28,8 +24,8 @@ of-requires c κs = search needs
 returns : tie.Need-returns
 returns c =
     let a = (c .before .before .before .before .before .before .before .before) .args in
-    does-call (asked (c .before .before .before .before .before .before .before .before)) (a .number) (a .x) (a .y) (a .place) (enterStep (a .x) (a .y)) ((c .of) .ensures)
-    (λ p s. does-enter (a .number) (a .x) (a .y) (a .place) p s ((c .before .before .before .before .before .before .before .if1) .taken)) ((c .before .enter-lent) .ensures)
+    does-call ((c .of) .ensures)
+    (does-enter (asked (c .before .before .before .before .before .before .before .before)) (a .number) (a .x) (a .y) (a .place) ((c .before .before .before .before .before .before .before .if1) .taken)) ((c .before .enter-lent) .ensures)
 
 withdraw-lent-requires : tie.Need-withdraw-lent-requires
 withdraw-lent-requires c κs = search needs
@@ -40,8 +36,8 @@ of-requires-2 c κs = search needs
 returns-2 : tie.Need-returns-2
 returns-2 c =
     let a = (c .before .before .before .before .before .before .before .before .before) .args in
-    does-call (asked (c .before .before .before .before .before .before .before .before .before)) (a .number) (a .x) (a .y) (a .place) (withdrawStep (a .x)) ((c .of2) .ensures)
-    (λ p s. does-withdraw (a .number) (a .x) (a .y) (a .place) p s ((c .before .before .before .before .before .before .before .if2) .taken)) ((c .before .withdraw-lent) .ensures)
+    does-call ((c .of2) .ensures)
+    (does-withdraw (asked (c .before .before .before .before .before .before .before .before .before)) (a .number) (a .x) (a .y) (a .place) ((c .before .before .before .before .before .before .before .if2) .taken)) ((c .before .withdraw-lent) .ensures)
 
 carry-lent-requires : tie.Need-carry-lent-requires
 carry-lent-requires c κs = search needs
@@ -52,8 +48,8 @@ of-requires-3 c κs = search needs
 returns-3 : tie.Need-returns-3
 returns-3 c =
     let a = (c .before .before .before .before .before .before .before .before .before .before) .args in
-    does-call (asked (c .before .before .before .before .before .before .before .before .before .before)) (a .number) (a .x) (a .y) (a .place) (carryStep (a .x) (a .y)) ((c .of3) .ensures)
-    (λ p s. does-carry (a .number) (a .x) (a .y) (a .place) p s ((c .before .before .before .before .before .before .before .if3) .taken)) ((c .before .carry-lent) .ensures)
+    does-call ((c .of3) .ensures)
+    (does-carry (asked (c .before .before .before .before .before .before .before .before .before .before)) (a .number) (a .x) (a .y) (a .place) ((c .before .before .before .before .before .before .before .if3) .taken)) ((c .before .carry-lent) .ensures)
 
 start-lent-requires : tie.Need-start-lent-requires
 start-lent-requires c κs = search needs
@@ -64,8 +60,8 @@ moved-requires c κs = search needs
 returns-4 : tie.Need-returns-4
 returns-4 c =
     let a = (c .before .before .before .before .before .before .before .before .before .before .before) .args in
-    does-call (asked (c .before .before .before .before .before .before .before .before .before .before .before)) (a .number) (a .x) (a .y) (a .place) (startStep (a .x)) ((c .moved) .ensures)
-    (λ p s. does-start (a .number) (a .x) (a .y) (a .place) p s ((c .before .before .before .before .before .before .before .if4) .taken)) ((c .before .start-lent) .ensures)
+    does-call ((c .moved) .ensures)
+    (does-start (asked (c .before .before .before .before .before .before .before .before .before .before .before)) (a .number) (a .x) (a .y) (a .place) ((c .before .before .before .before .before .before .before .if4) .taken)) ((c .before .start-lent) .ensures)
 
 step-lent-requires : tie.Need-step-lent-requires
 step-lent-requires c κs = search needs
@@ -76,8 +72,8 @@ moved-requires-2 c κs = search needs
 returns-5 : tie.Need-returns-5
 returns-5 c =
     let a = (c .before .before .before .before .before .before .before .before .before .before .before .before) .args in
-    does-call (asked (c .before .before .before .before .before .before .before .before .before .before .before .before)) (a .number) (a .x) (a .y) (a .place) (stepStep (a .x)) ((c .moved2) .ensures)
-    (λ p s. does-step (a .number) (a .x) (a .y) (a .place) p s ((c .before .before .before .before .before .before .before .if5) .taken)) ((c .before .step-lent) .ensures)
+    does-call ((c .moved2) .ensures)
+    (does-step (asked (c .before .before .before .before .before .before .before .before .before .before .before .before)) (a .number) (a .x) (a .y) (a .place) ((c .before .before .before .before .before .before .before .if5) .taken)) ((c .before .step-lent) .ensures)
 
 cancel-lent-requires : tie.Need-cancel-lent-requires
 cancel-lent-requires c κs = search needs
@@ -88,8 +84,8 @@ moved-requires-3 c κs = search needs
 returns-6 : tie.Need-returns-6
 returns-6 c =
     let a = (c .before .before .before .before .before .before .before .before .before .before .before .before .before) .args in
-    does-call (asked (c .before .before .before .before .before .before .before .before .before .before .before .before .before)) (a .number) (a .x) (a .y) (a .place) (cancelStep (a .x)) ((c .moved3) .ensures)
-    (λ p s. does-cancel (a .number) (a .x) (a .y) (a .place) p s ((c .before .before .before .before .before .before .before .if6) .taken)) ((c .before .cancel-lent) .ensures)
+    does-call ((c .moved3) .ensures)
+    (does-cancel (asked (c .before .before .before .before .before .before .before .before .before .before .before .before .before)) (a .number) (a .x) (a .y) (a .place) ((c .before .before .before .before .before .before .before .if6) .taken)) ((c .before .cancel-lent) .ensures)
 
 good-requires : tie.Need-good-requires
 good-requires c κs = search needs
@@ -103,8 +99,8 @@ of-requires-4 c κs = search needs
 returns-7 : tie.Need-returns-7
 returns-7 c =
     let a = (c .before .before .before .before .before .before .before .before .before .before .before .before .before .before .before) .args in
-    does-call (asked (c .before .before .before .before .before .before .before .before .before .before .before .before .before .before .before)) (a .number) (a .x) (a .y) (a .place) (λ p s. unknownStep (a .place) s) ((c .of4) .ensures)
-    (λ p s. does-unknown (a .number) (a .x) (a .y) (a .place) p s ((c .before .before .before .before .before .before .before .before .before .before .before .before .before .before .if1) .left) ((c .before .before .before .before .before .before .before .before .before .before .before .before .before .if2) .left) ((c .before .before .before .before .before .before .before .before .before .before .before .before .if3) .left) ((c .before .before .before .before .before .before .before .before .before .before .before .if4) .left) ((c .before .before .before .before .before .before .before .before .before .before .if5) .left) ((c .before .before .before .before .before .before .before .before .before .if6) .left))
+    does-call ((c .of4) .ensures)
+    (does-unknown (asked (c .before .before .before .before .before .before .before .before .before .before .before .before .before .before .before)) (a .number) (a .x) (a .y) (a .place) ((c .before .before .before .before .before .before .before .before .before .before .before .before .before .before .if1) .left) ((c .before .before .before .before .before .before .before .before .before .before .before .before .before .if2) .left) ((c .before .before .before .before .before .before .before .before .before .before .before .before .if3) .left) ((c .before .before .before .before .before .before .before .before .before .before .before .if4) .left) ((c .before .before .before .before .before .before .before .before .before .before .if5) .left) ((c .before .before .before .before .before .before .before .before .before .if6) .left))
     (unknown-bad (asked (c .before .before .before .before .before .before .before .before .before .before .before .before .before .before .before)) (a .place) (sym ((c .before .before .before .good2) .ensures) ∙ not-true ((c .before .before .before .good2) .result) ((c .before .before .if7) .taken)) ((c .before .bare) .ensures))
 
 of-requires-5 : tie.Need-of-requires-5
@@ -116,8 +112,8 @@ of-requires-6 c κs = search needs
 returns-8 : tie.Need-returns-8
 returns-8 c =
     let a = (c .before .before .before .before .before .before .before .before .before .before .before .before .before .before .before) .args in
-    does-call (asked (c .before .before .before .before .before .before .before .before .before .before .before .before .before .before .before)) (a .number) (a .x) (a .y) (a .place) (λ p s. unknownStep (a .place) s) ((c .of6) .ensures)
-    (λ p s. does-unknown (a .number) (a .x) (a .y) (a .place) p s ((c .before .before .before .before .before .before .before .before .before .before .before .before .before .before .if1) .left) ((c .before .before .before .before .before .before .before .before .before .before .before .before .before .if2) .left) ((c .before .before .before .before .before .before .before .before .before .before .before .before .if3) .left) ((c .before .before .before .before .before .before .before .before .before .before .before .if4) .left) ((c .before .before .before .before .before .before .before .before .before .before .if5) .left) ((c .before .before .before .before .before .before .before .before .before .if6) .left))
+    does-call ((c .of6) .ensures)
+    (does-unknown (asked (c .before .before .before .before .before .before .before .before .before .before .before .before .before .before .before)) (a .number) (a .x) (a .y) (a .place) ((c .before .before .before .before .before .before .before .before .before .before .before .before .before .before .if1) .left) ((c .before .before .before .before .before .before .before .before .before .before .before .before .before .if2) .left) ((c .before .before .before .before .before .before .before .before .before .before .before .before .if3) .left) ((c .before .before .before .before .before .before .before .before .before .before .before .if4) .left) ((c .before .before .before .before .before .before .before .before .before .before .if5) .left) ((c .before .before .before .before .before .before .before .before .before .if6) .left))
     (unknown-op (asked (c .before .before .before .before .before .before .before .before .before .before .before .before .before .before .before)) (a .place) (sym ((c .before .before .before .good2) .ensures) ∙ not-false ((c .before .before .before .good2) .result) ((c .before .before .if7) .left)) ((c .before .of5) .ensures))
 
 pub do-lent-spec : {M : Type 1} → statement M

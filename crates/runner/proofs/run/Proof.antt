@@ -36,9 +36,8 @@ use denote.Triple.Table.{entered, cited}
 use denote.Triple.Walked.{says, Stays, stay-none-slice, stay-none, walkOf, goes-none-slice, goes-none, Walks, ends-at, walked, walk-meets}
 use denote.Exit.{yes}
 use denote.Triple.Clauses.{ensured, lasts}
-use Rattle.store.specs.Calls.{onStore}
 use Rattle.schedule.specs.Schedule.{stepRecord}
-use Rattle.schedule.specs.Running.{noStep, stepOf}
+use Rattle.schedule.specs.Running.{noStep, recordOutcome}
 use Rattle.runner.proofs.RunWays.{runs-record}
 use Rattle.schedule.specs.declared.Step.{Step}
 use Rattle.store.specs.declared.Store.{Store}
@@ -98,7 +97,7 @@ module _ {M : Type 1} (𝓤 : URA M) (H : Heap 𝓤) (A : Atoms 𝓤) (W : Given
   x = (st, (s, (i, tt)))
 
   abbrev does : Step → Outcome
-  does r = onStore (stepOf (stepRecord (r .number) (r .x) (r .y)) i) st
+  does r = recordOutcome st (stepRecord (r .number) (r .x) (r .y)) i
 
   abbrev Post : Val → SProp 𝓤
   Post = walkOf 𝓤 H A run′.ended stayed (run′.clauses 𝓤 H A mem run) .post (((κ, tt), (q, tt), tt, x, at), tt)
