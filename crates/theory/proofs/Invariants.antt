@@ -8,7 +8,6 @@ use mathlib.Core.List.{
   _∷_,
   _++_,
   flatten,
-  append-nil,
   append-assoc,
   List·Memᴰ,
   List·Memᴰ·head,
@@ -456,13 +455,3 @@ module _ (p : Plan) (rules : PlanRules p) where
         reach-increases s good e n k h,
         reach-increases-all es (after p e s) (event-keeps p rules e s good) n k h,
       )
-
-  -- Where nothing is entered, no line's current result changes.
-  pub currents-stay : (es : List Event) (s : State) → StateRules p s → enteredCopies p es s ≡ [] → (k : ℕ)
-      → current p (stateAfterAll p es s) k ≡ current p s k
-  currents-stay es s good e k =
-      let c : Multicopy p (stateAfterAll p es s) (InHistory (held s)) =
-      subst (λ (h : History). Multicopy p (stateAfterAll p es s) (InHistory h)) (ap (λ (xs : List Copy). held s ++ xs) e ∙ append-nil (held s))
-      (multicopy es s good) in
-      logical-one (InHistory (held s)) k (current p (stateAfterAll p es s) k) (current p s k) (c .h-unique) (c .invariant-1 k)
-      (multicopy-held s good .invariant-1 k)
