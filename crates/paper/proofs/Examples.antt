@@ -9,7 +9,7 @@ use Rattle.plan.specs.Plan.{holds, firstEdge, next, walk, pathFrom, path}
 use Rattle.plan.specs.PlanRules.{PlanRules}
 use Rattle.plan_table.specs.PlanTable.{planTable, plans, planNumbered}
 use Rattle.plan_table.proofs.TableLaws.{table-rules}
-use Rattle.store.specs.Copies.{RESULT, copy, find, member}
+use Rattle.store.specs.Copies.{RESULT, hasValue, copy, find, member}
 use Rattle.store.specs.Copies.Kind.{result}
 use Rattle.store.specs.State.{fresh, firstOn, inReach}
 use Rattle.store.proofs.Lifting.{fresh-rules}
@@ -27,7 +27,7 @@ use Rattle.paper.proofs.Cuts.{inset-member}
 
 -- Whoever unfolds this unfolds all definitions that the examples are about.
 opened : Bool
-unfolding planNumbered planTable flatten holds firstEdge next walk pathFrom find member fresh firstOn inReach put room entered entry carries merge countHeld mergeAlong carriedTo carriedOut carryStep lowestIdle startStep withRunning stepStep effect stateAfterAll entryOf enteredCopies held copiesOf entries carriesLine summed intoNode discardsLine replacesLine carryAnswer
+unfolding planNumbered planTable hasValue flatten holds firstEdge next walk pathFrom find member fresh firstOn inReach put room entered entry carries merge countHeld mergeAlong carriedTo carriedOut carryStep lowestIdle startStep withRunning stepStep effect stateAfterAll entryOf enteredCopies held copiesOf entries carriesLine summed intoNode discardsLine replacesLine carryAnswer
 opened = true
 
 meeting-rules : PlanRules meeting

@@ -103,7 +103,7 @@ module _ (p : Plan) (rules : PlanRules p) (s : State) (t₀ : ℕ) (H₀ : CopyS
 pub running-slot : (p : Plan) (s : State) → StateRules p s → (i : ℕ) → slotAt s i .running ≢ idleMark
     → slotAt s i ≡ running (slotAt s i .key) (slotAt s i .node) (slotAt s i .visits)
 running-slot p s good i r =
-    let there : i < slotCount = omega (arith, slot-there s i r, good .slots-within) in
+    let there : i < slotCount = omega (arith, slot-there s i r, good .slots-long) in
     let one : slotAt s i .running ≡ runningMark = good .running-searches-on-their-paths i there r .0 in
     λ j. record { running = one j; key = slotAt s i .key; node = slotAt s i .node; visits = slotAt s i .visits }
 
