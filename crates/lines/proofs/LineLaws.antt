@@ -44,14 +44,14 @@ unfolding printedText
 wrote-line v w ws p q = rw append-assoc at (wrote-join p q)
 
 -- Six numbers, each with the byte after it.
-pub line-printed : (first : ℕ) (x : Answer) {b b₁ b₂ b₃ b₄ b₅ b₆ : List ℕ} {i₁ i₂ i₃ i₄ i₅ i₆ : ℕ}
-    → Wrote b 0 (decimal first ++ SPACE ∷ []) i₁ b₁
+pub line-printed : (first : ℕ) (x : Answer) {b b₁ b₂ b₃ b₄ b₅ b₆ : List ℕ} {at i₁ i₂ i₃ i₄ i₅ i₆ : ℕ}
+    → Wrote b at (decimal first ++ SPACE ∷ []) i₁ b₁
     → Wrote b₁ i₁ (decimal (x .number) ++ SPACE ∷ []) i₂ b₂
     → Wrote b₂ i₂ (decimal (x .a) ++ SPACE ∷ []) i₃ b₃
     → Wrote b₃ i₃ (decimal (x .b) ++ SPACE ∷ []) i₄ b₄
     → Wrote b₄ i₄ (decimal (x .c) ++ SPACE ∷ []) i₅ b₅
     → Wrote b₅ i₅ (decimal (x .d) ++ FEED ∷ []) i₆ b₆
-    → Wrote b 0 (answerText first x) i₆ b₆
+    → Wrote b at (answerText first x) i₆ b₆
 unfolding printedText
 line-printed first x p₁ p₂ p₃ p₄ p₅ p₆ =
     wrote-line first (x .number) (x .a ∷ x .b ∷ x .c ∷ x .d ∷ []) p₁

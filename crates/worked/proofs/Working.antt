@@ -24,6 +24,7 @@ use Rattle.store.specs.StoreRules.{
   goodStore,
 }
 use Rattle.store.specs.Calls.{onStore, ofStore}
+use Rattle.store.specs.Promises.{freshOutcome}
 use Rattle.steps.specs.Entries.{put, room, entered, entry}
 use Rattle.steps.specs.Carries.{carries, merge, countHeld, mergeAlong, carriedTo, carriedOut, carryStep}
 use Rattle.steps.specs.Searches.{lowestIdle, startStep, withRunning, stepStep, cancelStep, visitsOn, lookAnswer}
@@ -33,19 +34,33 @@ use Rattle.copies.specs.CopyBytes.{valueBytes, copyBytes}
 use Rattle.image_writing.specs.Image.{copiesBytes, nodeBytes, nodesBytes, imageOf}
 use Rattle.image_reading.specs.ImageReading.{imageAt}
 use Rattle.image_loading.specs.Loading.{finished, loadOutcome}
-use Rattle.image.specs.Promises.{saveBuffer}
+use Rattle.image.specs.Promises.{saveAnswer, saveBuffer}
 use Rattle.page_lines.specs.PageLine.{pageLinesFrom}
 use Rattle.page.specs.PageBytes.{pageLineBytes, pageLinesBytes, pageBytes}
 use Rattle.page.specs.Promises.{pageAnswer, pageBuffer}
-use Rattle.schedule.specs.Schedule.{knownStep, hasTwo, secondAt, stepAt, stepsAt, scheduleAt}
-use Rattle.schedule.specs.Running.{stepOf, printedSteps, printedSchedule}
-use Rattle.worked.specs.Worked.{answersOf, storeAfterSteps, storeAfterInput, Worked}
+use Rattle.schedule.specs.Schedule.{knownStep, hasTwo, secondAt, stepAt, stepsAt, scheduleAt, decodeAnswer, decodeList}
+use Rattle.schedule.specs.Running.{stepOf, runOutcome}
+use Rattle.lines.specs.Text.{digitsIn, decimal, printedText}
+use Rattle.transcript.specs.Transcript.{stepsText, decodedText, scheduleText}
+use Rattle.worked.specs.Worked.{characters, storeAfter, storeAfterInput, storeOfEight, Worked}
 
 -- Whoever unfolds this unfolds all definitions that the table is about.
 opened : Bool
-unfolding tabulate allFrom formIn form readLast putBelow readIn readAt holds firstEdge next walk pathFrom planTable plans planNumbered find member different fresh firstOn inReach nodeIn planOf stateOf column storeOf freshStore shapeTest planNumberTest clockTest hasValue kindTest copyTest placeTest allZero unusedTest nodeTest stampsFrom standsAt slotTest goodStore onStore ofStore put room entered entry carries merge countHeld mergeAlong carriedTo carriedOut carryStep lowestIdle startStep withRunning stepStep cancelStep visitsOn lookAnswer bind numbered numberAt writtenAnswer writtenBuffer valueBytes copyBytes copiesBytes nodeBytes nodesBytes imageOf imageAt finished loadOutcome saveBuffer pageLinesFrom pageLineBytes pageLinesBytes pageBytes pageAnswer pageBuffer knownStep hasTwo secondAt stepAt stepsAt scheduleAt stepOf printedSteps printedSchedule answersOf storeAfterSteps storeAfterInput
+unfolding tabulate allFrom formIn form readLast putBelow readIn readAt holds firstEdge next walk pathFrom planTable plans planNumbered find member different fresh firstOn inReach nodeIn planOf stateOf column storeOf freshStore shapeTest planNumberTest clockTest hasValue kindTest copyTest placeTest allZero unusedTest nodeTest stampsFrom standsAt slotTest goodStore onStore ofStore freshOutcome put room entered entry carries merge countHeld mergeAlong carriedTo carriedOut carryStep lowestIdle startStep withRunning stepStep cancelStep visitsOn lookAnswer bind numbered numberAt writtenAnswer writtenBuffer valueBytes copyBytes copiesBytes nodeBytes nodesBytes imageOf imageAt finished loadOutcome saveAnswer saveBuffer pageLinesFrom pageLineBytes pageLinesBytes pageBytes pageAnswer pageBuffer knownStep hasTwo secondAt stepAt stepsAt scheduleAt decodeAnswer decodeList stepOf runOutcome digitsIn decimal printedText stepsText decodedText scheduleText characters storeAfter storeAfterInput storeOfEight
 opened = true
 
 pub worked : Worked
 unfolding opened
-worked = record { p1 = refl; p2 = refl; p3 = refl; p4 = refl; p5 = refl; p6 = refl; p7 = refl; p8 = refl; p9 = refl; p10 = refl }
+worked =
+    record {
+      p1 = refl;
+      p2 = (refl, refl);
+      p3 = (refl, refl);
+      p4 = refl;
+      p5 = (refl, λ r e. rw e);
+      p6 = λ r e. (rw e, rw e);
+      p7 = λ a b c d e f. rw (f, e, d);
+      p8 = refl;
+      p9 = (refl, refl, refl, refl);
+      p10 = λ buffer. (refl, refl);
+    }
