@@ -14,18 +14,20 @@ struct Input {
 fn read_input(buffer: &mut [u8]) -> Input
     ensures { λ r. ⌜ Counts (r .length) (now (buffer .exit)) ⌝ }
 {
-    let mut length = 0;
-    while length < buffer.len() {
-        let got = libc::read(STDIN_FILENO, &mut buffer[length..]);
-        let more = io::count(got, &buffer[length..]);
+    let mut n = 0;
+    while n < buffer.len() {
+        let got = libc::read(STDIN_FILENO, &mut buffer[n..]);
+        let more = io::count(got, &buffer[n..]);
         if more == 0 {
-            let failed = got < 0;
-            return Input { length, failed };
+            return Input {
+                length: n,
+                failed: got < 0,
+            };
         }
-        length += more;
+        n += more;
     }
     Input {
-        length,
+        length: n,
         failed: false,
     }
 }

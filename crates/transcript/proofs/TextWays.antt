@@ -1,9 +1,9 @@
--- What transcribe learns of decode's answer, and its way out. Assumes nothing.
+-- What transcribe learns of decode's answer, its way out, and what its caller learns. Assumes nothing.
 use mathlib.Core.Path.{_≡_, refl, ap₂, _∙_}
 use mathlib.Core.List.{List}
 use Prim.Native.Nat.{ℕ, _≤_}
 use native.Mathlib.Omega.{arith}
-use lib.ListN.{length}
+use lib.ListN.{length, length-append}
 use Rattle.lists.specs.Stands.{Wrote}
 use Rattle.number.specs.Number.{Bytes}
 use Rattle.store.specs.declared.Answer.{Answer}
@@ -43,3 +43,7 @@ transcribed bytes before {x} {steps} {n} {after} room d w =
     let v : Wrote before 0 (scheduleText bytes) n after = rw t at (w .0) in
     let fits : length (scheduleText bytes) ≤ length before = omega (arith, wrote-end v, w .1) in
     (wrote-end v, done-wrote (scheduleText bytes) before fits v ∙ done-buffer (scheduleText bytes) before fits)
+
+-- The text lies within its buffer: for a program that passes it on.
+pub text-within : (bytes before : List ℕ) {n : ℕ} {after : List ℕ} → Transcribes bytes before n after → n ≤ length after
+text-within bytes before t = rw (t .0, t .1, length-append) (omega arith)
