@@ -61,10 +61,6 @@ lateStore = storeOf 1 (record { clock = 4294967294; nodes = replicate 4 []; slot
 abbrev pub done : ℕ → Answer
 done a = answer DONE a 0 0 0
 
--- A refusal that names no number leaves the store as it was.
-abbrev pub refused : ℕ → Store → Outcome
-refused number z = record { answer = bare number; store = z }
-
 -- Each outcome that a promise allows has this answer.
 abbrev pub Answers : (Outcome → Type 0) → Answer → Type 0
 Answers Allowed a = (r : Outcome) → Allowed r → r .answer ≡ a
@@ -82,9 +78,9 @@ pub record Worked : Type 0 where
   -- "(P4) Empty image: CUT, a 0."
   pub p4 : Loads [] (record { answer = answer CUT 0 0 0 0; store = refusedStore })
   -- "(P5) Eight keys in a fresh root, a ninth: FULL; one of the eight again: DONE, stamp 9."
-  pub p5 : Enters storeOfEight 90 1 (refused FULL storeOfEight) × Answers (Enters storeOfEight 30 2) (done 9)
+  pub p5 : Answers (Enters storeOfEight 90 1) (bare FULL) × Answers (Enters storeOfEight 30 2) (done 9)
   -- "(P6) Clock 4294967294: entry done; the next: CLOCK."
-  pub p6 : (r : Outcome) → Enters lateStore 33 180 r → (r .answer ≡ done 4294967294) × Enters (r .store) 33 180 (refused CLOCK (r .store))
+  pub p6 : (r : Outcome) → Enters lateStore 33 180 r → (r .answer ≡ done 4294967294) × Answers (Enters (r .store) 33 180) (bare CLOCK)
   -- "(P7) Fresh plan 1: enter, carry 0 0, withdraw one line: look gives 1, 0, 2, 1."
   pub p7 : (a b c : Outcome) → Enters (freshStore 1) 33 180 a → Carries (a .store) 0 0 b → Withdraws (b .store) 33 c
       → Looks (c .store) 33 (answer DONE 1 0 2 1)
@@ -92,7 +88,7 @@ pub record Worked : Type 0 where
   pub p8 : Looks (freshStore 2) 33 (answer DONE 0 0 0 2)
   -- "(P9) Slot 7 idle: IDLE; slot 8: SLOT." Of step, and of cancel.
   pub p9 :
-      Steps (freshStore 1) 7 (refused IDLE (freshStore 1)) × Steps (freshStore 1) 8 (refused SLOT (freshStore 1))
-      × Cancels (freshStore 1) 7 (refused IDLE (freshStore 1)) × Cancels (freshStore 1) 8 (refused SLOT (freshStore 1))
+      Answers (Steps (freshStore 1) 7) (bare IDLE) × Answers (Steps (freshStore 1) 8) (bare SLOT)
+      × Answers (Cancels (freshStore 1) 7) (bare IDLE) × Answers (Cancels (freshStore 1) 8) (bare SLOT)
   -- "(P10) Sample 134217728: SAMPLE."
   pub p10 : (buffer : List ℕ) → Pages (freshStore 1) 134217728 buffer (bare SAMPLE) buffer
