@@ -5,9 +5,10 @@ use Prim.Native.Nat.{ℕ, _+_, _/_, _%_, _^_, _<_, _≤_}
 use native.Mathlib.Omega.{arith}
 use lib.ListN.{length, set, length-append}
 use Rattle.lists.specs.Stands.{Wrote}
-use Rattle.lists.proofs.Standing.{wrote-nil, wrote-cons, wrote-join}
+use Rattle.lists.proofs.Standing.{wrote-nil, wrote-cons, wrote-join, wrote-length}
 use Rattle.store.specs.declared.Answer.{Answer}
-use Rattle.lines.specs.Text.{digit, SPACE, FEED, decimal, printedText, answerText}
+use Rattle.lines.specs.Text.{digit, SPACE, FEED, decimal, printedText, answerText, mostText}
+use Rattle.lines.specs.Promises.{Prints}
 use Rattle.lines.proofs.DecimalLaws.{decimal-one, decimal-more, decimal-few}
 
 -- One byte more.
@@ -57,3 +58,8 @@ line-printed first x p₁ p₂ p₃ p₄ p₅ p₆ =
     wrote-line first (x .number) (x .a ∷ x .b ∷ x .c ∷ x .d ∷ []) p₁
     (wrote-line (x .number) (x .a) (x .b ∷ x .c ∷ x .d ∷ []) p₂
     (wrote-line (x .a) (x .b) (x .c ∷ x .d ∷ []) p₃ (wrote-line (x .b) (x .c) (x .d ∷ []) p₄ (wrote-line (x .c) (x .d) [] p₅ p₆))))
+
+-- A printed line lies within its buffer: for a program that passes it on.
+pub line-within : (first : ℕ) (x : Answer) {before after : List ℕ} {at next : ℕ} → Prints before at first x next after
+    → at + mostText ≤ length before → next ≤ length after
+line-within first x p fits = omega (arith, p .1, wrote-length (p .0))

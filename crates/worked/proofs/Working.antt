@@ -46,11 +46,11 @@ use Rattle.schedule.specs.Schedule.{knownStep, hasTwo, secondAt, stepAt, stepsA
 use Rattle.schedule.specs.Running.{stepOf, runOutcome}
 use Rattle.lines.specs.Text.{digitsIn, decimal, printedText}
 use Rattle.transcript.specs.Transcript.{stepsText, decodedText, scheduleText}
-use Rattle.worked.specs.Worked.{characters, storeAfter, storeAfterInput, storeOfEight, Worked}
+use Rattle.worked.specs.Worked.{characters, storeAfterSteps, storeAfterInput, storeOfEight, Worked}
 
 -- Whoever unfolds this unfolds all definitions that the table is about.
 opened : Bool
-unfolding tabulate allFrom formIn form readLast putBelow readIn readAt holds firstEdge next walk pathFrom planTable plans planNumbered find member different fresh firstOn inReach nodeIn planOf stateOf column storeOf freshStore shapeTest planNumberTest clockTest hasValue kindTest copyTest placeTest allZero unusedTest nodeTest stampsFrom standsAt slotTest goodStore onStore ofStore freshOutcome put room entered entry carries merge countHeld mergeAlong carriedTo carriedOut carryStep lowestIdle startStep withRunning stepStep cancelStep visitsOn lookAnswer bind numbered numberAt writtenAnswer writtenBuffer valueBytes copyBytes copiesBytes nodeBytes nodesBytes imageOf imageAt finished loadOutcome saveAnswer saveBuffer pageLinesFrom pageLineBytes pageLinesBytes pageBytes pageAnswer pageBuffer knownStep hasTwo secondAt stepAt stepsAt scheduleAt decodeAnswer decodeList stepOf runOutcome digitsIn decimal printedText stepsText decodedText scheduleText characters storeAfter storeAfterInput storeOfEight
+unfolding tabulate allFrom formIn form readLast putBelow readIn readAt holds firstEdge next walk pathFrom planTable plans planNumbered find member different fresh firstOn inReach nodeIn planOf stateOf column storeOf freshStore shapeTest planNumberTest clockTest hasValue kindTest copyTest placeTest allZero unusedTest nodeTest stampsFrom standsAt slotTest goodStore onStore ofStore freshOutcome put room entered entry carries merge countHeld mergeAlong carriedTo carriedOut carryStep lowestIdle startStep withRunning stepStep cancelStep visitsOn lookAnswer bind numbered numberAt writtenAnswer writtenBuffer valueBytes copyBytes copiesBytes nodeBytes nodesBytes imageOf imageAt finished loadOutcome saveAnswer saveBuffer pageLinesFrom pageLineBytes pageLinesBytes pageBytes pageAnswer pageBuffer knownStep hasTwo secondAt stepAt stepsAt scheduleAt decodeAnswer decodeList stepOf runOutcome digitsIn decimal printedText stepsText decodedText scheduleText characters storeAfterSteps storeAfterInput storeOfEight
 opened = true
 
 -- The answer of an outcome that is known.

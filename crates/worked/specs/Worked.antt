@@ -25,9 +25,9 @@ characters text.[] = []
 characters (text._∷_ c s) = code c ∷ characters s
 
 -- The store after the record at a place of a list and so many after it.
-unfoldable pub storeAfter : List Step → Store → ℕ → ℕ → Store
-storeAfter steps z place zero = z
-storeAfter steps z place (suc more) = storeAfter steps (runOutcome z steps place .store) (suc place) more
+unfoldable pub storeAfterSteps : List Step → Store → ℕ → ℕ → Store
+storeAfterSteps steps z place zero = z
+storeAfterSteps steps z place (suc more) = storeAfterSteps steps (runOutcome z steps place .store) (suc place) more
 
 -- "Input: 01 01 21 B4 01 03 00 00 04 21 05 00 01 21 D2 01 03 00 00 05 00 05 00"
 abbrev pub input : List ℕ
@@ -41,7 +41,7 @@ printed = "0 0 8 0 0 0\n1 0 1 0 0 0\n3 0 1 0 0 0\n4 0 0 0 0 0\n5 1 1 1 0 0\n1 0 
 
 -- The store after its eight steps.
 unfoldable pub storeAfterInput : Store
-storeAfterInput = storeAfter (decodeList input noSteps) (freshStore 1) 0 8
+storeAfterInput = storeAfterSteps (decodeList input noSteps) (freshStore 1) 0 8
 
 -- Entries of eight keys.
 abbrev pub eightKeys : List Step
@@ -51,7 +51,7 @@ eightKeys =
 
 -- A fresh store of plan 1 with these in its root.
 unfoldable pub storeOfEight : Store
-storeOfEight = storeAfter eightKeys (freshStore 1) 0 (length eightKeys)
+storeOfEight = storeAfterSteps eightKeys (freshStore 1) 0 (length eightKeys)
 
 -- A store with nothing held and the clock one below its last value.
 abbrev pub lateStore : Store
