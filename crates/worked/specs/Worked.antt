@@ -11,11 +11,12 @@ use Rattle.store.specs.declared.Store.{Store}
 use Rattle.store.specs.Answers.{DONE, CLOCK, FULL, SLOT, IDLE, SAMPLE, CUT, answer, bare}
 use Rattle.store.specs.State.{slotCount, idle}
 use Rattle.store.specs.Layout.{storeOf, freshStore, refusedStore}
+use Rattle.store.specs.Promises.{freshOutcome}
 use Rattle.steps.specs.Promises.{Enters, Withdraws, Carries, Steps, Cancels, Looks}
 use Rattle.image.specs.Promises.{Saves, Loads}
 use Rattle.page.specs.Promises.{Pages}
 use Rattle.schedule.specs.declared.Step.{Step}
-use Rattle.schedule.specs.Schedule.{ENTER, stepRecord, decodeList}
+use Rattle.schedule.specs.Schedule.{ENTER, stepRecord, decodeAnswer, decodeList}
 use Rattle.schedule.specs.Running.{noSteps, runOutcome}
 use Rattle.transcript.specs.Transcript.{scheduleText}
 
@@ -39,9 +40,11 @@ input =
 abbrev pub printed : text.String
 printed = "0 0 8 0 0 0\n1 0 1 0 0 0\n3 0 1 0 0 0\n4 0 0 0 0 0\n5 1 1 1 0 0\n1 0 2 0 0 0\n3 0 1 1 0 0\n5 0 2 210 2 2\n5 10 0 0 0 0\n"
 
--- The store after its eight steps.
+-- The store after its steps. Decode's a is the step count, its b the plan.
 unfoldable pub storeAfterInput : Store
-storeAfterInput = storeAfterSteps (decodeList input noSteps) (freshStore 1) 0 8
+storeAfterInput =
+    let r = decodeAnswer input noSteps in
+    storeAfterSteps (decodeList input noSteps) (freshOutcome (r .b) .store) 0 (r .a)
 
 -- Entries of eight keys.
 abbrev pub eightKeys : List Step
