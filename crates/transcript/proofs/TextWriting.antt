@@ -1,4 +1,4 @@
--- A text's lines written one after another: each turn and each way out. Assumes nothing.
+-- Printed lines written one after another: each turn and each way out. Assumes nothing.
 use mathlib.Core.Path.{_≡_, refl, _∙_}
 use mathlib.Core.List.{List, [], _++_, append-nil}
 use Prim.Native.Nat.{ℕ, suc, _+_, _-_, _*_, _<_, _≤_}
@@ -22,7 +22,7 @@ use Rattle.transcript.specs.Transcript.{firstText, stepsText, decodedTex
 
 -- ---- write_steps
 
--- The lines of so many steps were written, and once those of the others are, all were.
+-- The printed lines of so many steps were written, and once those of the others are, all were.
 pub record WritingSteps (steps : List Step) (n : ℕ) (first : Store) (before : List ℕ) (from : ℕ) (out : List ℕ) (at : ℕ) (z : Store) (place : ℕ)
     : Type 0 where
   pub within : place ≤ n
@@ -49,7 +49,7 @@ module _ (steps : List Step) (n : ℕ) where
 
   module _ {first : Store} {before : List ℕ} {from : ℕ} {out : List ℕ} {at : ℕ} {z : Store} {place : ℕ}
       (k : WritingSteps steps n first before from out at z place) where
-    -- A turn has room for its line, and writes it.
+    -- A turn has room for its printed line, and writes it.
     pub step-fits : place < n → from + mostText * n ≤ length before → at + mostText ≤ length out
     step-fits h room = omega (arith, k .kept, k .few)
 
@@ -80,7 +80,7 @@ module _ (x : Answer) (steps : List Step) {y : Answer} {before : List ℕ} {mid 
   unfolding decodedText
   refused-wrote h = (rw (ne-eqb (x .number) DONE h, append-nil) first-wrote, omega (arith, p .1))
 
-  -- An accepted one has room for its steps' lines, and goes on with them.
+  -- An accepted one has room for the printed lines of its steps, and goes on with them.
   pub steps-room : x .a ≤ mostSteps → mostTranscript ≤ length before → mid + mostText * x .a ≤ length out
   steps-room few room = omega (arith, p .1, wrote-length (p .0))
 
