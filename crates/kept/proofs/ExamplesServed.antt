@@ -100,7 +100,7 @@ unfolding opened
 shown = refl
 
 entered-once-more : enteredBy (eventOf (entering 180)) z ≡ some (copy lineKey RESULT 180 2)
-unfolding opened enteredBy eventOf onEvent effect
+unfolding opened enteredBy eventOf onEvent
 entered-once-more = refl
 
 -- So whatever is called after it, the page of 180 is never served again.

@@ -21,7 +21,7 @@ use Rattle.theory.specs.Paper.{Contents, CopySet, withCopies, InHistory, upsert
 use Rattle.paper.specs.Specifications.{MCS}
 use Rattle.calls.specs.PublicCalls.{Call, storeAfter, answerTo, storeAfterAll}
 use Rattle.calls.specs.PublicCalls.Call.{reads}
-use Rattle.calls.specs.PublicCalls.Reading.{look}
+use Rattle.calls.specs.PublicCalls.ReadOnly.{look}
 use Rattle.calls.specs.Following.{eventsOf, sameStore, history}
 use Rattle.calls.specs.Recent.{currentIn, reachStamp, atEnd, StoreRecency}
 
