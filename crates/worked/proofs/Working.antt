@@ -67,8 +67,8 @@ look-in : {r o : Outcome} {x : Answer} (key : ℕ) → r ≡ o → Looks (o .sto
 look-in key e h = h ∙ ap (λ (q : Outcome). ofStore (lookAnswer key) (q .store)) (sym e)
 
 -- What holds of the fresh store holds of each that the promise allows.
-of-fresh : {plan : ℕ} (Holds : Store → Type 0) → Holds (freshOutcome plan .store) → OfFresh plan Holds
-of-fresh Holds h f e = subst (λ (o : Outcome). Holds (o .store)) (sym e) h
+of-fresh : (plan : ℕ) (Holds : Store → Type 0) → Holds (freshOutcome plan .store) → OfFresh plan Holds
+of-fresh plan Holds h f e = subst (λ (o : Outcome). Holds (o .store)) (sym e) h
 
 pub worked : Worked
 unfolding opened
@@ -78,10 +78,10 @@ worked =
       p2 = (refl, refl);
       p3 = (refl, refl);
       p4 = refl;
-      p5 = of-fresh _ (λ r e. answer-of e refl, λ r e. answer-of e refl);
+      p5 = of-fresh 1 _ (λ r e. answer-of e refl, λ r e. answer-of e refl);
       p6 = λ r e. (answer-of e refl, λ s f. answer-of (step-on (enterStep 33 180) e f) refl);
-      p7 = of-fresh _ (λ a b c d e f. look-in 33 (step-on (withdrawStep 33) (step-on (carryStep 0 0) d e) f) refl);
-      p8 = of-fresh _ refl;
-      p9 = of-fresh _ (λ r e. answer-of e refl, λ r e. answer-of e refl, λ r e. answer-of e refl, λ r e. answer-of e refl);
-      p10 = of-fresh _ (λ buffer. (refl, refl));
+      p7 = of-fresh 1 _ (λ a b c d e f. look-in 33 (step-on (withdrawStep 33) (step-on (carryStep 0 0) d e) f) refl);
+      p8 = of-fresh 2 _ refl;
+      p9 = of-fresh 1 _ (λ r e. answer-of e refl, λ r e. answer-of e refl, λ r e. answer-of e refl, λ r e. answer-of e refl);
+      p10 = of-fresh 1 _ (λ buffer. (refl, refl));
     }
