@@ -34,6 +34,7 @@ use Rattle.kept.specs.Shows.{shownOf, shows, ShowsSame}
 use Rattle.kept.specs.Kept.{KeptFrom, ServedExactly, LengthExactly, ServeSame, KeptOf, ServedIf}
 use Rattle.kept.specs.Amended.{
   StoreGoesOn,
+  entryCopy,
   EntersLine,
   SampleUntouched,
   NotWithdrawn,
@@ -51,7 +52,6 @@ use Rattle.kept.proofs.PagesKept.{page-done, from-page-to-serve}
 use Rattle.kept.proofs.LastEntries.{
   current-after-all,
   last-late,
-  entryCopy,
   untouched-none,
   last-has-value,
   LastOf,

@@ -3,7 +3,7 @@
 use mathlib.Core.Path.{_≡_, refl, sym, ap, _∙_, subst}
 use mathlib.Core.Bool.{Bool, true, false, cond}
 use mathlib.Core.List.{List, [], _∷_, _++_, List·Memᴰ·head, List·Memᴰ·tail, List·Memᴰ·eq-of-singleton}
-use mathlib.Core.Logic.{_⊎_, inl, inr}
+use mathlib.Core.Logic.{_↔_, _⊎_, inl, inr}
 use mathlib.Core.Option.{Option, none, some}
 use Prim.Native.Nat.{ℕ, _<_, _≤_}
 use native.Mathlib.Omega.{arith}
@@ -16,7 +16,7 @@ use Rattle.store.specs.declared.Copy.{Copy}
 use Rattle.store.specs.declared.Outcome.{Outcome}
 use Rattle.store.specs.declared.Store.{Store}
 use Rattle.store.specs.Answers.{DONE}
-use Rattle.store.specs.Copies.{hasValue, Kind, kindNumber, valueHeld, copy}
+use Rattle.store.specs.Copies.{hasValue, Kind, kindNumber}
 use Rattle.store.specs.Copies.Kind.{withdrawn, result}
 use Rattle.store.specs.State.{State, orElse, inReach}
 use Rattle.store.specs.Layout.{planOf, stateOf}
@@ -45,6 +45,8 @@ use Rattle.kept.specs.Amended.{
   Stays,
   StoreGoesOn,
   EntryDone,
+  entryCopy,
+  EntersCopy,
   EntersLine,
   LeavesSample,
   SampleUntouched,
@@ -168,10 +170,6 @@ last-late (c ∷ cs) z good declared ds on k x q =
 
 -- ---- an entry by its answer
 
--- The copy that an accepted entry enters.
-abbrev pub entryCopy : Kind → ℕ → ℕ → Store → Copy
-entryCopy kind k v z = copy k (kindNumber kind) (valueHeld kind v) (z .clock)
-
 -- An entry that answers DONE enters its copy,
 done-enters : (c : Call) (z : Store) (kind : Kind) (k v : ℕ) → EntryDone c z kind k v → enteredBy (eventOf c) z ≡ some (entryCopy kind k v z)
 unfolding enteredBy
@@ -183,38 +181,31 @@ done-enters c z kind k v e =
     says =
         ap (λ (a : Answer). a .number) (one-some (acts-as c (enters kind k v) (e .0) (entry-acts kind k v) .answers z) (e .1 .1)) ∙ e .1 .2
 
--- and a copy that a call enters is that of an entry that answers DONE.
-record EntryOfCopy (c : Call) (z : Store) (x : Copy) : Type 0 where
-  kind : Kind
-  value : ℕ
-  entry : EntryDone c z kind (x .key) value
-  is-kind : x .kind ≡ kindNumber kind
-
-entered-done : (c : Call) (z : Store) (x : Copy) → enteredBy (eventOf c) z ≡ some x → EntryOfCopy c z x
+-- and so a copy is entered by a call exactly when it is the copy of an entry that answers DONE.
+pub entered-exactly : (c : Call) (z : Store) (x : Copy) → (enteredBy (eventOf c) z ≡ some x) ↔ EntersCopy c z x
 unfolding enteredBy
-entered-done c z x q = go (eventOf c) refl q
+entered-exactly c z x = (
+  λ q. go (eventOf c) refl q,
+  λ e. done-enters c z (e .kind) (x .key) (e .value) (e .entry) ∙ ap some (sym (e .is-copy)),
+)
   where
-    go : (e : Event) → eventOf c ≡ e → enteredBy e z ≡ some x → EntryOfCopy c z x
+    go : (e : Event) → eventOf c ≡ e → enteredBy e z ≡ some x → EntersCopy c z x
     go (enters kind k v) is q = at (bool? (accepted (onEvent (enters kind k v) z .answer)))
       where
         said : answerTo c z ≡ some (onEvent (enters kind k v) z .answer)
         said = acts-as c (enters kind k v) is (entry-acts kind k v) .answers z
 
-        made : accepted (onEvent (enters kind k v) z .answer) ≡ true → entryCopy kind k v z ≡ x
-        made t = one-some refl (rw t at q)
-
         at : (accepted (onEvent (enters kind k v) z .answer) ≡ true) ⊎ (accepted (onEvent (enters kind k v) z .answer) ≡ false)
-            → EntryOfCopy c z x
+            → EntersCopy c z x
         at (inl t) =
-            record {
+            let made : entryCopy kind k v z ≡ x = one-some refl (rw t at q) in
+            subst (EntersCopy c z) made
+            (record {
               kind = kind;
               value = v;
-              entry = (
-                is ∙ ap (λ (n : ℕ). enters kind n v) (ap (λ (y : Copy). y .key) (made t)),
-                (onEvent (enters kind k v) z .answer, said, eqb-true (onEvent (enters kind k v) z .answer .number) DONE t),
-              );
-              is-kind = sym (ap (λ (y : Copy). y .kind) (made t));
-            }
+              entry = (is, (onEvent (enters kind k v) z .answer, said, eqb-true (onEvent (enters kind k v) z .answer .number) DONE t));
+              is-copy = refl;
+            })
         at (inr f) = absurd (not-none-and-some refl (rw f at q))
     go (carries n i) is q = absurd (not-none-and-some refl q)
     go (starts k) is q = absurd (not-none-and-some refl q)
@@ -254,7 +245,7 @@ untouched-none cs z sample none-of-it a g = go (option? (lastEntry (keyFor sampl
         absurd
         (last-of-each (keyFor sample a) (LeavesSample sample) (λ x. ⊥)
         (λ c y x leaves q e.
-        let d = entered-done c y x q in
+        let d = entered-exactly c y x .0 q in
         leaves a g (d .kind) (d .value) (subst (λ (n : ℕ). EntryDone c y (d .kind) n (d .value)) e (d .entry)))
         cs z none-of-it (w .0) (w .1))
 
@@ -271,8 +262,8 @@ last-has-value k =
     at : (c : Call) (z : Store) (x : Copy) → ((v : ℕ) → EntryDone c z withdrawn k v → ⊥) → enteredBy (eventOf c) z ≡ some x → x .key ≡ k
         → hasValue (x .kind) ≡ true
     at c z x never q e =
-        let d = entered-done c z x q in
-        ap hasValue (d .is-kind)
+        let d = entered-exactly c z x .0 q in
+        ap (λ (y : Copy). hasValue (y .kind)) (d .is-copy)
         ∙ by-kind (d .kind)
         (λ is. never (d .value)
         (subst (λ (n : ℕ). EntryDone c z withdrawn n (d .value)) e

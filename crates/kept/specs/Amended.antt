@@ -1,6 +1,6 @@
 -- Accepted entries of a line among calls on a store, and what they do to bytes that were kept before them.
 use mathlib.Core.Path.{_≡_}
-use mathlib.Core.Bool.{true, false, cond}
+use mathlib.Core.Bool.{false, cond}
 use mathlib.Core.List.{List, [], _∷_, _++_}
 use mathlib.Core.Logic.{_⊎_}
 use mathlib.Core.Option.{Option, none, some}
@@ -11,7 +11,7 @@ use Rattle.store.specs.declared.Answer.{Answer}
 use Rattle.store.specs.declared.Copy.{Copy}
 use Rattle.store.specs.declared.Store.{Store}
 use Rattle.store.specs.Answers.{DONE}
-use Rattle.store.specs.Copies.{hasValue, Kind}
+use Rattle.store.specs.Copies.{hasValue, Kind, kindNumber, valueHeld, copy}
 use Rattle.store.specs.Copies.Kind.{withdrawn}
 use Rattle.store.specs.State.{orElse}
 use Rattle.theory.specs.Events.{ofLine}
@@ -48,7 +48,18 @@ StoreGoesOn = EachCall Stays
 abbrev pub EntryDone : Call → Store → Kind → ℕ → ℕ → Type 0
 EntryDone c z kind k v = (eventOf c ≡ enters kind k v) × Done c z
 
--- One of the calls on a store is.
+-- The copy of an entry: its stamp is the clock.
+abbrev pub entryCopy : Kind → ℕ → ℕ → Store → Copy
+entryCopy kind k v z = copy k (kindNumber kind) (valueHeld kind v) (z .clock)
+
+-- A call enters the copy x: it is an entry with the answer DONE, and x is its copy.
+pub record EntersCopy (c : Call) (z : Store) (x : Copy) : Type 0 where
+  pub kind : Kind
+  pub value : ℕ
+  pub entry : EntryDone c z kind (x .key) value
+  pub is-copy : x ≡ entryCopy kind (x .key) value z
+
+-- One of the calls on a store is an entry of the line with the answer DONE.
 pub record EntersLine (cs : List Call) (z : Store) (kind : Kind) (k v : ℕ) : Type 0 where
   pub before : List Call
   pub call : Call
@@ -60,7 +71,7 @@ pub record EntersLine (cs : List Call) (z : Store) (kind : Kind) (k v : ℕ) : T
 abbrev pub LeavesSample : ℕ → Call → Store → Type 0
 LeavesSample sample c z = (a : ℕ) → a < analytes → (kind : Kind) (v : ℕ) → EntryDone c z kind (keyFor sample a) v → ⊥
 
--- So does each of the calls.
+-- Each of the calls leaves the sample alone.
 abbrev pub SampleUntouched : List Call → Store → ℕ → Type 0
 SampleUntouched cs z sample = EachCall (LeavesSample sample) cs z
 
