@@ -25,7 +25,8 @@ pub data CallBehind : Type 0 where
   pages : (sample : ℕ) (before : List ℕ) (answer : Answer) (after : List ℕ) → CallBehind
   serves : (sample : ℕ) (kept : List ℕ) (length : ℕ) → CallBehind
 
--- A call meets its promise: it finds a store behind the pointer and leaves one there. A store that is lent to be read is left as it was.
+-- A call meets its promise: it finds a store behind the pointer and leaves one there. A store that is lent to be read is left as it was: a
+-- fact of the types (`&Store`, in C `const`), which no promise needs to say.
 abbrev pub MeetsPromise : CallBehind → Store → Store → Type 0
 MeetsPromise (freshens plan r) finds leaves = FreshensBehind plan r leaves
 MeetsPromise (steps number x y r) finds leaves = StepsBehind finds number x y r leaves

@@ -14,10 +14,12 @@ use Rattle.store.specs.declared.Answer.{Answer}
 use Rattle.store.specs.declared.Copy.{Copy}
 use Rattle.store.specs.declared.Store.{Store}
 use Rattle.store.specs.Answers.{DONE}
-use Rattle.store.specs.Copies.{hasValue}
+use Rattle.store.specs.Copies.{hasValue, Kind}
+use Rattle.store.specs.Copies.Kind.{result}
 use Rattle.store.specs.State.{orElse}
 use Rattle.store.specs.Layout.{stateOf}
 use Rattle.store.specs.StoreRules.{goodStore}
+use Rattle.store.proofs.KindLaws.{result-valued}
 use Rattle.store.proofs.Lifting.{state-good}
 use Rattle.trips.specs.Trips.{Declared}
 use Rattle.page_lines.specs.PageLine.{analytes, lastSample, keyFor}
@@ -32,6 +34,7 @@ use Rattle.kept.specs.Shows.{shownOf, shows, ShowsSame}
 use Rattle.kept.specs.Kept.{KeptFrom, ServedExactly, LengthExactly, ServeSame, KeptOf, ServedIf}
 use Rattle.kept.specs.Amended.{
   StoreGoesOn,
+  entryCopy,
   EntersLine,
   SampleUntouched,
   NotWithdrawn,
@@ -46,7 +49,14 @@ use Rattle.kept.specs.Amended.ShowsAgain.{untouched, hidden-again}
 use Rattle.kept.proofs.ShownLines.{store-bounded}
 use Rattle.kept.proofs.ExactlyServed.{serve-same, served-exactly, length-exactly}
 use Rattle.kept.proofs.PagesKept.{page-done, from-page-to-serve}
-use Rattle.kept.proofs.LastEntries.{current-after-all, last-late, last-enters, LastOf, entered-then-last}
+use Rattle.kept.proofs.LastEntries.{
+  current-after-all,
+  last-late,
+  untouched-none,
+  last-has-value,
+  LastOf,
+  entered-then-last,
+}
 
 -- A store that no call replaces goes on.
 pub goes-on : (cs : List Call) (z : Store) → sameStore cs ≡ true → StoreGoesOn cs z
@@ -77,35 +87,33 @@ stamps-below z good declared k = go (currentIn z k) refl
         at false = omega (arith, clock-some)
 
 -- A line that was shown and had an accepted entry never shows again what it showed;
-pub not-again : (cs : List Call) (z : Store) (k : ℕ) (x : Copy) → EntersLine cs z k x → (w : ℕ × ℕ) → shows z k ≡ some w → ShowsAgain z cs k → ⊥
-not-again cs z k x e w shown (untouched none-since) = not-none-and-some none-since (entered-then-last cs z k x e .is-last)
-not-again cs z k x e w shown (hidden-again v hidden is withdrawn) = not-none-and-some hidden shown
+pub not-again : (cs : List Call) (z : Store) (kind : Kind) (k v : ℕ) → EntersLine cs z kind k v → (w : ℕ × ℕ) → shows z k ≡ some w
+    → ShowsAgain z cs k → ⊥
+not-again cs z kind k v e w shown (untouched none-since) = not-none-and-some none-since (entered-then-last cs z kind k v e .is-last)
+not-again cs z kind k v e w shown (hidden-again x hidden is bare) = not-none-and-some hidden shown
 
 -- nor does a line while a result entered since stands;
-not-while : (cs : List Call) (z : Store) (k : ℕ) (x : Copy) → (e : EntersLine cs z k x) → hasValue (x .kind) ≡ true
+not-while : (cs : List Call) (z : Store) (k v : ℕ) → (e : EntersLine cs z result k v)
     → NotWithdrawn (e .later) (storeAfter (e .call) (storeAfterAll (e .before) z)) k → ShowsAgain z cs k → ⊥
-not-while cs z k x e valued stands = go
+not-while cs z k v e stands = go
   where
-    l : LastOf cs z k x e
-    l = entered-then-last cs z k x e
+    l : LastOf cs z result k v e
+    l = entered-then-last cs z result k v e
 
-    has-value : (l .last ≡ x) ⊎ EntersLine (e .later) (storeAfter (e .call) (storeAfterAll (e .before) z)) k (l .last)
+    has-value : (l .last ≡ entryCopy result k v (storeAfterAll (e .before) z))
+        ⊎ (lastEntry k (e .later) (storeAfter (e .call) (storeAfterAll (e .before) z)) ≡ some (l .last))
         → hasValue (l .last .kind) ≡ true
-    has-value (inl is) = ap (λ (v : Copy). hasValue (v .kind)) is ∙ valued
-    has-value (inr later) = stands (l .last) later
+    has-value (inl is) = ap (λ (x : Copy). hasValue (x .kind)) is ∙ result-valued
+    has-value (inr is) = last-has-value k (e .later) (storeAfter (e .call) (storeAfterAll (e .before) z)) stands (l .last) is
 
     go : ShowsAgain z cs k → ⊥
     go (untouched none-since) = not-none-and-some none-since (l .is-last)
-    go (hidden-again v hidden is withdrawn) =
-        not-both (has-value (l .which)) (ap (λ (u : Copy). hasValue (u .kind)) (one-some (l .is-last) is) ∙ withdrawn)
+    go (hidden-again x hidden is bare) =
+        not-both (has-value (l .which)) (ap (λ (y : Copy). hasValue (y .kind)) (one-some (l .is-last) is) ∙ bare)
 
 -- and every line of a sample does of which nothing was entered.
 pub untouched-again : (cs : List Call) (z : Store) (sample : ℕ) → SampleUntouched cs z sample → SampleShowsAgain z cs sample
-untouched-again cs z sample none-of-it a g = go (option? (lastEntry (keyFor sample a) cs z))
-  where
-    go : (lastEntry (keyFor sample a) cs z ≡ none) ⊎ ((x : Copy) × (lastEntry (keyFor sample a) cs z ≡ some x)) → ShowsAgain z cs (keyFor sample a)
-    go (inl e) = untouched e
-    go (inr w) = absurd (none-of-it a g (w .0) (last-enters cs z (keyFor sample a) (w .0) (w .1)))
+untouched-again cs z sample none-of-it a g = untouched (untouched-none cs z sample none-of-it a g)
 
 module _ (z : Store) (good : goodStore z ≡ true) (declared : Declared z) (cs : List Call) (ds : DeclaredCalls cs) (on : StoreGoesOn cs z) where
   -- What is shown after the calls: the last entry, or what was shown before.
@@ -138,7 +146,7 @@ module _ (z : Store) (good : goodStore z ≡ true) (declared : Declared z) (cs :
     λ again a g. same-if-again (keyFor sample a) (again a g),
   )
 
-  -- Entries of other samples, carries, searches and refused calls change nothing, nor does a load of what was saved.
+  -- Calls that leave the sample alone (`what-leaves-sample`) change nothing, nor does a load of what was saved.
   pub untouched-serves-same : (sample : ℕ) → SampleUntouched cs z sample → ServeSame z (storeAfterAll cs z) sample
   untouched-serves-same sample none-of-it =
       serve-same z (storeAfterAll cs z) good (calls-keep-good cs z good) sample (same-exactly sample .1 (untouched-again cs z sample none-of-it))
@@ -178,23 +186,25 @@ module _ (z : Store) (good : goodStore z ≡ true) (declared : Declared z) (cs :
       same = same-exactly sample
 
   module _ (sample : ℕ) (h : sample ≤ lastSample) (kept notice : RefT (List ℕ)) (begun : KeptFrom z sample (kept .now)) where
-    -- Served while nothing was entered of the sample's lines, whatever else was entered, carried, searched, refused, saved and loaded.
+    -- Served while each call is no entry of a line of the sample, or its answer is not DONE: whatever else was entered, carried, searched,
+    -- refused, saved and loaded.
     pub served-while-untouched : SampleUntouched cs z sample → PageServed z (storeAfterAll cs z) sample kept notice
     served-while-untouched none-of-it = served-after-calls sample h kept notice begun .served-if-again (untouched-again cs z sample none-of-it)
 
-    module _ (a : ℕ) (g : a < analytes) (x : Copy) (e : EntersLine cs z (keyFor sample a) x) where
-      -- Never again: the kept bytes show the line, and one of the calls is an accepted entry of it, be it a result of the same value or a
-      -- withdrawal; whatever else the calls are.
-      pub never-again : (w : ℕ × ℕ) → shows z (keyFor sample a) ≡ some w → PageNotServed (storeAfterAll cs z) sample kept notice
-      never-again w shown =
-          served-after-calls sample h kept notice begun .notice-otherwise λ again. not-again cs z (keyFor sample a) x e w shown (again a g)
+    module _ (a : ℕ) (g : a < analytes) where
+      -- Never again: the kept bytes show the line, and one of the calls is an entry of it that answers DONE, be it a result of the same value
+      -- or a withdrawal; whatever else the calls are.
+      pub never-again : (w : ℕ × ℕ) → shows z (keyFor sample a) ≡ some w → (kind : Kind) (v : ℕ) → EntersLine cs z kind (keyFor sample a) v
+          → PageNotServed (storeAfterAll cs z) sample kept notice
+      never-again w shown kind v e =
+          served-after-calls sample h kept notice begun .notice-otherwise λ again. not-again cs z kind (keyFor sample a) v e w shown (again a g)
 
-      -- Not while a result stands: the line, shown before or not, was entered with a value, and not withdrawn since.
-      pub not-while-a-result-stands : hasValue (x .kind) ≡ true
+      -- Not while a result stands: of the line, shown before or not, a result was entered with the answer DONE, and no withdrawal since.
+      pub not-while-a-result-stands : (v : ℕ) (e : EntersLine cs z result (keyFor sample a) v)
           → NotWithdrawn (e .later) (storeAfter (e .call) (storeAfterAll (e .before) z)) (keyFor sample a)
           → PageNotServed (storeAfterAll cs z) sample kept notice
-      not-while-a-result-stands valued stands =
-          served-after-calls sample h kept notice begun .notice-otherwise λ again. not-while cs z (keyFor sample a) x e valued stands (again a g)
+      not-while-a-result-stands v e stands =
+          served-after-calls sample h kept notice begun .notice-otherwise λ again. not-while cs z (keyFor sample a) v e stands (again a g)
 
 -- By the promises of page and serve alone: page was accepted, calls were made, and what it wrote was served.
 pub page-calls-serve : (z : Store) → Declared z → (sample : ℕ) (before : List ℕ) (r : Answer) (after : List ℕ) → Pages z sample before r after

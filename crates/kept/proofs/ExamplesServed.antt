@@ -13,7 +13,8 @@ use Rattle.plan.specs.Plan.{holds, firstEdge, next, walk, pathFrom}
 use Rattle.plan_table.specs.PlanTable.{planTable, plans, planNumbered}
 use Rattle.plan_table.proofs.TableLaws.{first-plan}
 use Rattle.store.specs.declared.Store.{Store}
-use Rattle.store.specs.Copies.{RESULT, hasValue, copy, find, member, different}
+use Rattle.store.specs.Copies.{hasValue, find, member, different}
+use Rattle.store.specs.Copies.Kind.{result}
 use Rattle.store.specs.State.{fresh, firstOn, inReach}
 use Rattle.store.specs.Layout.{nodeIn, planOf, stateOf, column, storeOf, freshStore}
 use Rattle.store.specs.StoreRules.{
@@ -36,6 +37,7 @@ use Rattle.store.proofs.Lifting.{fresh-good}
 use Rattle.steps.specs.Entries.{put, room, entered, entry}
 use Rattle.steps.specs.Carries.{carries, merge, countHeld, mergeAlong, carriedTo, carriedOut, carryStep}
 use Rattle.theory.specs.Events.{effect}
+use Rattle.theory.specs.Events.Event.{enters}
 use Rattle.wire.specs.Reading.{bind, numbered, numberAt}
 use Rattle.copies.specs.CopyBytes.{valueBytes, copyBytes, readValue, readCopy}
 use Rattle.image_writing.specs.Image.{copiesBytes, nodeBytes, nodesBytes, imageOf}
@@ -47,13 +49,13 @@ use Rattle.page_lines.specs.PageLine.{pageLinesFrom}
 use Rattle.page.specs.PageBytes.{pageLineBytes, pageLinesBytes, pageBytes, begins}
 use Rattle.page.specs.Promises.{stillTrue, servedLength}
 use Rattle.calls.specs.PublicCalls.{Call, storeAfter, storeAfterAll}
-use Rattle.calls.specs.Following.{eventOf, onEvent, enteredBy}
+use Rattle.calls.specs.Following.{eventOf, onEvent}
 use Rattle.calls.specs.DeclaredNumbers.{DeclaredCall, DeclaredCalls}
-use Rattle.calls.proofs.Follows.{calls-keep-good}
+use Rattle.calls.proofs.Follows.{acts-as, entry-acts, calls-keep-good}
 use Rattle.calls.proofs.KeepsDeclared.{calls-keep-declared}
 use Rattle.kept.specs.Shows.{shows}
 use Rattle.kept.specs.Kept.{KeptFrom}
-use Rattle.kept.specs.Amended.{StoreGoesOn, PageNotServed}
+use Rattle.kept.specs.Amended.{StoreGoesOn, EntryDone, PageNotServed}
 use Rattle.kept.specs.Examples.{lineKey, entering, afterFresh, Examples}
 use Rattle.kept.proofs.AmendedPages.{never-again}
 
@@ -69,6 +71,7 @@ examples =
       the-empty-page = refl;
       the-page = refl;
       at-once = refl;
+      bytes-after = refl;
       carried = refl;
       another-sample = refl;
       another-plan = refl;
@@ -80,6 +83,7 @@ examples =
       hidden-again = refl;
       the-image = refl;
       older-image = refl;
+      own-image = refl;
     }
 
 -- The store after 180 was entered meets all that never-again asks of a store, and the same result once more all that it asks of a call.
@@ -99,9 +103,12 @@ shown : shows z lineKey ≡ some (180, 1)
 unfolding opened
 shown = refl
 
-entered-once-more : enteredBy (eventOf (entering 180)) z ≡ some (copy lineKey RESULT 180 2)
-unfolding opened enteredBy eventOf onEvent
-entered-once-more = refl
+done-once-more : EntryDone (entering 180) z result lineKey 180
+unfolding opened eventOf onEvent
+done-once-more = (
+  refl,
+  (onEvent (enters result lineKey 180) z .answer, acts-as (entering 180) (enters result lineKey 180) refl (entry-acts result lineKey 180) .answers z, refl),
+)
 
 -- So whatever is called after it, the page of 180 is never served again.
 pub same-value-never-again : (later : List Call) → DeclaredCalls (entering 180 ∷ later)
@@ -109,13 +116,5 @@ pub same-value-never-again : (later : List Call) → DeclaredCalls (entering 180
     → KeptFrom (afterFresh 1 (entering 180 ∷ [])) 1 (kept .now)
     → PageNotServed (storeAfterAll (entering 180 ∷ later) (afterFresh 1 (entering 180 ∷ []))) 1 kept notice
 same-value-never-again later ds on kept notice begun =
-    never-again z good declared (entering 180 ∷ later) ds on 1 (lit≤ tt) kept notice begun 1 (lit≤ tt) (copy lineKey RESULT 180 2)
-    (record {
-      before = [];
-      call = entering 180;
-      later = later;
-      parts = refl;
-      entered = unfold storeAfterAll in entered-once-more;
-      of-line = refl;
-    })
-    (180, 1) shown
+    never-again z good declared (entering 180 ∷ later) ds on 1 (lit≤ tt) kept notice begun 1 (lit≤ tt) (180, 1) shown result 180
+    (record { before = []; call = entering 180; later = later; parts = refl; entry = unfold storeAfterAll in done-once-more })

@@ -7,9 +7,9 @@ use mathlib.Core.Option.{some}
 use Prim.Native.Nat.{ℕ, _<_}
 use lib.ListN.{take}
 use Rattle.store.specs.declared.Answer.{Answer}
-use Rattle.store.specs.declared.Copy.{Copy}
 use Rattle.store.specs.declared.Store.{Store}
 use Rattle.store.specs.Answers.{DONE}
+use Rattle.store.specs.Copies.{Kind}
 use Rattle.store.specs.StoreRules.{goodStore}
 use Rattle.image.specs.Promises.{Saves}
 use Rattle.trips.specs.Trips.{Declared}
@@ -24,10 +24,12 @@ use Rattle.behind.specs.Behind.{CallBehind, AllMeet, publicCall}
 use Rattle.behind.proofs.BehindPointers.{calls-behind}
 use Rattle.kept.specs.Shows.{shows, ShowsSame}
 use Rattle.kept.specs.Kept.{KeptOf, LengthIf}
-use Rattle.kept.specs.Amended.{StoreGoesOn, EntersLine, SampleUntouched, SampleShowsAgain}
+use Rattle.kept.specs.Amended.{StoreGoesOn, SampleShowsAgain}
+use Rattle.kept.specs.EntriesBehind.{EntersBehind, UntouchedBehind}
 use Rattle.kept.proofs.PagesKept.{page-done, from-page-to-length}
 use Rattle.kept.proofs.AmendedPages.{not-again, untouched-again, same-exactly}
 use Rattle.kept.proofs.LoadedPages.{saved-and-loaded, loaded-store}
+use Rattle.kept.proofs.EntriesBehind.{enters-behind, untouched-behind}
 
 -- Page wrote into a buffer, and calls were made on the store behind the pointer through which it goes on.
 module _ (z : Store) (declared : Declared z) (sample : ℕ) (before : List ℕ) (r : Answer) (after : List ℕ) (paged : Pages z sample before r after)
@@ -66,17 +68,20 @@ module _ (z : Store) (declared : Declared z) (sample : ℕ) (before : List ℕ) 
         f : LengthIf (ShowsSame z y sample) r n
         f = from-page-to-length z y declared good-left declared-left sample before r after paged done kept begun n gives
 
-    -- Never again: the page shows a line, and one of the calls was an accepted entry of it.
-    pub never-again-behind : (a : ℕ) → a < analytes → (x : Copy) → EntersLine (map publicCall cs) z (keyFor sample a) x
-        → (w : ℕ × ℕ) → shows z (keyFor sample a) ≡ some w → n ≡ 0
-    never-again-behind a g x e w shown = page-calls-length .none-exactly .1 λ again. not-again calls z (keyFor sample a) x e w shown (again a g)
+    -- Never again: the page shows a line, and one of the calls was a step 1 or 2 of it that answered DONE.
+    pub never-again-behind : (a : ℕ) → a < analytes → (w : ℕ × ℕ) → shows z (keyFor sample a) ≡ some w
+        → (kind : Kind) (v : ℕ) → EntersBehind cs kind (keyFor sample a) v → n ≡ 0
+    never-again-behind a g w shown kind v e =
+        let f = enters-behind cs z y all kind (keyFor sample a) v e in
+        page-calls-length .none-exactly .1 λ again. not-again calls z kind (keyFor sample a) (f .0) (f .1) w shown (again a g)
 
-    -- The page, while nothing was entered of the sample's lines.
-    pub served-behind-while-untouched : SampleUntouched (map publicCall cs) z sample → n ≡ r .a
-    served-behind-while-untouched none-of-it = page-calls-length .page-exactly .1 (untouched-again calls z sample none-of-it)
+    -- The page, while no step 1 or 2 of the sample's lines answered DONE.
+    pub served-behind-while-untouched : UntouchedBehind cs sample → n ≡ r .a
+    served-behind-while-untouched none-of-it =
+        page-calls-length .page-exactly .1 (untouched-again calls z sample (untouched-behind cs z y all sample none-of-it))
 
   -- In the evening and next morning: save was accepted, what it wrote was loaded behind any pointer, and what page wrote was served there.
-  pub evening-and-morning-behind : SampleUntouched (map publicCall cs) z sample
+  pub evening-and-morning-behind : UntouchedBehind cs sample
       → (room : List ℕ) (s : Answer) (saved : List ℕ) → Saves y room s saved → s .number ≡ DONE
       → (l : Answer) (x : Store) → LoadsBehind (take (s .a) saved) l x → (n : ℕ) → ServesLength x sample kept n → n ≡ r .a
   evening-and-morning-behind none-of-it room s saved saves saved-done l x loads n gives =

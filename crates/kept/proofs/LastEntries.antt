@@ -1,38 +1,59 @@
--- A line's current result after calls through which a store goes on: the last copy of it that they entered, or what it was before.
--- Assumes nothing.
+-- A line's current result after calls through which a store goes on: the last copy of it that they entered, or what it was before; and the
+-- entries by their answers. Assumes nothing.
 use mathlib.Core.Path.{_≡_, refl, sym, ap, _∙_, subst}
 use mathlib.Core.Bool.{Bool, true, false, cond}
 use mathlib.Core.List.{List, [], _∷_, _++_, List·Memᴰ·head, List·Memᴰ·tail, List·Memᴰ·eq-of-singleton}
-use mathlib.Core.Logic.{_⊎_, inl, inr}
+use mathlib.Core.Logic.{_↔_, _⊎_, inl, inr}
 use mathlib.Core.Option.{Option, none, some}
-use Prim.Native.Nat.{ℕ, _≤_}
+use Prim.Native.Nat.{ℕ, _<_, _≤_}
 use native.Mathlib.Omega.{arith}
 use lib.Dec.{eqb}
 use borrow.Author.Tests.{eqb-true, eq-eqb}
+use Rattle.lists.proofs.Truths.{bool?}
 use Rattle.lists.proofs.Options.{option?, not-none-and-some, one-some}
+use Rattle.store.specs.declared.Answer.{Answer}
 use Rattle.store.specs.declared.Copy.{Copy}
 use Rattle.store.specs.declared.Outcome.{Outcome}
 use Rattle.store.specs.declared.Store.{Store}
+use Rattle.store.specs.Answers.{DONE}
+use Rattle.store.specs.Copies.{hasValue, Kind, kindNumber}
+use Rattle.store.specs.Copies.Kind.{withdrawn, result}
 use Rattle.store.specs.State.{State, orElse, inReach}
 use Rattle.store.specs.Layout.{planOf, stateOf}
 use Rattle.store.specs.StoreRules.{goodStore}
+use Rattle.store.proofs.KindLaws.{result-valued}
 use Rattle.store.proofs.WhichPlan.{plan-numbered}
 use Rattle.store.proofs.Lifting.{plan-good, state-good}
-use Rattle.theory.specs.Events.{after}
+use Rattle.theory.specs.Events.{Event, after}
+use Rattle.theory.specs.Events.Event.{enters, carries, starts, steps, cancels, asks}
 use Rattle.theory.proofs.EventSteps.{entry-stamp, event-clock}
 use Rattle.image_writing.specs.Image.{image}
 use Rattle.trips.specs.Trips.{Declared, idled}
 use Rattle.trips.proofs.RoundTrips.{saved-loads}
-use Rattle.calls.specs.PublicCalls.{Call, replaced, storeAfter, storeAfterAll}
+use Rattle.page_lines.specs.PageLine.{analytes, keyFor}
+use Rattle.calls.specs.PublicCalls.{Call, accepted, replaced, storeAfter, answerTo, storeAfterAll}
 use Rattle.calls.specs.PublicCalls.Call.{load}
-use Rattle.calls.specs.Following.{eventOf, enteredBy}
+use Rattle.calls.specs.Following.{eventOf, onEvent, enteredBy}
 use Rattle.calls.specs.Recent.{currentIn}
 use Rattle.calls.specs.DeclaredNumbers.{DeclaredCall, DeclaredCalls}
-use Rattle.calls.proofs.Follows.{event-on, event-state, call-keeps-good}
+use Rattle.calls.proofs.Follows.{acts-as, entry-acts, event-on, event-state, call-keeps-good}
 use Rattle.calls.proofs.Histories.{entered-same}
 use Rattle.calls.proofs.KeepsDeclared.{calls-keep-declared}
 use Rattle.calls.proofs.CurrentResults.{entry-sets, others-leave}
-use Rattle.kept.specs.Amended.{Stays, StoreGoesOn, EntersLine, ifOfLine, lastEntry}
+use Rattle.kept.specs.Amended.{
+  EachCall,
+  Stays,
+  StoreGoesOn,
+  EntryDone,
+  entryCopy,
+  EntersCopy,
+  EntersLine,
+  LeavesSample,
+  SampleUntouched,
+  NotWithdrawn,
+  ifOfLine,
+  lastEntry,
+}
 
 -- ---- loading what the store saves
 
@@ -147,33 +168,108 @@ last-late (c ∷ cs) z good declared ds on k x q =
     go (inr w) again =
         omega (arith, entered-stamp c z good declared x (if-of-line k (enteredBy (eventOf c) z) x (w .1) .0))
 
--- ---- an entry among the calls, and the last one
+-- ---- an entry by its answer
 
--- The last entry is one among the calls;
-pub last-enters : (cs : List Call) (z : Store) (k : ℕ) (x : Copy) → lastEntry k cs z ≡ some x → EntersLine cs z k x
-unfolding lastEntry storeAfterAll
-last-enters [] z k x q = absurd (not-none-and-some refl q)
-last-enters (c ∷ cs) z k x q =
-    go (else-some (lastEntry k cs (storeAfter c z)) (ifOfLine k (enteredBy (eventOf c) z)) x q) (last-enters cs (storeAfter c z) k x)
+-- An entry that answers DONE enters its copy,
+done-enters : (c : Call) (z : Store) (kind : Kind) (k v : ℕ) → EntryDone c z kind k v → enteredBy (eventOf c) z ≡ some (entryCopy kind k v z)
+unfolding enteredBy
+done-enters c z kind k v e =
+    subst (λ (d : Event). enteredBy d z ≡ some (entryCopy kind k v z)) (sym (e .0))
+    (rw (eq-eqb (onEvent (enters kind k v) z .answer .number) DONE says))
+  where
+    says : onEvent (enters kind k v) z .answer .number ≡ DONE
+    says =
+        ap (λ (a : Answer). a .number) (one-some (acts-as c (enters kind k v) (e .0) (entry-acts kind k v) .answers z) (e .1 .1)) ∙ e .1 .2
+
+-- and so a copy is entered by a call exactly when it is the copy of an entry that answers DONE.
+pub entered-exactly : (c : Call) (z : Store) (x : Copy) → (enteredBy (eventOf c) z ≡ some x) ↔ EntersCopy c z x
+unfolding enteredBy
+entered-exactly c z x = (
+  λ q. go (eventOf c) refl q,
+  λ e. done-enters c z (e .kind) (x .key) (e .value) (e .entry) ∙ ap some (sym (e .is-copy)),
+)
+  where
+    go : (e : Event) → eventOf c ≡ e → enteredBy e z ≡ some x → EntersCopy c z x
+    go (enters kind k v) is q = at (bool? (accepted (onEvent (enters kind k v) z .answer)))
+      where
+        said : answerTo c z ≡ some (onEvent (enters kind k v) z .answer)
+        said = acts-as c (enters kind k v) is (entry-acts kind k v) .answers z
+
+        at : (accepted (onEvent (enters kind k v) z .answer) ≡ true) ⊎ (accepted (onEvent (enters kind k v) z .answer) ≡ false)
+            → EntersCopy c z x
+        at (inl t) =
+            let made : entryCopy kind k v z ≡ x = one-some refl (rw t at q) in
+            subst (EntersCopy c z) made
+            (record {
+              kind = kind;
+              value = v;
+              entry = (is, (onEvent (enters kind k v) z .answer, said, eqb-true (onEvent (enters kind k v) z .answer .number) DONE t));
+              is-copy = refl;
+            })
+        at (inr f) = absurd (not-none-and-some refl (rw f at q))
+    go (carries n i) is q = absurd (not-none-and-some refl q)
+    go (starts k) is q = absurd (not-none-and-some refl q)
+    go (steps i) is q = absurd (not-none-and-some refl q)
+    go (cancels i) is q = absurd (not-none-and-some refl q)
+    go asks is q = absurd (not-none-and-some refl q)
+
+-- ---- the last entry
+
+-- What holds of each copy of the line that the calls enter holds of the last.
+last-of-each : (k : ℕ) (Holds : Call → Store → Type 0) (Q : Copy → Type 0)
+    → ((c : Call) (z : Store) (x : Copy) → Holds c z → enteredBy (eventOf c) z ≡ some x → x .key ≡ k → Q x)
+    → (cs : List Call) (z : Store) → EachCall Holds cs z → (x : Copy) → lastEntry k cs z ≡ some x → Q x
+unfolding lastEntry
+last-of-each k Holds Q each [] z all x q = absurd (not-none-and-some refl q)
+last-of-each k Holds Q each (c ∷ cs) z all x q =
+    go (else-some (lastEntry k cs (storeAfter c z)) (ifOfLine k (enteredBy (eventOf c) z)) x q)
+    (last-of-each k Holds Q each cs (storeAfter c z) (all .1) x)
   where
     go : (lastEntry k cs (storeAfter c z) ≡ some x)
         ⊎ ((lastEntry k cs (storeAfter c z) ≡ none) × (ifOfLine k (enteredBy (eventOf c) z) ≡ some x))
-        → (lastEntry k cs (storeAfter c z) ≡ some x → EntersLine cs (storeAfter c z) k x) → EntersLine (c ∷ cs) z k x
-    go (inl l) again =
-        let w = again l in
-        record {
-          before = c ∷ w .before;
-          call = w .call;
-          later = w .later;
-          parts = ap (λ (ds : List Call). c ∷ ds) (w .parts);
-          entered = w .entered;
-          of-line = w .of-line;
-        }
+        → (lastEntry k cs (storeAfter c z) ≡ some x → Q x) → Q x
+    go (inl l) again = again l
     go (inr w) again =
         let v = if-of-line k (enteredBy (eventOf c) z) x (w .1) in
-        record { before = []; call = c; later = cs; parts = refl; entered = v .0; of-line = v .1 }
+        each c z x (all .0) (v .0) (v .1)
 
--- and after an entry of the line the last is one of the later calls', or it.
+-- Nothing is entered of the lines of a sample that each call leaves alone;
+pub untouched-none : (cs : List Call) (z : Store) (sample : ℕ) → SampleUntouched cs z sample → (a : ℕ) → a < analytes
+    → lastEntry (keyFor sample a) cs z ≡ none
+untouched-none cs z sample none-of-it a g = go (option? (lastEntry (keyFor sample a) cs z))
+  where
+    go : (lastEntry (keyFor sample a) cs z ≡ none) ⊎ ((x : Copy) × (lastEntry (keyFor sample a) cs z ≡ some x))
+        → lastEntry (keyFor sample a) cs z ≡ none
+    go (inl e) = e
+    go (inr w) =
+        absurd
+        (last-of-each (keyFor sample a) (LeavesSample sample) (λ x. ⊥)
+        (λ c y x leaves q e.
+        let d = entered-exactly c y x .0 q in
+        leaves a g (d .kind) (d .value) (subst (λ (n : ℕ). EntryDone c y (d .kind) n (d .value)) e (d .entry)))
+        cs z none-of-it (w .0) (w .1))
+
+-- and where none withdraws the line, the last entry has a value.
+pub last-has-value : (k : ℕ) (cs : List Call) (z : Store) → NotWithdrawn cs z k → (x : Copy) → lastEntry k cs z ≡ some x
+    → hasValue (x .kind) ≡ true
+last-has-value k =
+    last-of-each k (λ c y. (v : ℕ) → EntryDone c y withdrawn k v → ⊥) (λ x. hasValue (x .kind) ≡ true) at
+  where
+    by-kind : (kind : Kind) → (kind ≡ withdrawn → ⊥) → hasValue (kindNumber kind) ≡ true
+    by-kind result f = result-valued
+    by-kind withdrawn f = absurd (f refl)
+
+    at : (c : Call) (z : Store) (x : Copy) → ((v : ℕ) → EntryDone c z withdrawn k v → ⊥) → enteredBy (eventOf c) z ≡ some x → x .key ≡ k
+        → hasValue (x .kind) ≡ true
+    at c z x never q e =
+        let d = entered-exactly c z x .0 q in
+        ap (λ (y : Copy). hasValue (y .kind)) (d .is-copy)
+        ∙ by-kind (d .kind)
+        (λ is. never (d .value)
+        (subst (λ (n : ℕ). EntryDone c z withdrawn n (d .value)) e
+        (subst (λ (kind : Kind). EntryDone c z kind (x .key) (d .value)) is (d .entry))))
+
+-- After an entry of the line the last is one of the later calls', or it.
 last-after : (before : List Call) (c : Call) (later : List Call) (z : Store) (k : ℕ) (x : Copy)
     → enteredBy (eventOf c) (storeAfterAll before z) ≡ some x → x .key ≡ k
     → lastEntry k (before ++ c ∷ later) z ≡ orElse (lastEntry k later (storeAfter c (storeAfterAll before z))) (some x)
@@ -189,25 +285,28 @@ last-after (b ∷ before) c later z k x q e =
     already (some y) r = refl
 
 -- The last entry, where there is one.
-pub record LastOf (cs : List Call) (z : Store) (k : ℕ) (x : Copy) (e : EntersLine cs z k x) : Type 0 where
+pub record LastOf (cs : List Call) (z : Store) (kind : Kind) (k v : ℕ) (e : EntersLine cs z kind k v) : Type 0 where
   pub last : Copy
   pub is-last : lastEntry k cs z ≡ some last
-  pub which : (last ≡ x) ⊎ EntersLine (e .later) (storeAfter (e .call) (storeAfterAll (e .before) z)) k last
+  pub which :
+      (last ≡ entryCopy kind k v (storeAfterAll (e .before) z))
+      ⊎ (lastEntry k (e .later) (storeAfter (e .call) (storeAfterAll (e .before) z)) ≡ some last)
 
-pub entered-then-last : (cs : List Call) (z : Store) (k : ℕ) (x : Copy) (e : EntersLine cs z k x) → LastOf cs z k x e
-entered-then-last cs z k x e = go (option? (lastEntry k (e .later) z′))
+pub entered-then-last : (cs : List Call) (z : Store) (kind : Kind) (k v : ℕ) (e : EntersLine cs z kind k v) → LastOf cs z kind k v e
+entered-then-last cs z kind k v e = go (option? (lastEntry k (e .later) z′))
   where
+    x : Copy
+    x = entryCopy kind k v (storeAfterAll (e .before) z)
+
     z′ : Store
     z′ = storeAfter (e .call) (storeAfterAll (e .before) z)
 
     is : lastEntry k cs z ≡ orElse (lastEntry k (e .later) z′) (some x)
-    is = ap (λ (ds : List Call). lastEntry k ds z) (e .parts) ∙ last-after (e .before) (e .call) (e .later) z k x (e .entered) (e .of-line)
+    is =
+        ap (λ (ds : List Call). lastEntry k ds z) (e .parts)
+        ∙ last-after (e .before) (e .call) (e .later) z k x
+        (done-enters (e .call) (storeAfterAll (e .before) z) kind k v (e .entry)) refl
 
-    go : (lastEntry k (e .later) z′ ≡ none) ⊎ ((y : Copy) × (lastEntry k (e .later) z′ ≡ some y)) → LastOf cs z k x e
+    go : (lastEntry k (e .later) z′ ≡ none) ⊎ ((y : Copy) × (lastEntry k (e .later) z′ ≡ some y)) → LastOf cs z kind k v e
     go (inl l) = record { last = x; is-last = is ∙ ap (λ (o : Option Copy). orElse o (some x)) l; which = inl refl }
-    go (inr w) =
-        record {
-          last = w .0;
-          is-last = is ∙ ap (λ (o : Option Copy). orElse o (some x)) (w .1);
-          which = inr (last-enters (e .later) z′ k (w .0) (w .1));
-        }
+    go (inr w) = record { last = w .0; is-last = is ∙ ap (λ (o : Option Copy). orElse o (some x)) (w .1); which = inr (w .1) }

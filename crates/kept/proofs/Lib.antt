@@ -2,7 +2,10 @@ pub mod ShownLines
 pub mod ExactlyServed
 pub mod PagesKept
 pub mod LastEntries
+pub mod LeavesSamples
 pub mod AmendedPages
 pub mod LoadedPages
+pub mod StepEntries
+pub mod EntriesBehind
 pub mod KeptBehind
 pub mod ExamplesServed

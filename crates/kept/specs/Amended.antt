@@ -1,6 +1,6 @@
 -- Accepted entries of a line among calls on a store, and what they do to bytes that were kept before them.
 use mathlib.Core.Path.{_≡_}
-use mathlib.Core.Bool.{true, false, cond}
+use mathlib.Core.Bool.{false, cond}
 use mathlib.Core.List.{List, [], _∷_, _++_}
 use mathlib.Core.Logic.{_⊎_}
 use mathlib.Core.Option.{Option, none, some}
@@ -11,16 +11,18 @@ use Rattle.store.specs.declared.Answer.{Answer}
 use Rattle.store.specs.declared.Copy.{Copy}
 use Rattle.store.specs.declared.Store.{Store}
 use Rattle.store.specs.Answers.{DONE}
-use Rattle.store.specs.Copies.{hasValue}
+use Rattle.store.specs.Copies.{hasValue, Kind, kindNumber, valueHeld, copy}
+use Rattle.store.specs.Copies.Kind.{withdrawn}
 use Rattle.store.specs.State.{orElse}
 use Rattle.theory.specs.Events.{ofLine}
+use Rattle.theory.specs.Events.Event.{enters, carries, starts, steps, cancels, asks}
 use Rattle.image_writing.specs.Image.{image}
 use Rattle.image_loading.specs.Loading.{loadOutcome}
 use Rattle.image.specs.Promises.{Saves}
 use Rattle.trips.specs.Trips.{loadedAsItself}
 use Rattle.page_lines.specs.PageLine.{analytes, keyFor}
 use Rattle.page.specs.Promises.{pageNow, servedLength}
-use Rattle.calls.specs.PublicCalls.{Call, storeAfter, storeAfterAll}
+use Rattle.calls.specs.PublicCalls.{Call, storeAfter, answerTo, Done, storeAfterAll}
 use Rattle.calls.specs.PublicCalls.Call.{load}
 use Rattle.calls.specs.Following.{eventOf, replacement, enteredBy}
 use Rattle.calls.specs.DeclaredNumbers.{DeclaredCall}
@@ -29,31 +31,67 @@ use Rattle.kept.specs.Kept.{ServesPage, ServesNotice, NoticeIsOther, Ser
 
 -- ---- the calls
 
+-- Of each of the calls it holds, on the store that the calls before it left.
+abbrev pub EachCall : (Call → Store → Type 0) → List Call → Store → Type 0
+EachCall Holds [] z = Unit {0}
+EachCall Holds (c ∷ cs) z = Holds c z × EachCall Holds cs (storeAfter c z)
+
 -- A call does not replace the store, unless by loading the very bytes that the store saves at that point.
 abbrev pub Stays : Call → Store → Type 0
 Stays c z = (replacement c ≡ none) ⊎ (c ≡ load (image z))
 
 -- A store goes on through calls: it stays through each.
 abbrev pub StoreGoesOn : List Call → Store → Type 0
-StoreGoesOn [] z = Unit {0}
-StoreGoesOn (c ∷ cs) z = Stays c z × StoreGoesOn cs (storeAfter c z)
+StoreGoesOn = EachCall Stays
 
--- Among calls on a store, one is an accepted entry of the line: it enters the copy x.
-pub record EntersLine (cs : List Call) (z : Store) (k : ℕ) (x : Copy) : Type 0 where
+-- A call is an entry of the line (an enter, a withdraw, or the run of such a record), and its answer is DONE.
+abbrev pub EntryDone : Call → Store → Kind → ℕ → ℕ → Type 0
+EntryDone c z kind k v = (eventOf c ≡ enters kind k v) × Done c z
+
+-- The copy of an entry: its stamp is the clock.
+abbrev pub entryCopy : Kind → ℕ → ℕ → Store → Copy
+entryCopy kind k v z = copy k (kindNumber kind) (valueHeld kind v) (z .clock)
+
+-- A call enters the copy x: it is an entry with the answer DONE, and x is its copy.
+pub record EntersCopy (c : Call) (z : Store) (x : Copy) : Type 0 where
+  pub kind : Kind
+  pub value : ℕ
+  pub entry : EntryDone c z kind (x .key) value
+  pub is-copy : x ≡ entryCopy kind (x .key) value z
+
+-- One of the calls on a store is an entry of the line with the answer DONE.
+pub record EntersLine (cs : List Call) (z : Store) (kind : Kind) (k v : ℕ) : Type 0 where
   pub before : List Call
   pub call : Call
   pub later : List Call
   pub parts : cs ≡ before ++ call ∷ later
-  pub entered : enteredBy (eventOf call) (storeAfterAll before z) ≡ some x
-  pub of-line : x .key ≡ k
+  pub entry : EntryDone call (storeAfterAll before z) kind k v
 
--- No accepted entry among the calls is of one of the sample's lines.
+-- A call leaves a sample alone: it is no entry of one of its lines, or its answer is not DONE.
+abbrev pub LeavesSample : ℕ → Call → Store → Type 0
+LeavesSample sample c z = (a : ℕ) → a < analytes → (kind : Kind) (v : ℕ) → EntryDone c z kind (keyFor sample a) v → ⊥
+
+-- Each of the calls leaves the sample alone.
 abbrev pub SampleUntouched : List Call → Store → ℕ → Type 0
-SampleUntouched cs z sample = (a : ℕ) → a < analytes → (x : Copy) → EntersLine cs z (keyFor sample a) x → ⊥
+SampleUntouched cs z sample = EachCall (LeavesSample sample) cs z
 
--- No accepted entry among the calls withdraws the line: each has a value.
+-- Entries of other samples, carries, searches and refused calls leave a sample alone, a record run as its call; so do all calls that are none
+-- of the six steps.
+pub record WhatLeavesSample (sample : ℕ) (c : Call) (z : Store) : Type 0 where
+  pub other-samples : (kind : Kind) (other a v : ℕ) → a < analytes → (other ≡ sample → ⊥) → eventOf c ≡ enters kind (keyFor other a) v
+      → LeavesSample sample c z
+  pub carries-leave : (n i : ℕ) → eventOf c ≡ carries n i → LeavesSample sample c z
+  pub starts-leave : (k : ℕ) → eventOf c ≡ starts k → LeavesSample sample c z
+  pub steps-leave : (i : ℕ) → eventOf c ≡ steps i → LeavesSample sample c z
+  pub cancels-leave : (i : ℕ) → eventOf c ≡ cancels i → LeavesSample sample c z
+  pub no-step : eventOf c ≡ asks → LeavesSample sample c z
+  pub refused-leave : (r : Answer) → answerTo c z ≡ some r → (r .number ≡ DONE → ⊥) → LeavesSample sample c z
+
+-- None of the calls is a withdrawal of the line with the answer DONE.
 abbrev pub NotWithdrawn : List Call → Store → ℕ → Type 0
-NotWithdrawn cs z k = (x : Copy) → EntersLine cs z k x → hasValue (x .kind) ≡ true
+NotWithdrawn cs z k = EachCall (λ c y. (v : ℕ) → EntryDone c y withdrawn k v → ⊥) cs z
+
+-- ---- what a line shows
 
 -- A copy, if it is of the line.
 abbrev pub ifOfLine : ℕ → Option Copy → Option Copy

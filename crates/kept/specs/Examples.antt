@@ -1,6 +1,6 @@
 -- Kept pages of sample 1 and how many of their bytes a later store serves.
 use mathlib.Core.Path.{_≡_}
-use mathlib.Core.List.{List, [], _∷_}
+use mathlib.Core.List.{List, [], _∷_, _++_}
 use Prim.Native.Nat.{ℕ}
 use Rattle.store.specs.declared.Store.{Store}
 use Rattle.store.specs.Copies.Kind.{withdrawn, result}
@@ -50,8 +50,9 @@ servedAfter kept cs = servedLength (afterFresh 1 cs) 1 kept
 pub record Examples : Type 0 where
   pub the-empty-page : pageNow (freshStore 1) 1 ≡ emptyPage
   pub the-page : pageNow (afterFresh 1 (entering 180 ∷ [])) 1 ≡ keptPage
-  -- Served: at once, after a carry, after an entry of another sample, and by a store of another plan.
+  -- Served: at once, with bytes after the page, after a carry, after an entry of another sample, and by a store of another plan.
   pub at-once : servedAfter keptPage (entering 180 ∷ []) ≡ 6
+  pub bytes-after : servedAfter (keptPage ++ 0x07 ∷ 0xFF ∷ []) (entering 180 ∷ []) ≡ 6
   pub carried : servedAfter keptPage (entering 180 ∷ carry 0 0 ∷ carry 1 0 ∷ []) ≡ 6
   pub another-sample : servedAfter keptPage (entering 180 ∷ enteringOther ∷ []) ≡ 6
   pub another-plan : servedLength (afterFresh 2 (entering 180 ∷ [])) 1 keptPage ≡ 6
@@ -63,6 +64,7 @@ pub record Examples : Type 0 where
   -- A line that was not shown, entered and then withdrawn: the page is again what it was, and so it is served again.
   pub entered-since : servedAfter emptyPage (entering 180 ∷ []) ≡ 0
   pub hidden-again : servedAfter emptyPage (entering 180 ∷ withdrawing ∷ []) ≡ 2
-  -- So it is after an older image is loaded in place of the store.
+  -- Served after the store's own image is loaded, and after an older one is loaded in place of the store.
   pub the-image : image (afterFresh 1 (entering 180 ∷ [])) ≡ savedImage
+  pub own-image : servedAfter keptPage (entering 180 ∷ load savedImage ∷ []) ≡ 6
   pub older-image : servedAfter keptPage (entering 180 ∷ entering 210 ∷ load savedImage ∷ []) ≡ 6

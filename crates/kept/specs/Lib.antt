@@ -1,4 +1,5 @@
 pub mod Shows
 pub mod Kept
 pub mod Amended
+pub mod EntriesBehind
 pub mod Examples
