@@ -11,6 +11,7 @@ use Rattle.lists.specs.Stands.{Stands}
 use Rattle.lists.proofs.Truths.{not-both}
 use Rattle.lists.proofs.Standing.{stands-nil, stands-join, stands-left, stands-right}
 use Rattle.number.specs.Number.{Bytes, narrow, form}
+use Rattle.number.proofs.Meaning.{form-bytes}
 use Rattle.plan.specs.Sizes.{lastKey}
 use Rattle.store.specs.declared.Copy.{Copy}
 use Rattle.store.specs.Answers.{CUT, NUMBER, RULE}
@@ -18,6 +19,7 @@ use Rattle.store.specs.Copies.{lastKind, hasValue, noCopy}
 use Rattle.store.specs.State.{lastClock}
 use Rattle.store.specs.StateRules.{KindAndValue}
 use Rattle.wire.specs.Reading.{got, numberAt}
+use Rattle.wire.proofs.ByteStrings.{no-bytes, bytes-join}
 use Rattle.wire.proofs.Chains.{bind-got, check-holds, Gives, gives-got, gives-check, gives-bind, number-back, number-gives}
 use Rattle.wire.proofs.Chains.{Faults, faults-got, faults-fault, faults-bind, faults-cond, faults-number}
 use Rattle.copies.specs.CopyBytes.{lastValue, valueBytes, copyBytes, readValue, readCopy}
@@ -64,6 +66,18 @@ module _ {s : List ℕ} where
       ∙ check-holds (ltb (x .kind) (suc lastKind)) RULE _ _ (lt-ltb (x .kind) (suc lastKind) (omega arith))
       ∙ bind-got _ _ (value-back (hasValue (x .kind)) (no-value x (w .kind-and-value)) (w .value) (stands-left value stamp j))
       ∙ bind-got _ _ (number-back (w .stamp) (stands-right value stamp j))
+
+-- Each byte of such a copy is a byte.
+pub copy-bytes : (x : Copy) → Writable x → Bytes (copyBytes x)
+unfolding copyBytes valueBytes
+copy-bytes x w =
+    bytes-join (form (x .key)) _ (form-bytes (x .key) (w .key))
+    (bytes-join (form (x .kind)) _ (form-bytes (x .kind) (omega (arith, kind-small x (w .kind-and-value))))
+    (bytes-join (valueBytes (x .kind) (x .value)) _ (value (hasValue (x .kind))) (form-bytes (x .stamp) (w .stamp))))
+  where
+    value : (t : Bool) → Bytes (cond t (form (x .value)) [])
+    value true = form-bytes (x .value) (w .value)
+    value false = no-bytes
 
 -- ---- what is read stands there
 
