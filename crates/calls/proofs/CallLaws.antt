@@ -28,7 +28,7 @@ use Rattle.theory.specs.Events.{effect, after, answerOf}
 use Rattle.theory.specs.Events.Event.{carries, starts, steps}
 use Rattle.theory.proofs.Invariants.{reach-increases-all}
 use Rattle.theory.proofs.Looks.{VisitsUntil, look-answer}
-use Rattle.calls.specs.PublicCalls.{Call, storeAfter, answerTo, storeAfterAll}
+use Rattle.calls.specs.PublicCalls.{Call, storeAfter, gives, answerTo, storeAfterAll}
 use Rattle.calls.specs.PublicCalls.Call.{step, reads}
 use Rattle.calls.specs.PublicCalls.Reading.{look}
 use Rattle.calls.specs.Following.{eventOf, eventsOf, sameStore}

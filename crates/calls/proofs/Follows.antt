@@ -30,7 +30,7 @@ use Rattle.theory.specs.Events.{Event, effect, after, answerOf, stateAfterAll}
 use Rattle.theory.specs.Events.Event.{enters, carries, starts, steps, cancels, asks}
 use Rattle.theory.proofs.EventSteps.{event-keeps}
 use Rattle.trips.specs.Trips.{AllIdle}
-use Rattle.calls.specs.PublicCalls.{Call, accepted, replaced, storeAfter, answerTo, storeAfterAll}
+use Rattle.calls.specs.PublicCalls.{Call, accepted, replaced, storeAfter, gives, answerTo, storeAfterAll}
 use Rattle.calls.specs.PublicCalls.Call.{fresh, load, enter, carry, start, step, cancel, reads, run}
 use Rattle.calls.specs.Following.{eventOfRecord, eventOf, eventsOf, onEvent, ownOutcome, storeIfAccepted, replacement, sameStore}
 use Rattle.calls.specs.DeclaredNumbers.{DeclaredCall}

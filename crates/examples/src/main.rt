@@ -13,7 +13,7 @@ const HIGH: u32 = 2147483648;
 // One line. False where it could not be written: there is nobody to print for.
 fn print(first: u32, answer: Answer) -> bool {
     let mut text = [0; lines::ROOM];
-    let n = lines::print_into(&mut text, first, answer);
+    let n = lines::print_into(&mut text, 0, first, answer);
     io::write_all(STDOUT_FILENO, &text[..n])
 }
 

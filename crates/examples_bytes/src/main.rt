@@ -17,7 +17,7 @@ const NO_SAMPLE: u32 = 134217728;
 // One line. False where it could not be written: there is nobody to print for.
 fn print(first: u32, answer: Answer) -> bool {
     let mut text = [0; lines::ROOM];
-    let n = lines::print_into(&mut text, first, answer);
+    let n = lines::print_into(&mut text, 0, first, answer);
     io::write_all(STDOUT_FILENO, &text[..n])
 }
 

@@ -5,9 +5,10 @@ use Prim.Native.Nat.{ℕ, _+_, _/_, _%_, _^_, _<_, _≤_}
 use native.Mathlib.Omega.{arith}
 use lib.ListN.{length, set, length-append}
 use Rattle.lists.specs.Stands.{Wrote}
-use Rattle.lists.proofs.Standing.{wrote-nil, wrote-cons, wrote-join}
+use Rattle.lists.proofs.Standing.{wrote-nil, wrote-cons, wrote-join, wrote-length}
 use Rattle.store.specs.declared.Answer.{Answer}
-use Rattle.lines.specs.Text.{digit, SPACE, FEED, decimal, printedText, answerText}
+use Rattle.lines.specs.Text.{digit, SPACE, FEED, decimal, printedText, answerText, mostText}
+use Rattle.lines.specs.Promises.{Prints}
 use Rattle.lines.proofs.DecimalLaws.{decimal-one, decimal-more, decimal-few}
 
 -- One byte more.
@@ -44,16 +45,21 @@ unfolding printedText
 wrote-line v w ws p q = rw append-assoc at (wrote-join p q)
 
 -- Six numbers, each with the byte after it.
-pub line-printed : (first : ℕ) (x : Answer) {b b₁ b₂ b₃ b₄ b₅ b₆ : List ℕ} {i₁ i₂ i₃ i₄ i₅ i₆ : ℕ}
-    → Wrote b 0 (decimal first ++ SPACE ∷ []) i₁ b₁
+pub line-printed : (first : ℕ) (x : Answer) {b b₁ b₂ b₃ b₄ b₅ b₆ : List ℕ} {at i₁ i₂ i₃ i₄ i₅ i₆ : ℕ}
+    → Wrote b at (decimal first ++ SPACE ∷ []) i₁ b₁
     → Wrote b₁ i₁ (decimal (x .number) ++ SPACE ∷ []) i₂ b₂
     → Wrote b₂ i₂ (decimal (x .a) ++ SPACE ∷ []) i₃ b₃
     → Wrote b₃ i₃ (decimal (x .b) ++ SPACE ∷ []) i₄ b₄
     → Wrote b₄ i₄ (decimal (x .c) ++ SPACE ∷ []) i₅ b₅
     → Wrote b₅ i₅ (decimal (x .d) ++ FEED ∷ []) i₆ b₆
-    → Wrote b 0 (answerText first x) i₆ b₆
+    → Wrote b at (answerText first x) i₆ b₆
 unfolding printedText
 line-printed first x p₁ p₂ p₃ p₄ p₅ p₆ =
     wrote-line first (x .number) (x .a ∷ x .b ∷ x .c ∷ x .d ∷ []) p₁
     (wrote-line (x .number) (x .a) (x .b ∷ x .c ∷ x .d ∷ []) p₂
     (wrote-line (x .a) (x .b) (x .c ∷ x .d ∷ []) p₃ (wrote-line (x .b) (x .c) (x .d ∷ []) p₄ (wrote-line (x .c) (x .d) [] p₅ p₆))))
+
+-- A printed line lies within its buffer: for a program that passes it on.
+pub line-within : (first : ℕ) (x : Answer) {before after : List ℕ} {at next : ℕ} → Prints before at first x next after
+    → at + mostText ≤ length before → next ≤ length after
+line-within first x p fits = omega (arith, p .1, wrote-length (p .0))

@@ -4,7 +4,6 @@ use mathlib.Core.List.{List, [], _∷_, _++_}
 use Prim.Native.Nat.{ℕ, zero, suc, _+_, _-_, _*_, _/_, _%_}
 use lib.Dec.{ltb}
 use Rattle.store.specs.declared.Answer.{Answer}
-use Rattle.schedule.specs.Running.{PrintedLine, printedLine}
 
 -- The byte of a digit.
 abbrev pub digit : ℕ → ℕ
@@ -32,15 +31,15 @@ unfoldable pub spelt : ℕ → List ℕ → ℕ
 spelt v [] = v
 spelt v (b ∷ l) = spelt (10 * v + (b - 48)) l
 
--- A printed line.
-unfoldable pub printedText : PrintedLine → List ℕ
+-- A printed line of some numbers.
+unfoldable pub printedText : List ℕ → List ℕ
 printedText [] = []
 printedText (v ∷ []) = decimal v ++ FEED ∷ []
 printedText (v ∷ w ∷ ws) = decimal v ++ SPACE ∷ printedText (w ∷ ws)
 
--- That of a step, or of a whole schedule: six numbers.
+-- That of a step, or of a whole schedule: a first number, then "answer number, a, b, c, d".
 abbrev pub answerText : ℕ → Answer → List ℕ
-answerText first r = printedText (printedLine first r)
+answerText first r = printedText (first ∷ r .number ∷ r .a ∷ r .b ∷ r .c ∷ r .d ∷ [])
 
 -- Six numbers of at most 20 digits, each with one byte after it.
 abbrev pub mostText : ℕ

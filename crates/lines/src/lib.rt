@@ -1,6 +1,6 @@
 // Printed lines: six numbers in decimal with single spaces, and a line feed. Document 01, "A schedule in full".
 ghost use mathlib.Core.List.{[], _∷_, _++_};
-ghost use Prim.Native.Nat.{_+_, _≤_, _<_};
+ghost use Prim.Native.Nat.{_+_, _≤_};
 ghost use lib.ListN.{length};
 ghost use Rattle.lists.specs.Stands.{Wrote};
 ghost use Rattle.lines.specs.Text.{decimal, mostText};
@@ -15,8 +15,8 @@ const SPACE: u8 = 32;
 const FEED: u8 = 10;
 
 // Writes a number in decimal at an offset where it fits, and gives the offset after it.
-fn write_decimal(buffer: &mut [u8; ROOM], at: usize, value: u64) -> usize
-    requires { ⌜ at + length (decimal value) ≤ mostText ⌝ }
+fn write_decimal(buffer: &mut [u8], at: usize, value: u64) -> usize
+    requires { ⌜ at + length (decimal value) ≤ length (now buffer) ⌝ }
     ensures { λ r. ⌜ Wrote (now (buffer .entry)) at (decimal value) r (now (buffer .exit)) ⌝ }
 {
     if value < 10 {
@@ -29,8 +29,8 @@ fn write_decimal(buffer: &mut [u8; ROOM], at: usize, value: u64) -> usize
 }
 
 // Writes a number and the byte after it: at most 21 bytes.
-fn write_word(buffer: &mut [u8; ROOM], at: usize, value: u64, after: u8) -> usize
-    requires { ⌜ at + 21 ≤ mostText ⌝ }
+fn write_word(buffer: &mut [u8], at: usize, value: u64, after: u8) -> usize
+    requires { ⌜ at + 21 ≤ length (now buffer) ⌝ }
     ensures { λ r. ⌜ Wrote (now (buffer .entry)) at (decimal value ++ after ∷ []) r (now (buffer .exit)) × (r ≤ at + 21) ⌝ }
 {
     let next = write_decimal(buffer, at, value);
@@ -38,11 +38,12 @@ fn write_word(buffer: &mut [u8; ROOM], at: usize, value: u64, after: u8) -> usiz
     next + 1
 }
 
-// Writes the line of a first number and an answer, and gives its length.
-pub fn print_into(buffer: &mut [u8; ROOM], first: u32, answer: Answer) -> usize
-    ensures { λ r. ⌜ Prints (now (buffer .entry)) first answer r (now (buffer .exit)) ⌝ }
+// Writes the line of a first number and an answer at an offset with room for any line, and gives the offset after it.
+pub fn print_into(buffer: &mut [u8], at: usize, first: u32, answer: Answer) -> usize
+    requires { ⌜ at + mostText ≤ length (now buffer) ⌝ }
+    ensures { λ r. ⌜ Prints (now (buffer .entry)) at first answer r (now (buffer .exit)) ⌝ }
 {
-    let a = write_word(buffer, 0, first as u64, SPACE);
+    let a = write_word(buffer, at, first as u64, SPACE);
     let b = write_word(buffer, a, answer.number as u64, SPACE);
     let c = write_word(buffer, b, answer.a, SPACE);
     let d = write_word(buffer, c, answer.b, SPACE);

@@ -1,52 +1,50 @@
-// Runs the schedule on standard input and prints its lines. Document 01, "A schedule in full".
+// Prints the text of the schedule on standard input. Document 01, "A schedule in full".
+ghost use Rattle.io.specs.Counts.{Counts};
+use libc::STDERR_FILENO;
 use libc::STDIN_FILENO;
 use libc::STDOUT_FILENO;
-use schedule::Step;
-use store::Answer;
-use store::Store;
 
-// One line. False where it could not be written: there is nobody to print for.
-fn print(first: u32, answer: Answer) -> bool {
-    let mut text = [0; lines::ROOM];
-    let n = lines::print_into(&mut text, first, answer);
-    io::write_all(STDOUT_FILENO, &text[..n])
+// How many bytes were read, and whether a read failed before the input's end or the buffer's.
+struct Input {
+    length: usize,
+    failed: bool,
 }
 
-// One line a step, on a fresh store of the plan.
-fn print_steps(plan: u32, count: usize, steps: [Step; Step::MOST]) {
-    let mut store = Store::fresh(plan).store;
-    let mut place = 0;
-    while place < Step::MOST {
-        if count <= place {
-            return;
+// Reads standard input into the buffer. A read of no bytes is the end of the input; a read that fails is not.
+fn read_input(buffer: &mut [u8]) -> Input
+    ensures { λ r. ⌜ Counts (r .length) (now (buffer .exit)) ⌝ }
+{
+    let mut n = 0;
+    while n < buffer.len() {
+        let got = libc::read(STDIN_FILENO, &mut buffer[n..]);
+        let more = io::count(got, &buffer[n..]);
+        if more == 0 {
+            return Input {
+                length: n,
+                failed: got < 0,
+            };
         }
-        let outcome = runner::run_list(store, steps, place);
-        let number = steps[place].number;
-        if !print(number, outcome.answer) {
-            return;
-        }
-        let next = outcome.store;
-        store = next;
-        place += 1;
+        n += more;
+    }
+    Input {
+        length: n,
+        failed: false,
     }
 }
 
-// "It prints one line first: 0, answer number, step count (or, if refused, the offset), 0 0 0; a refused schedule stops there."
+// "The program reads a schedule on standard input, its first 65,536 bytes". Where the text cannot be written, there is nobody to tell.
 fn main() {
     let mut input = io::large_buffer();
-    let n = io::read_full(STDIN_FILENO, &mut input);
-    let none = Step {
-        number: 0,
-        x: 0,
-        y: 0,
-    };
-    let decoded = records::decode_list(&input[..n], [none; Step::MOST]);
-    let answer = decoded.answer;
-    let steps = decoded.list;
-    if !print(0, Answer::of(answer.number, answer.a, 0, 0, 0)) {
+    let read = read_input(&mut input);
+    if read.failed {
+        io::write_all(
+            STDERR_FILENO,
+            b"olipranj: standard input could not be read\n",
+        );
         return;
     }
-    if answer.number == Answer::DONE {
-        print_steps(answer.b as u32, answer.a as usize, steps);
-    }
+    let length = read.length;
+    let mut text = [0; transcript::ROOM];
+    let written = transcript::transcribe(&input[..length], &mut text);
+    io::write_all(STDOUT_FILENO, &text[..written]);
 }

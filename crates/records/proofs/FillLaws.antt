@@ -16,8 +16,8 @@ use Rattle.store.specs.Answers.{SMALL}
 use Rattle.wire.specs.Reading.{fault}
 use Rattle.schedule.specs.declared.Step.{Step}
 use Rattle.schedule.specs.Schedule.{mostSteps, scheduleAt, recordsOf, decodeAnswer, decodeList}
-use Rattle.schedule.specs.Running.{noStep}
-use Rattle.schedule.specs.Workers.{noSteps, withFirst, decodedOf, decodedInto}
+use Rattle.schedule.specs.Running.{noStep, noSteps}
+use Rattle.schedule.specs.Workers.{withFirst, decodedOf, decodedInto}
 use Rattle.schedule.proofs.ScheduleLaws.{schedule-few}
 use Rattle.records.specs.Filling.{filled}
 

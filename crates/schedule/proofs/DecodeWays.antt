@@ -19,8 +19,8 @@ use Rattle.wire.proofs.Chains.{bind-got, bind-fault, check-holds, check-fails}
 use Rattle.schedule.specs.declared.Step.{Step}
 use Rattle.schedule.specs.declared.decoding.StepRead.{StepRead}
 use Rattle.schedule.specs.Schedule.{ENTER, CARRY, CANCEL, mostSteps, stepRecord, knownStep, hasTwo, secondAt, stepAt, stepsAt, scheduleAt}
-use Rattle.schedule.specs.Running.{noStep}
-use Rattle.schedule.specs.Workers.{stepReadOf, planned, noSteps, withFirst, decodedOf, decodedInto}
+use Rattle.schedule.specs.Running.{noStep, noSteps}
+use Rattle.schedule.specs.Workers.{stepReadOf, planned, withFirst, decodedOf, decodedInto}
 
 -- ---- is_known, has_two, read_second
 

@@ -3,14 +3,14 @@ use mathlib.Core.Bool.{true, false, cond}
 use mathlib.Core.List.{List, _++_}
 use Prim.Native.Nat.{ℕ}
 use lib.Dec.{ltb}
-use lib.ListN.{length, drop, replicate}
+use lib.ListN.{length, drop}
 use Rattle.store.specs.Answers.{SMALL}
 use Rattle.wire.specs.Reading.{Got, got, fault, bind}
 use Rattle.schedule.specs.declared.Step.{Step}
 use Rattle.schedule.specs.declared.decoding.StepRead.{StepRead}
 use Rattle.schedule.specs.declared.decoding.Decoded.{Decoded}
 use Rattle.schedule.specs.Schedule.{mostSteps, Schedule, scheduleAt, scheduleAnswer, recordsOf}
-use Rattle.schedule.specs.Running.{noStep}
+use Rattle.schedule.specs.Running.{noStep, noSteps}
 
 -- A step that was read and the offset after it, or the fault and its offset.
 unfoldable pub stepReadOf : Got Step → StepRead
@@ -20,10 +20,6 @@ stepReadOf (fault number at) = record { ok = false; fault = number; at = at; ste
 -- A schedule of a plan, from its steps.
 unfoldable pub planned : ℕ → Got (List Step) → Got Schedule
 planned plan g = bind g λ xs b. got (record { plan = plan; steps = xs }) b
-
--- As many records of zeros as a schedule has steps at most.
-abbrev pub noSteps : List Step
-noSteps = replicate mostSteps noStep
 
 -- Records at the beginning of a list.
 unfoldable pub withFirst : List Step → List Step → List Step

@@ -1,57 +1,60 @@
 -- Document 01, "A schedule in full": P1 to P10 as one table.
 use mathlib.Core.Path.{_≡_}
 use mathlib.Core.List.{List, [], _∷_}
-use Prim.Native.Nat.{ℕ}
-use lib.ListN.{replicate}
+use Prim.Native.Nat.{ℕ, zero, suc}
+use Prim.Native.Char.{code}
+use Prim.Native.String as text
+use lib.ListN.{length, replicate}
 use Rattle.store.specs.declared.Answer.{Answer}
+use Rattle.store.specs.declared.Outcome.{Outcome}
 use Rattle.store.specs.declared.Store.{Store}
 use Rattle.store.specs.Answers.{DONE, CLOCK, FULL, SLOT, IDLE, SAMPLE, CUT, answer, bare}
 use Rattle.store.specs.State.{slotCount, idle}
-use Rattle.store.specs.Layout.{storeOf, freshStore}
-use Rattle.store.specs.Calls.{onStore, ofStore}
-use Rattle.steps.specs.Searches.{lookAnswer}
-use Rattle.wire.specs.Reading.{Got, got, fault}
-use Rattle.image_loading.specs.Loading.{loadOutcome}
-use Rattle.image.specs.Promises.{saveBuffer}
-use Rattle.page.specs.Promises.{pageAnswer, pageBuffer}
+use Rattle.store.specs.Layout.{storeOf, freshStore, refusedStore}
+use Rattle.store.specs.Promises.{freshOutcome}
+use Rattle.steps.specs.Promises.{Enters, Withdraws, Carries, Steps, Cancels, Looks}
+use Rattle.image.specs.Promises.{Saves, Loads}
+use Rattle.page.specs.Promises.{Pages}
 use Rattle.schedule.specs.declared.Step.{Step}
-use Rattle.schedule.specs.Schedule.{Schedule, stepRecord, scheduleAt}
-use Rattle.schedule.specs.Running.{stepOf, PrintedLine, printedLine, printedSchedule}
+use Rattle.schedule.specs.Schedule.{ENTER, stepRecord, decodeAnswer, decodeList}
+use Rattle.schedule.specs.Running.{noSteps, runOutcome}
+use Rattle.transcript.specs.Transcript.{scheduleText}
 
--- The answers of some steps done one after another.
-unfoldable pub answersOf : List Step → Store → List Answer
-answersOf [] z = []
-answersOf (x ∷ xs) z = let o = onStore (stepOf x 0) z in o .answer ∷ answersOf xs (o .store)
+-- The characters of a text, by their numbers.
+unfoldable pub characters : text.String → List ℕ
+characters text.[] = []
+characters (text._∷_ c s) = code c ∷ characters s
 
--- The store after them.
-unfoldable pub storeAfterSteps : List Step → Store → Store
-storeAfterSteps [] z = z
-storeAfterSteps (x ∷ xs) z = storeAfterSteps xs (onStore (stepOf x 0) z .store)
+-- The store after the record at a place of a list and so many after it.
+unfoldable pub storeAfterSteps : List Step → Store → ℕ → ℕ → Store
+storeAfterSteps steps z place zero = z
+storeAfterSteps steps z place (suc more) = storeAfterSteps steps (runOutcome z steps place .store) (suc place) more
 
--- The store after a schedule's bytes.
-abbrev pub storeOfSchedule : Got Schedule → Store
-storeOfSchedule (got d end) = storeAfterSteps (d .steps) (freshStore (d .plan))
-storeOfSchedule (fault number at) = freshStore 1
-
--- The input of document 01.
+-- "Input: 01 01 21 B4 01 03 00 00 04 21 05 00 01 21 D2 01 03 00 00 05 00 05 00"
 abbrev pub input : List ℕ
 input =
     0x01 ∷ 0x01 ∷ 0x21 ∷ 0xB4 ∷ 0x01 ∷ 0x03 ∷ 0x00 ∷ 0x00 ∷ 0x04 ∷ 0x21 ∷ 0x05 ∷ 0x00 ∷ 0x01 ∷ 0x21 ∷ 0xD2 ∷ 0x01 ∷ 0x03 ∷ 0x00
     ∷ 0x00 ∷ 0x05 ∷ 0x00 ∷ 0x05 ∷ 0x00 ∷ []
 
--- A printed line.
-abbrev pub printed : ℕ → ℕ → ℕ → ℕ → ℕ → ℕ → PrintedLine
-printed s n a b c d = printedLine s (answer n a b c d)
+-- Its nine lines.
+abbrev pub printed : text.String
+printed = "0 0 8 0 0 0\n1 0 1 0 0 0\n3 0 1 0 0 0\n4 0 0 0 0 0\n5 1 1 1 0 0\n1 0 2 0 0 0\n3 0 1 1 0 0\n5 0 2 210 2 2\n5 10 0 0 0 0\n"
 
--- The store after document 01's steps.
+-- The store after its steps. Decode's a is the step count, its b the plan.
 unfoldable pub storeAfterInput : Store
-storeAfterInput = storeOfSchedule (scheduleAt input)
+storeAfterInput =
+    let r = decodeAnswer input noSteps in
+    storeAfterSteps (decodeList input noSteps) (freshOutcome (r .b) .store) 0 (r .a)
 
--- Eight keys, a ninth, and one of the eight again.
-abbrev pub nineKeys : List Step
-nineKeys =
-    stepRecord 1 10 1 ∷ stepRecord 1 80 1 ∷ stepRecord 1 20 1 ∷ stepRecord 1 70 1 ∷ stepRecord 1 30 1 ∷ stepRecord 1 60 1
-    ∷ stepRecord 1 40 1 ∷ stepRecord 1 50 1 ∷ stepRecord 1 90 1 ∷ stepRecord 1 30 2 ∷ []
+-- Entries of eight keys.
+abbrev pub eightKeys : List Step
+eightKeys =
+    stepRecord ENTER 10 1 ∷ stepRecord ENTER 80 1 ∷ stepRecord ENTER 20 1 ∷ stepRecord ENTER 70 1 ∷ stepRecord ENTER 30 1
+    ∷ stepRecord ENTER 60 1 ∷ stepRecord ENTER 40 1 ∷ stepRecord ENTER 50 1 ∷ []
+
+-- A fresh store of plan 1 with these in its root.
+unfoldable pub storeOfEight : Store
+storeOfEight = storeAfterSteps eightKeys (freshStore 1) 0 (length eightKeys)
 
 -- A store with nothing held and the clock one below its last value.
 abbrev pub lateStore : Store
@@ -61,33 +64,34 @@ lateStore = storeOf 1 (record { clock = 4294967294; nodes = replicate 4 []; slot
 abbrev pub done : ℕ → Answer
 done a = answer DONE a 0 0 0
 
+-- Each outcome that a promise allows has this answer.
+abbrev pub Answers : (Outcome → Type 0) → Answer → Type 0
+Answers Allowed a = (r : Outcome) → Allowed r → r .answer ≡ a
+
 -- P1 to P10.
 pub record Worked : Type 0 where
   -- "(P1) these lines."
-  pub p1 :
-      printedSchedule input
-      ≡ printed 0 0 8 0 0 0 ∷ printed 1 0 1 0 0 0 ∷ printed 3 0 1 0 0 0 ∷ printed 4 0 0 0 0 0 ∷ printed 5 1 1 1 0 0 ∷ printed 1 0 2 0 0 0
-      ∷ printed 3 0 1 1 0 0 ∷ printed 5 0 2 210 2 2 ∷ printed 5 10 0 0 0 0 ∷ []
+  pub p1 : scheduleText input ≡ characters printed
   -- "(P2) Saved after them: 01 01 03 00 01 21 01 D2 01 02 00 00."
   pub p2 :
-      saveBuffer storeAfterInput (replicate 12 0)
-      ≡ 0x01 ∷ 0x01 ∷ 0x03 ∷ 0x00 ∷ 0x01 ∷ 0x21 ∷ 0x01 ∷ 0xD2 ∷ 0x01 ∷ 0x02 ∷ 0x00 ∷ 0x00 ∷ []
+      Saves storeAfterInput (replicate 12 0) (done 12)
+      (0x01 ∷ 0x01 ∷ 0x03 ∷ 0x00 ∷ 0x01 ∷ 0x21 ∷ 0x01 ∷ 0xD2 ∷ 0x01 ∷ 0x02 ∷ 0x00 ∷ 0x00 ∷ [])
   -- "(P3) Page of sample 1: 01 01 01 D2 01 02."
-  pub p3 : pageBuffer storeAfterInput 1 (replicate 6 0) ≡ 0x01 ∷ 0x01 ∷ 0x01 ∷ 0xD2 ∷ 0x01 ∷ 0x02 ∷ []
+  pub p3 : Pages storeAfterInput 1 (replicate 6 0) (done 6) (0x01 ∷ 0x01 ∷ 0x01 ∷ 0xD2 ∷ 0x01 ∷ 0x02 ∷ [])
   -- "(P4) Empty image: CUT, a 0."
-  pub p4 : loadOutcome [] .answer ≡ answer CUT 0 0 0 0
+  pub p4 : Loads [] (record { answer = answer CUT 0 0 0 0; store = refusedStore })
   -- "(P5) Eight keys in a fresh root, a ninth: FULL; one of the eight again: DONE, stamp 9."
-  pub p5 :
-      answersOf nineKeys (freshStore 1)
-      ≡ done 1 ∷ done 2 ∷ done 3 ∷ done 4 ∷ done 5 ∷ done 6 ∷ done 7 ∷ done 8 ∷ bare FULL ∷ done 9 ∷ []
+  pub p5 : Answers (Enters storeOfEight 90 1) (bare FULL) × Answers (Enters storeOfEight 30 2) (done 9)
   -- "(P6) Clock 4294967294: entry done; the next: CLOCK."
-  pub p6 : answersOf (stepRecord 1 33 180 ∷ stepRecord 1 33 180 ∷ []) lateStore ≡ done 4294967294 ∷ bare CLOCK ∷ []
+  pub p6 : (r : Outcome) → Enters lateStore 33 180 r → (r .answer ≡ done 4294967294) × Answers (Enters (r .store) 33 180) (bare CLOCK)
   -- "(P7) Fresh plan 1: enter, carry 0 0, withdraw one line: look gives 1, 0, 2, 1."
-  pub p7 :
-      ofStore (lookAnswer 33) (storeAfterSteps (stepRecord 1 33 180 ∷ stepRecord 3 0 0 ∷ stepRecord 2 33 0 ∷ []) (freshStore 1)) ≡ answer DONE 1 0 2 1
+  pub p7 : (a b c : Outcome) → Enters (freshStore 1) 33 180 a → Carries (a .store) 0 0 b → Withdraws (b .store) 33 c
+      → Looks (c .store) 33 (answer DONE 1 0 2 1)
   -- "(P8) Look in a fresh store of plan 2: 0, 0, 0, 2."
-  pub p8 : ofStore (lookAnswer 33) (freshStore 2) ≡ answer DONE 0 0 0 2
-  -- "(P9) Slot 7 idle: IDLE; slot 8: SLOT."
-  pub p9 : answersOf (stepRecord 5 7 0 ∷ stepRecord 5 8 0 ∷ []) (freshStore 1) ≡ bare IDLE ∷ bare SLOT ∷ []
+  pub p8 : Looks (freshStore 2) 33 (answer DONE 0 0 0 2)
+  -- "(P9) Slot 7 idle: IDLE; slot 8: SLOT." Of step, and of cancel.
+  pub p9 :
+      Answers (Steps (freshStore 1) 7) (bare IDLE) × Answers (Steps (freshStore 1) 8) (bare SLOT)
+      × Answers (Cancels (freshStore 1) 7) (bare IDLE) × Answers (Cancels (freshStore 1) 8) (bare SLOT)
   -- "(P10) Sample 134217728: SAMPLE."
-  pub p10 : pageAnswer (freshStore 1) 134217728 [] ≡ bare SAMPLE
+  pub p10 : (buffer : List ℕ) → Pages (freshStore 1) 134217728 buffer (bare SAMPLE) buffer

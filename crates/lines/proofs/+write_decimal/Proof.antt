@@ -28,17 +28,20 @@ module _ (t : ℕ) where
   cast-buffer : lts.Need-cast-buffer (below-number t, write-decimal.Post) (at-number t) write-decimal.Post
   cast-buffer c = search needs
 
-  element-write-buffer : lts.Need-element-write-buffer (below-number t, write-decimal.Post) (at-number t) write-decimal.Post
-  element-write-buffer c = omega (arith, digit-fits (c .before .args .value) (c .if1 .taken))
+  slice-write-buffer : lts.Need-slice-write-buffer (below-number t, write-decimal.Post) (at-number t) write-decimal.Post
+  slice-write-buffer c = omega (arith, digit-fits (c .before .before .args .value) (c .if1 .taken))
 
   add-result : lts.Need-add-result (below-number t, write-decimal.Post) (at-number t) write-decimal.Post
-  add-result c = omega (arith, digit-fits (c .before .args .value) (c .if1 .taken))
+  add-result c = omega (arith, digit-fits (c .before .before .args .value) (c .if1 .taken))
+
+  same-length : lts.Need-same-length (below-number t, write-decimal.Post) (at-number t) write-decimal.Post
+  same-length c = search needs
 
   returns : lts.Need-returns (below-number t, write-decimal.Post) (at-number t) write-decimal.Post
-  returns c = wrote-digit (c .before .args .buffer .now) (c .before .args .at) (c .before .args .value) (c .if1 .taken)
+  returns c = wrote-digit (c .before .before .args .buffer .now) (c .before .before .args .at) (c .before .before .args .value) (c .if1 .taken)
 
   write-decimal-requires : lts.Need-write-decimal-requires (below-number t, write-decimal.Post) (at-number t) write-decimal.Post
-  write-decimal-requires c κs = (search needs, omega (arith, digits-fit (c .before .before .args .value) (c .before .if1 .left)))
+  write-decimal-requires c κs = (search needs, omega (arith, digits-fit (c .before .before .before .args .value) (c .before .if1 .left)))
 
   add-buffer-2 : lts.Need-add-buffer-2 (below-number t, write-decimal.Post) (at-number t) write-decimal.Post
   add-buffer-2 c = search needs
@@ -46,16 +49,25 @@ module _ (t : ℕ) where
   cast-buffer-2 : lts.Need-cast-buffer-2 (below-number t, write-decimal.Post) (at-number t) write-decimal.Post
   cast-buffer-2 c = search needs
 
-  element-write-buffer-2 : lts.Need-element-write-buffer-2 (below-number t, write-decimal.Post) (at-number t) write-decimal.Post
-  element-write-buffer-2 c = omega (arith, digits-fit (c .before .before .before .args .value) (c .before .before .if1 .left), c .write-decimal .ensures .to)
+  slice-write-buffer-2 : lts.Need-slice-write-buffer-2 (below-number t, write-decimal.Post) (at-number t) write-decimal.Post
+  slice-write-buffer-2 c =
+      let i = c .before .before .before .before in
+      omega (arith, digits-fit (i .before .before .args .value) (i .if1 .left), c .before .before .write-decimal .ensures .to)
 
   add-result-2 : lts.Need-add-result-2 (below-number t, write-decimal.Post) (at-number t) write-decimal.Post
-  add-result-2 c = omega (arith, digits-fit (c .before .before .before .args .value) (c .before .before .if1 .left), c .write-decimal .ensures .to)
+  add-result-2 c =
+      let i = c .before .before .before .before in
+      omega (arith, digits-fit (i .before .before .args .value) (i .if1 .left), c .before .before .write-decimal .ensures .to)
+
+  same-length-2 : lts.Need-same-length-2 (below-number t, write-decimal.Post) (at-number t) write-decimal.Post
+  same-length-2 c = search needs
 
   returns-2 : lts.Need-returns-2 (below-number t, write-decimal.Post) (at-number t) write-decimal.Post
-  returns-2 c = wrote-digits (c .before .before .before .args .value) (c .before .before .if1 .left) (c .write-decimal .ensures)
+  returns-2 c =
+      let i = c .before .before .before .before in
+      wrote-digits (i .before .before .args .value) (i .if1 .left) (c .before .before .write-decimal .ensures)
 
 pub +write-decimal-spec : {M : Type 1} → statement M
 +write-decimal-spec = close μ-write-decimal λ t. lts.spec (below-number t, write-decimal.Post) (at-number t) write-decimal.Post
-    (add-buffer t) (cast-buffer t) (element-write-buffer t) (add-result t) (returns t) (write-decimal-requires t) (add-buffer-2 t)
-    (cast-buffer-2 t) (element-write-buffer-2 t) (add-result-2 t) (returns-2 t)
+    (add-buffer t) (cast-buffer t) (slice-write-buffer t) (add-result t) (same-length t) (returns t) (write-decimal-requires t) (add-buffer-2 t)
+    (cast-buffer-2 t) (slice-write-buffer-2 t) (add-result-2 t) (same-length-2 t) (returns-2 t)

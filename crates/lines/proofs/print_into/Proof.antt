@@ -26,16 +26,27 @@ write-word-requires-5 c κs = search needs
 write-word-requires-6 : tie.Need-write-word-requires-6
 write-word-requires-6 c κs = search needs
 
+same-length : tie.Need-same-length
+same-length c = search needs
+
 returns : tie.Need-returns
 returns c =
-    let start = c .before .before .before .before .before .before .before .before .before .before .before .before .before in
-    let p₁ = c .before .before .before .before .before .before .before .before .before .before .before .write-word .ensures in
-    let p₂ = c .before .before .before .before .before .before .before .before .write-word2 .ensures in
-    let p₃ = c .before .before .before .before .before .before .write-word3 .ensures in
-    let p₄ = c .before .before .before .before .write-word4 .ensures in
-    let p₅ = c .before .before .write-word5 .ensures in
-    let p₆ = c .write-word6 .ensures in
-    (line-printed (start .args .first) (start .args .answer) (p₁ .0) (p₂ .0) (p₃ .0) (p₄ .0) (p₅ .0) (p₆ .0), omega (arith, p₁ .1, p₂ .1, p₃ .1, p₄ .1, p₅ .1, p₆ .1))
+    let w₆ = c .before .before in
+    let w₅ = w₆ .before .before .before .before in
+    let w₄ = w₅ .before .before .before .before in
+    let w₃ = w₄ .before .before .before .before in
+    let w₂ = w₃ .before .before .before .before in
+    let w₁ = w₂ .before .before .before .before .before in
+    let a = w₁ .before .before .before .args in
+    let p₁ = w₁ .write-word .ensures in
+    let p₂ = w₂ .write-word2 .ensures in
+    let p₃ = w₃ .write-word3 .ensures in
+    let p₄ = w₄ .write-word4 .ensures in
+    let p₅ = w₅ .write-word5 .ensures in
+    let p₆ = w₆ .write-word6 .ensures in (
+      line-printed (a .first) (a .answer) (p₁ .0) (p₂ .0) (p₃ .0) (p₄ .0) (p₅ .0) (p₆ .0),
+      omega (arith, p₁ .1, p₂ .1, p₃ .1, p₄ .1, p₅ .1, p₆ .1),
+    )
 
 pub print-into-spec : {M : Type 1} → statement M
 print-into-spec =
@@ -48,4 +59,5 @@ print-into-spec =
     write-word-requires-4
     write-word-requires-5
     write-word-requires-6
+    same-length
     returns)

@@ -7,17 +7,26 @@ use Rattle.lines.proofs.write_word.Statement.{statement}
 use Rattle.lines.proofs.write_word.Tie as tie
 
 write-decimal-requires : tie.Need-write-decimal-requires
-write-decimal-requires c κs = omega (arith, decimal-few (c .before .args .value) (search needs))
+write-decimal-requires c κs = omega (arith, decimal-few (c .before .before .args .value) (search needs))
 
-element-write-buffer : tie.Need-element-write-buffer
-element-write-buffer c = omega (arith, word-ends (c .before .before .args .value) (search needs) (c .write-decimal .ensures))
+slice-write-buffer : tie.Need-slice-write-buffer
+slice-write-buffer c =
+    let w = c .before .before in
+    omega (arith, word-ends (w .before .before .before .args .value) (search needs) (w .write-decimal .ensures))
 
 add-result : tie.Need-add-result
-add-result c = omega (arith, word-ends (c .before .before .args .value) (search needs) (c .write-decimal .ensures))
+add-result c =
+    let w = c .before .before in
+    omega (arith, word-ends (w .before .before .before .args .value) (search needs) (w .write-decimal .ensures))
+
+same-length : tie.Need-same-length
+same-length c = search needs
 
 returns : tie.Need-returns
-returns c = (wrote-byte (c .before .before .args .after) (c .write-decimal .ensures), word-ends (c .before .before .args .value) (search needs) (c .write-decimal .ensures))
+returns c =
+    let w = c .before .before in
+    let a = w .before .before .before .args in
+    (wrote-byte (a .after) (w .write-decimal .ensures), word-ends (a .value) (search needs) (w .write-decimal .ensures))
 
 pub write-word-spec : {M : Type 1} → statement M
-write-word-spec =
-    tie.close (tie.spec write-decimal-requires element-write-buffer add-result returns)
+write-word-spec = tie.close (tie.spec write-decimal-requires slice-write-buffer add-result same-length returns)

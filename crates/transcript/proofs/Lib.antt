@@ -1,0 +1,3 @@
+pub mod TextWriting
+pub mod TextWays
+pub mod Uniqueness
