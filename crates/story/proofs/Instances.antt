@@ -1,4 +1,4 @@
--- The instances: computed, and the theorems applied. Assumes nothing.
+-- The instances: computed, and the demands' own fields applied. Assumes nothing.
 use mathlib.Core.Path.{_≡_, refl, sym, ap, _∙_, subst}
 use mathlib.Core.Bool.{Bool, true}
 use mathlib.Core.List.{List, [], _∷_, _++_, flatten, List·Memᴰ, List·Memᴰ·not-nil, List·Memᴰ·cases-cons, List·Memᴰ·eq-of-singleton}
@@ -7,7 +7,7 @@ use mathlib.Core.Option.{Option, none, some}
 use Prim.Native.Nat.{ℕ, _*_, _≤_}
 use native.Mathlib.Omega.{arith}
 use lib.Dec.{lit≤}
-use lib.ListN.{length, replicate}
+use lib.ListN.{length}
 use Rattle.lists.specs.Indexed.{tabulate, allFrom}
 use Rattle.lists.proofs.Options.{one-some}
 use Rattle.number.specs.Number.{Bytes, formIn, form, readLast, putBelow, readIn, readAt}
@@ -51,8 +51,8 @@ use Rattle.copies.specs.CopyBytes.{valueBytes, copyBytes, readValue, readCopy}
 use Rattle.image_writing.specs.Image.{copiesBytes, nodeBytes, nodesBytes, imageOf, image}
 use Rattle.image_reading.specs.ImageReading.{readCopies, readNode, readNodes, nodesFrom, clockFrom, planFrom, imageAt}
 use Rattle.image_loading.specs.Loading.{copiesHeld, finished, loadOutcome}
-use Rattle.trips.specs.Trips.{Declared, loadedAsItself}
-use Rattle.trips.proofs.RoundTrips.{fresh-idle, loaded-saves}
+use Rattle.trips.specs.Trips.{Declared, idled, loadedAsItself}
+use Rattle.trips.proofs.RoundTrips.{fresh-idle}
 use Rattle.page_lines.specs.PageLine.{pageLinesFrom}
 use Rattle.page.specs.PageBytes.{pageLineBytes, pageLinesBytes, pageBytes, begins}
 use Rattle.page.specs.Promises.{pageNow, stillTrue, servedLength}
@@ -73,17 +73,10 @@ use Rattle.calls.specs.Following.{
 use Rattle.calls.specs.Recent.{currentIn, atEnd, SearchRuns, EndsByCall}
 use Rattle.calls.specs.DeclaredNumbers.{DeclaredCall, DeclaredCalls}
 use Rattle.calls.proofs.Follows.{call-keeps-good, calls-keep-good}
-use Rattle.calls.proofs.CurrentResults.{refused-store, carry-leaves}
-use Rattle.calls.proofs.CallLaws.{carry-counts}
-use Rattle.calls.proofs.Recalls.{store-search-ends}
-use Rattle.calls.proofs.KeepsDeclared.{calls-keep-declared, reached-loads}
-use Rattle.calls.proofs.CarryBound.{calls-bound, calls-reach}
+use Rattle.calls.proofs.KeepsDeclared.{calls-keep-declared}
 use Rattle.paper_calls.specs.Structure.{StoreMCS, copiesSoFar, CallUpserts, CallSearch}
-use Rattle.paper_calls.proofs.Structures.{calls-mcs, entry-call-upserts, call-search}
 use Rattle.kept.specs.Shows.{shows}
 use Rattle.kept.specs.Examples.{lineKey, entering, afterFresh}
-use Rattle.kept.proofs.AmendedPages.{never-again}
-use Rattle.kept.proofs.LoadedPages.{saved-and-loaded}
 use Rattle.story.specs.Instances.{
   beforeSearch,
   whileItRuns,
@@ -95,8 +88,10 @@ use Rattle.story.specs.Instances.{
   newerCopy,
   savedBytes,
   pageKept,
+  stepsAlone,
   Instances,
 }
+use Rattle.story.proofs.Demands.{demand-1, demand-2, demand-3}
 
 -- Whoever unfolds this unfolds all definitions that the instances are about.
 opened : Bool
@@ -215,49 +210,53 @@ fresh-edges : edgesOn (planOf (freshStore 1)) lineKey ≡ 3
 unfolding opened
 fresh-edges = refl
 
-loaded-copy : (z : Store) → copiesSoFar (load savedBytes ∷ []) z ≡ newerCopy ∷ []
-unfolding opened
-loaded-copy z = refl
+loaded-store : replacement (load savedBytes) ≡ some (idled lastStore)
+unfolding opened idled
+loaded-store = refl
+
+loaded-copies : history [] (idled lastStore) (held (stateOf (idled lastStore))) ≡ newerCopy ∷ []
+unfolding opened idled
+loaded-copies = refl
 
 fresh-starts : answerTo (start lineKey) (freshStore 1) ≡ some (answer DONE 0 0 0 0)
 unfolding opened
 fresh-starts = refl
 
-four-stay : sameStore (replicate 4 (step 0)) ≡ true
+four-stay : sameStore stepsAlone ≡ true
 unfolding opened
 four-stay = refl
 
-four-alive : notCancelled 0 (eventsOf (replicate 4 (step 0))) ≡ true
+four-alive : notCancelled 0 (eventsOf stepsAlone) ≡ true
 unfolding opened
 four-alive = refl
 
-four-enough : length (path (planOf (freshStore 1)) lineKey) ≤ ownSteps 0 (eventsOf (replicate 4 (step 0)))
+four-enough : length (path (planOf (freshStore 1)) lineKey) ≤ ownSteps 0 (eventsOf stepsAlone)
 unfolding opened
 four-enough = lit≤ tt
 
--- ---- the theorems
+-- ---- what the demands say
 
-its-end : EndsByCall (storeAfter (start lineKey) (freshStore 1)) 0 (replicate 4 (step 0))
+its-end : EndsByCall (storeAfter (start lineKey) (freshStore 1)) 0 stepsAlone
 its-end =
-    store-search-ends (freshStore 1) fresh-one-good (start lineKey) lineKey 0 (unfold eventOf in refl) fresh-starts (replicate 4 (step 0))
+    demand-3 .search-ends (freshStore 1) fresh-one-good (start lineKey) lineKey 0 (unfold eventOf in refl) fresh-starts stepsAlone
     four-stay four-alive four-enough
 
 its-structure : StoreMCS lastStore 3 (InHistory (olderCopy ∷ newerCopy ∷ []))
 its-structure =
     subst (λ (t : ℕ). StoreMCS lastStore t (InHistory (olderCopy ∷ newerCopy ∷ []))) last-clock
     (subst (λ (h : List Copy). StoreMCS lastStore (lastStore .clock) (InHistory h)) last-copies
-    (calls-mcs sevenSteps (freshStore 1) fresh-one-good))
+    (demand-2 .structure sevenSteps (freshStore 1) fresh-one-good))
 
 entry-structure : StoreMCS beforeEntry 2 (InHistory (olderCopy ∷ []))
 entry-structure =
     subst (λ (t : ℕ). StoreMCS beforeEntry t (InHistory (olderCopy ∷ []))) entry-clock
     (subst (λ (h : List Copy). StoreMCS beforeEntry (beforeEntry .clock) (InHistory h)) entry-copies
-    (calls-mcs (beforeSearch ++ start lineKey ∷ step 0 ∷ []) (freshStore 1) fresh-one-good))
+    (demand-2 .structure (beforeSearch ++ start lineKey ∷ step 0 ∷ []) (freshStore 1) fresh-one-good))
 
 its-upsert : CallUpserts (entering 210) beforeEntry 2 (InHistory (olderCopy ∷ [])) newerCopy
 unfolding hasValue
 its-upsert =
-    entry-call-upserts (entering 210) beforeEntry (good-after (beforeSearch ++ start lineKey ∷ step 0 ∷ [])) 2 (InHistory (olderCopy ∷ []))
+    demand-2 .entry-upserts (entering 210) beforeEntry (good-after (beforeSearch ++ start lineKey ∷ step 0 ∷ [])) 2 (InHistory (olderCopy ∷ []))
     entry-structure result lineKey 210 (unfold eventOf in refl) (answer DONE 2 0 0 0, entry-says, refl)
 
 good-before-carry : goodStore beforeCarry ≡ true
@@ -277,7 +276,7 @@ found-newer (some x) visits e (inr w) = go (List·Memᴰ·cases-cons (w .1))
 
 its-search : CallSearch (freshStore 1) beforeSearch (start lineKey) whileItRuns (step 0) lineKey 0
 its-search =
-    call-search (freshStore 1) fresh-one-good beforeSearch (start lineKey) whileItRuns lineKey 0 runs (step 0) (unfold eventOf in refl)
+    demand-2 .search-recent (freshStore 1) fresh-one-good beforeSearch (start lineKey) whileItRuns lineKey 0 runs (step 0) (unfold eventOf in refl)
     (answer DONE 2 210 2 2, end-says, refl)
 
 its-found : its-search .recency .found ≡ some newerCopy
@@ -289,30 +288,30 @@ its-found =
 its-load : loadOutcome savedBytes ≡ loadedAsItself lastStore
 its-load =
     subst (λ (bytes : List ℕ). loadOutcome bytes ≡ loadedAsItself lastStore) its-image
-    (reached-loads (freshStore 1) fresh-one-good (fresh-idle 1 .declared) sevenSteps seven-declared)
+    (demand-2 .saved-loads (freshStore 1) fresh-one-good (fresh-idle 1 .declared) sevenSteps seven-declared)
 
 pub instances : Instances
 instances =
     record {
       refused = refused-idle;
-      store-left = refused-store (step 0) lastStore (bare IDLE) refused-idle (lit≤ tt);
+      store-left = demand-1 .store-left (step 0) lastStore (bare IDLE) refused-idle (lit≤ tt);
       structure = its-structure;
       upserts = its-upsert;
       carry-says = carry-answers;
-      carry-counts = carry-counts (carry 0 0) 0 0 (unfold eventOf in refl) beforeCarry good-before-carry is-edge;
-      carry-changes-none = carry-leaves (carry 0 0) 0 0 (unfold eventOf in refl) beforeCarry good-before-carry;
+      carry-counts = demand-2 .carry-says (carry 0 0) 0 0 (unfold eventOf in refl) beforeCarry good-before-carry is-edge;
+      carry-changes-none = demand-2 .carrying-changes-none (carry 0 0) 0 0 (unfold eventOf in refl) beforeCarry good-before-carry;
       search-runs = runs;
       latest-at-start = start-result;
       search = (its-search, its-found);
       saves = its-image;
       loads = its-load;
       saves-again =
-          loaded-saves savedBytes (subst Bytes its-image (saved-and-loaded lastStore (good-after sevenSteps) last-declared .of-bytes))
+          demand-2 .loaded-saves savedBytes (subst Bytes its-image (demand-2 .saved-and-loaded lastStore (good-after sevenSteps) last-declared .of-bytes))
           (ap (λ (o : Outcome). o .answer .number) its-load);
       page-is = its-page;
       served = its-length;
       never-again = λ later ds on kept notice begun.
-          never-again lastStore (good-after sevenSteps) last-declared (entering 210 ∷ later) ds on 1 (lit≤ tt) kept notice begun 1 (lit≤ tt)
+          demand-2 .never-again lastStore (good-after sevenSteps) last-declared (entering 210 ∷ later) ds on 1 (lit≤ tt) kept notice begun 1 (lit≤ tt)
           (copy lineKey RESULT 210 3)
           (record {
             before = [];
@@ -326,9 +325,9 @@ instances =
       entered-twice = line-entered;
       carried-twice = line-carried;
       three-edges = line-edges;
-      at-most = calls-bound lineKey sevenSteps (freshStore 1);
+      at-most = demand-3 .carried-at-most lineKey sevenSteps (freshStore 1);
       six-reached =
-          calls-reach 1 (lit≤ tt) (omega (arith, first-plan)) lineKey 210 2 (omega arith) lastStore .1 ∙ ap (λ (n : ℕ). n * 2) fresh-edges;
+          demand-3 .reached 1 (lit≤ tt) (omega (arith, first-plan)) lineKey 210 2 (omega arith) lastStore .1 ∙ ap (λ (n : ℕ). n * 2) fresh-edges;
       search-ends = its-end;
-      counts-again = loaded-copy;
+      counts-again = λ z. demand-3 .loaded-copies-count (load savedBytes) [] z (idled lastStore) (held (stateOf z)) loaded-store ∙ loaded-copies;
     }

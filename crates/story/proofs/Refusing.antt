@@ -19,6 +19,7 @@ use Rattle.refusals.proofs.Load.{load-cut, load-number, load-format, load-plan,
 use Rattle.refusals.proofs.Page.{page-badstore, page-sample, page-small, page-needs}
 use Rattle.refusals.proofs.Decode.{decode-small, decode-needs, decode-plan, decode-op, decode-many, decode-cut, decode-number}
 use Rattle.refusals.proofs.Run.{run-badstore, run-op, run-op-place}
+use Rattle.transcript.proofs.Uniqueness.{transcribe-once}
 use Rattle.export.proofs.Uniqueness.{fresh-behind-once, step-behind-once, load-behind-once, serve-length-once}
 use Rattle.calls.proofs.Uniqueness.{
   fresh-once,
@@ -55,6 +56,7 @@ one-outcome =
       page = page-once;
       decode = decode-once;
       serve = serve-once;
+      transcribe = transcribe-once;
       fresh-behind = fresh-behind-once;
       step-behind = step-behind-once;
       load-behind = load-behind-once;

@@ -40,10 +40,11 @@ whileItRuns = step 0 ∷ entering 210 ∷ carry 0 0 ∷ []
 abbrev pub sevenSteps : List Call
 sevenSteps = beforeSearch ++ start lineKey ∷ whileItRuns ++ step 0 ∷ []
 
--- The store after the first steps, up to the entry of 210, and after it.
+-- The store before the entry of 210,
 abbrev pub beforeEntry : Store
 beforeEntry = afterFresh 1 (beforeSearch ++ start lineKey ∷ step 0 ∷ [])
 
+-- and before the carry after it.
 abbrev pub beforeCarry : Store
 beforeCarry = storeAfter (entering 210) beforeEntry
 
@@ -51,10 +52,11 @@ beforeCarry = storeAfter (entering 210) beforeEntry
 abbrev pub lastStore : Store
 lastStore = afterFresh 1 sevenSteps
 
--- The two copies entered.
+-- The copy entered first,
 abbrev pub olderCopy : Copy
 olderCopy = copy lineKey RESULT 180 1
 
+-- and the one entered second.
 abbrev pub newerCopy : Copy
 newerCopy = copy lineKey RESULT 210 2
 
@@ -66,6 +68,11 @@ savedBytes = 0x01 ∷ 0x01 ∷ 0x03 ∷ 0x00 ∷ 0x01 ∷ 0x21 ∷ 0x01 ∷ 0xD2
 abbrev pub pageKept : List ℕ
 pageKept = 0x01 ∷ 0x01 ∷ 0x01 ∷ 0xD2 ∷ 0x01 ∷ 0x02 ∷ []
 
+-- Four steps of a search with nothing in between.
+abbrev pub stepsAlone : List Call
+stepsAlone = replicate 4 (step 0)
+
+-- The instances.
 pub record Instances : Type 0 where
   -- Demand 1: the eighth step is refused with IDLE, and leaves the store.
   pub refused : answerTo (step 0) lastStore ≡ some (bare IDLE)
@@ -104,6 +111,6 @@ pub record Instances : Type 0 where
   -- and two rounds down the whole path reach 6.
   pub six-reached : carriesSince lineKey (roundCalls 1 lineKey 210 2) lastStore 0 ≡ 6
   -- A search alone ends within four own steps, since the path has four nodes.
-  pub search-ends : EndsByCall (storeAfter (start lineKey) (freshStore 1)) 0 (replicate 4 (step 0))
+  pub search-ends : EndsByCall (storeAfter (start lineKey) (freshStore 1)) 0 stepsAlone
   -- After the load of P2's bytes the count starts again, with the one copy loaded.
   pub counts-again : (z : Store) → copiesSoFar (load savedBytes ∷ []) z ≡ newerCopy ∷ []

@@ -62,6 +62,7 @@ use Rattle.schedule.specs.declared.Step.{Step}
 use Rattle.schedule.specs.Schedule.{mostSteps}
 use Rattle.schedule.specs.Running.{runOutcome}
 use Rattle.schedule.specs.Promises.{decodeOutcome, Decodes, Runs}
+use Rattle.transcript.specs.Promises.{Transcribes}
 use Rattle.export.specs.Promises.{FreshensBehind, StepsBehind, LoadsBehind}
 use Rattle.refusals.specs.Given.{IsPlan, RootFull, Unknown}
 use Rattle.refusals.specs.Images.{Own, InImage, BadFormat, BadPlan, RuleAt, Trails, BreaksWhole}
@@ -92,6 +93,10 @@ pub record OneOutcome : Type 0 where
   pub serve :
       (store : Store) (sample : ℕ) (kept notice r q : RefT (List ℕ)) → Serves store sample kept notice r → Serves store sample kept notice q
       → (r .ptr ≡ q .ptr) × (r .now ≡ q .now)
+  -- Of a schedule's text its length and the buffer at exit.
+  pub transcribe :
+      (bytes before : List ℕ) (r q : ℕ) (after other : List ℕ) → Transcribes bytes before r after → Transcribes bytes before q other
+      → (r ≡ q) × (after ≡ other)
   -- From C: the answer or the length, and the store behind the pointer at exit.
   pub fresh-behind :
       (plan : ℕ) (r q : Answer) (after other : Store) → FreshensBehind plan r after → FreshensBehind plan q other → (r ≡ q) × (after ≡ other)
