@@ -90,6 +90,7 @@ good : goodStore z ≡ true
 good = calls-keep-good (entering 180 ∷ []) (freshStore 1) (fresh-good 1 (lit≤ tt) (omega (arith, first-plan)))
 
 declared : Declared z
+unfolding hasValue
 declared =
     calls-keep-declared (entering 180 ∷ []) (λ c m. subst DeclaredCall (sym (List·Memᴰ·eq-of-singleton m)) (lit≤ tt, lit≤ tt)) (freshStore 1)
     (fresh-idle 1 .declared)

@@ -1,21 +1,21 @@
 -- The page of a sample is what is shown of each of its lines, and no more: two stores, of any plans, have one page of a sample exactly when
 -- they show the same of each line. Assumes nothing.
-use mathlib.Core.Path.{_≡_, refl, sym, ap, _∙_}
+use mathlib.Core.Path.{_≡_, refl, sym, ap, _∙_, subst}
 use mathlib.Core.Bool.{true, false}
 use mathlib.Core.List.{List, _∷_, _++_, List·Memᴰ}
 use mathlib.Core.Logic.{_⊎_, inl, inr}
 use mathlib.Core.Option.{Option, none, some}
-use Prim.Native.Nat.{ℕ, _≤_}
+use Prim.Native.Nat.{ℕ, _<_, _≤_}
 use native.Mathlib.Omega.{arith}
 use Rattle.lists.proofs.Truths.{bool?}
 use Rattle.store.specs.declared.Copy.{Copy}
 use Rattle.store.specs.declared.Store.{Store}
-use Rattle.store.specs.Copies.{hasValue}
+use Rattle.store.specs.Copies.{hasValue, stampOf}
 use Rattle.store.specs.Layout.{planOf, stateOf}
 use Rattle.store.specs.StoreRules.{goodStore}
 use Rattle.store.proofs.Lifting.{plan-good, state-good}
 use Rattle.theory.specs.Events.{held}
-use Rattle.theory.specs.Paper.{Multicopy}
+use Rattle.theory.specs.Paper.{InHistory, Multicopy}
 use Rattle.theory.proofs.Invariants.{history-in, multicopy-held}
 use Rattle.trips.specs.Trips.{Declared}
 use Rattle.page_lines.specs.PageLine.{lastSample, keyFor, PageLine, pageLine, shown}
@@ -61,11 +61,11 @@ pub store-bounded : (z : Store) → goodStore z ≡ true → Declared z → Boun
 store-bounded z good declared =
     record {
       values = λ k x e. declared-small z good declared x (in-held k x e) .value;
-      stamps = λ k x e. c .h-clock x (in-held k x e);
+      stamps = λ k x e. subst (λ (o : Option Copy). stampOf o < stateOf z .clock) e (c .h-clock k (currentIn z k) (c .invariant-1 k .in-history));
       clock = state-good z good .clock-within .1;
     }
   where
-    c : Multicopy (planOf z) (stateOf z) (held (stateOf z))
+    c : Multicopy (planOf z) (stateOf z) (InHistory (held (stateOf z)))
     c = multicopy-held (planOf z) (plan-good z good) (stateOf z) (state-good z good)
 
     in-held : (k : ℕ) (x : Copy) → currentIn z k ≡ some x → List·Memᴰ x (held (stateOf z))

@@ -9,8 +9,10 @@ use native.Mathlib.Omega.{arith}
 use native.Mathlib.Nat.{le-of-suc-le-suc}
 use lib.ListN.{length, getD}
 use Rattle.lists.proofs.Options.{option?, not-none-and-some}
-use Rattle.plan.specs.Plan.{Plan, path}
+use Rattle.plan.specs.Plan.{Plan, next, path}
 use Rattle.plan.specs.PlanRules.{PlanRules}
+use Rattle.plan.proofs.NextLaws.{root-in-plan}
+use Rattle.plan.proofs.PathLaws.{path-is, path-some}
 use Rattle.store.specs.declared.Copy.{Copy}
 use Rattle.store.specs.State.{State, line, firstOn, current}
 use Rattle.steps.specs.Searches.{ended, visitsOn, lookAnswer}
@@ -74,6 +76,7 @@ visits-until l (n ∷ ns) = go (option? (l n)) (visits-until l ns)
 -- A look's answer.
 pub record LookAnswer (p : Plan) (s : State) (k : ℕ) : Type 0 where
   pub visits : ℕ
+  pub some-visit : 1 ≤ visits
   pub until : VisitsUntil (line s k) (path p k) visits
   pub says : lookAnswer k p s ≡ ended (current p s k) visits
 
@@ -84,6 +87,11 @@ module _ (p : Plan) (rules : PlanRules p) (k : ℕ) where
   look-answer s =
       record {
         visits = visitsOn (line s k) (path p k);
+        some-visit = visits-some (line s k) (path p k) (path-some (λ n. next p n k) (path-is p rules k 0 (root-in-plan p rules)));
         until = visits-until (line s k) (path p k);
         says = refl;
       }
+    where
+      visits-some : (l : ℕ → Option Copy) (ns : List ℕ) → 0 < length ns → 1 ≤ visitsOn l ns
+      visits-some l [] h = absurd (omega arith)
+      visits-some l (n ∷ ns) h = unfold visitsOn in omega arith
