@@ -7,7 +7,7 @@ use mathlib.Core.Option.{Option, none, some}
 use Prim.Native.Nat.{ℕ, _*_, _≤_}
 use native.Mathlib.Omega.{arith}
 use lib.Dec.{lit≤}
-use lib.ListN.{length}
+use lib.ListN.{length, replicate}
 use Rattle.lists.specs.Indexed.{tabulate, allFrom}
 use Rattle.lists.proofs.Options.{one-some}
 use Rattle.number.specs.Number.{Bytes, formIn, form, readLast, putBelow, readIn, readAt}
@@ -22,7 +22,7 @@ use Rattle.store.specs.declared.Store.{Store}
 use Rattle.store.specs.Answers.{DONE, IDLE, answer, bare}
 use Rattle.store.specs.Copies.{RESULT, hasValue, copy, find, member, different}
 use Rattle.store.specs.Copies.Kind.{result}
-use Rattle.store.specs.State.{fresh, firstOn, inReach}
+use Rattle.store.specs.State.{State, slotCount, idle, fresh, firstOn, inReach}
 use Rattle.store.specs.Layout.{nodeIn, planOf, stateOf, column, storeOf, freshStore}
 use Rattle.store.specs.StoreRules.{
   shapeTest,
@@ -63,6 +63,7 @@ use Rattle.calls.specs.Following.{
   eventsOf,
   onEvent,
   ownOutcome,
+  storeIfAccepted,
   replacement,
   sameStore,
   enteredBy,
@@ -126,13 +127,26 @@ last-declared = calls-keep-declared sevenSteps seven-declared (freshStore 1) (fr
 
 -- ---- what is computed
 
-refused-idle : answerTo (step 0) lastStore ≡ some (bare IDLE)
+-- The store after seven steps, by what it holds: 210 in node 1.
+abbrev lastState : State
+lastState = record { clock = 3; nodes = [] ∷ (newerCopy ∷ []) ∷ [] ∷ [] ∷ []; slots = replicate slotCount idle }
+
+abbrev heldStore : Store
+heldStore = storeOf 1 lastState
+
+last-is : lastStore ≡ heldStore
 unfolding opened
-refused-idle = refl
+last-is = refl
+
+held-refuses : answerTo (step 0) heldStore ≡ some (bare IDLE)
+unfolding opened
+held-refuses = refl
+
+refused-idle : answerTo (step 0) lastStore ≡ some (bare IDLE)
+refused-idle = ap (answerTo (step 0)) last-is ∙ held-refuses
 
 last-clock : lastStore .clock ≡ 3
-unfolding opened
-last-clock = refl
+last-clock = ap (λ (z : Store). z .clock) last-is ∙ (unfold storeOf in refl)
 
 last-copies : copiesSoFar sevenSteps (freshStore 1) ≡ olderCopy ∷ newerCopy ∷ []
 unfolding opened
@@ -174,49 +188,58 @@ end-copies : copiesSoFar (beforeSearch ++ start lineKey ∷ whileItRuns) (freshS
 unfolding opened
 end-copies = refl
 
-its-image : image lastStore ≡ savedBytes
+held-image : image heldStore ≡ savedBytes
 unfolding opened
-its-image = refl
+held-image = refl
+
+its-image : image lastStore ≡ savedBytes
+its-image = ap image last-is ∙ held-image
+
+held-page : pageNow heldStore 1 ≡ pageKept
+unfolding opened
+held-page = refl
 
 its-page : pageNow lastStore 1 ≡ pageKept
+its-page = ap (λ (z : Store). pageNow z 1) last-is ∙ held-page
+
+held-length : servedLength heldStore 1 pageKept ≡ 6
 unfolding opened
-its-page = refl
+held-length = refl
 
 its-length : servedLength lastStore 1 pageKept ≡ 6
+its-length = ap (λ (z : Store). servedLength z 1 pageKept) last-is ∙ held-length
+
+held-shows : shows heldStore lineKey ≡ some (210, 2)
 unfolding opened
-its-length = refl
+held-shows = refl
 
 shown : shows lastStore lineKey ≡ some (210, 2)
+shown = ap (λ (z : Store). shows z lineKey) last-is ∙ held-shows
+
+held-enters : enteredBy (eventOf (entering 210)) heldStore ≡ some (copy lineKey RESULT 210 3)
 unfolding opened
-shown = refl
+held-enters = refl
 
 entered-again : enteredBy (eventOf (entering 210)) lastStore ≡ some (copy lineKey RESULT 210 3)
-unfolding opened
-entered-again = refl
+entered-again = ap (enteredBy (eventOf (entering 210))) last-is ∙ held-enters
 
 line-carried : carriesSince lineKey sevenSteps (freshStore 1) 0 ≡ 2
 unfolding opened
 line-carried = refl
 
 line-entered : copiesOf lineKey (copiesSoFar sevenSteps (freshStore 1)) ≡ 2
+line-entered = ap (copiesOf lineKey) last-copies ∙ (unfold copiesOf in refl)
+
+held-edges : edgesOn (planOf heldStore) lineKey ≡ 3
 unfolding opened
-line-entered = refl
+held-edges = refl
 
 line-edges : edgesOn (planOf lastStore) lineKey ≡ 3
-unfolding opened
-line-edges = refl
+line-edges = ap (λ (z : Store). edgesOn (planOf z) lineKey) last-is ∙ held-edges
 
 fresh-edges : edgesOn (planOf (freshStore 1)) lineKey ≡ 3
 unfolding opened
 fresh-edges = refl
-
-loaded-store : replacement (load savedBytes) ≡ some (idled lastStore)
-unfolding opened idled
-loaded-store = refl
-
-loaded-copies : history [] (idled lastStore) (held (stateOf (idled lastStore))) ≡ newerCopy ∷ []
-unfolding opened idled
-loaded-copies = refl
 
 fresh-starts : answerTo (start lineKey) (freshStore 1) ≡ some (answer DONE 0 0 0 0)
 unfolding opened
@@ -289,6 +312,17 @@ its-load : loadOutcome savedBytes ≡ loadedAsItself lastStore
 its-load =
     subst (λ (bytes : List ℕ). loadOutcome bytes ≡ loadedAsItself lastStore) its-image
     (demand-2 .saved-loads (freshStore 1) fresh-one-good (fresh-idle 1 .declared) sevenSteps seven-declared)
+
+loaded-store : replacement (load savedBytes) ≡ some (idled lastStore)
+unfolding ownOutcome replacement
+loaded-store = ap (λ (o : Outcome). storeIfAccepted (some o)) its-load
+
+held-copies : history [] (idled heldStore) (held (stateOf (idled heldStore))) ≡ newerCopy ∷ []
+unfolding opened idled
+held-copies = refl
+
+loaded-copies : history [] (idled lastStore) (held (stateOf (idled lastStore))) ≡ newerCopy ∷ []
+loaded-copies = ap (λ (z : Store). history [] (idled z) (held (stateOf (idled z)))) last-is ∙ held-copies
 
 pub instances : Instances
 instances =
