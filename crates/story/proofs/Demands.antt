@@ -8,7 +8,7 @@ use Rattle.refusals.proofs.Decode.{decode-refused}
 use Rattle.calls.proofs.Follows.{call-keeps-good, call-on-bad}
 use Rattle.calls.proofs.Histories.{replaced-history, replaced-carries}
 use Rattle.calls.proofs.CurrentResults.{refused-store, entry-sets, others-leave, carry-leaves}
-use Rattle.calls.proofs.CallLaws.{calls-increase, look-is-search, carry-counts}
+use Rattle.calls.proofs.CallLaws.{calls-increase, look-says, look-is-search, carry-counts}
 use Rattle.calls.proofs.Recalls.{store-search-ends, fresh-ends-searches, load-ends-searches}
 use Rattle.calls.proofs.KeepsDeclared.{reached-loads, reached-buffer-loads}
 use Rattle.calls.proofs.CarryBound.{calls-bound, calls-reach}
@@ -61,6 +61,7 @@ demand-2 =
       no-other-search = every-search-at-hand;
       fresh-ends-searches = fresh-ends-searches;
       load-ends-searches = load-ends-searches;
+      look-says = look-says;
       look-is-search = look-is-search;
       saved-loads = reached-loads;
       buffer-loads = reached-buffer-loads;

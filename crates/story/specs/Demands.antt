@@ -17,14 +17,15 @@ use Rattle.store.specs.declared.Copy.{Copy}
 use Rattle.store.specs.declared.Store.{Store}
 use Rattle.store.specs.Answers.{DONE, PLAN, answer, bare}
 use Rattle.store.specs.Copies.{Kind, kindNumber, valueHeld, copy}
-use Rattle.store.specs.State.{idle}
+use Rattle.store.specs.State.{idle, line}
 use Rattle.store.specs.Layout.{planOf, stateOf, freshStore}
 use Rattle.store.specs.StoreRules.{goodStore}
 use Rattle.store.specs.Promises.{freshOutcome}
-use Rattle.steps.specs.Searches.{running}
+use Rattle.steps.specs.Searches.{running, ended}
 use Rattle.theory.specs.Events.{held, copiesOf, ownSteps, notCancelled}
 use Rattle.theory.specs.Events.Event.{enters, carries, starts, steps}
 use Rattle.theory.specs.Paper.{CopySet, InHistory, upserted}
+use Rattle.theory.specs.Looking.{VisitsUntil}
 use Rattle.image_writing.specs.Image.{image}
 use Rattle.image_loading.specs.Loading.{refusedLoad, loadOutcome}
 use Rattle.image.specs.Promises.{saveOutcome}
@@ -148,7 +149,12 @@ pub record Demand2 : Type 1 where
   -- "An accepted fresh or load ends all running searches of the store it replaces."
   pub fresh-ends-searches : (plan : ℕ) (y : Store) → replacement (fresh plan) ≡ some y → AllIdle y
   pub load-ends-searches : (bytes : List ℕ) (y : Store) → replacement (load bytes) ≡ some y → AllIdle y
-  -- A look is a search with nothing in between.
+  -- A look says the line's current result, and the visits until it is found;
+  pub look-says :
+      (z : Store) → goodStore z ≡ true → (k : ℕ)
+      → (visits : ℕ) × (answerTo (reads (look k)) z ≡ some (ended (currentIn z k) visits))
+      × VisitsUntil (line (stateOf z) k) (path (planOf z) k) visits
+  -- it is a search with nothing in between.
   pub look-is-search :
       (z : Store) → goodStore z ≡ true → (c : Call) (k i : ℕ) → eventOf c ≡ starts k → answerTo c z ≡ some (answer DONE i 0 0 0)
       → (m : ℕ) × (answerTo (step i) (storeAfterAll (replicate m (step i)) (storeAfter c z)) ≡ answerTo (reads (look k)) z)
