@@ -27,7 +27,8 @@ use Rattle.steps.proofs.SearchLaws.SearchEnds.{now, later}
 use Rattle.theory.specs.Events.{effect, after, answerOf}
 use Rattle.theory.specs.Events.Event.{carries, starts, steps}
 use Rattle.theory.proofs.Invariants.{reach-increases-all}
-use Rattle.theory.proofs.Looks.{VisitsUntil, look-answer}
+use Rattle.theory.specs.Looking.{VisitsUntil}
+use Rattle.theory.proofs.Looks.{look-answer}
 use Rattle.calls.specs.PublicCalls.{Call, storeAfter, returned, answerTo, storeAfterAll}
 use Rattle.calls.specs.PublicCalls.Call.{step, reads}
 use Rattle.calls.specs.PublicCalls.ReadOnly.{look}

@@ -20,7 +20,7 @@ use Rattle.export.specs.Promises.{StepsBehind}
 use Rattle.calls.specs.PublicCalls.{Call, answerTo}
 use Rattle.calls.specs.PublicCalls.Call.{fresh, run}
 use Rattle.calls.specs.Following.{eventOfRecord, eventOf, onEvent}
-use Rattle.calls.proofs.Follows.{run-way, acts-as, entry-acts}
+use Rattle.calls.proofs.Follows.{run-as, acts-as, entry-acts}
 use Rattle.kept.specs.EntriesBehind.{stepNumber}
 
 -- The public call in the place of a step.
@@ -72,7 +72,7 @@ pub step-answer : (number x y : ℕ) (r : Answer) (z leaves : Store) → StepsBe
 unfolding runOutcome eventOf
 step-answer number x y r z leaves does kind k v is =
     acts-as (stepRun number x y) (enters kind k v) is (entry-acts kind k v) .answers z
-    ∙ ap some (sym (does .0 ∙ go (run-way z (stepRecord number x y ∷ []) 0)))
+    ∙ ap some (sym (does .0 ∙ go (run-as z (stepRecord number x y ∷ []) 0)))
   where
     go : (runOutcome z (stepRecord number x y ∷ []) 0 ≡ onEvent (eventOf (stepRun number x y)) z)
         ⊎ ((eventOf (stepRun number x y) ≡ asks) × (runOutcome z (stepRecord number x y ∷ []) 0 .store ≡ z))

@@ -14,16 +14,9 @@ use Rattle.plan.specs.PlanRules.{PlanRules}
 use Rattle.plan.proofs.NextLaws.{root-in-plan}
 use Rattle.plan.proofs.PathLaws.{path-is, path-some}
 use Rattle.store.specs.declared.Copy.{Copy}
-use Rattle.store.specs.State.{State, line, firstOn, current}
-use Rattle.steps.specs.Searches.{ended, visitsOn, lookAnswer}
-
--- The visits until a copy is found: in every node before the last one visited there is none, and in that one the first copy, or there is
--- none in any.
-pub record VisitsUntil (l : ℕ → Option Copy) (ns : List ℕ) (visits : ℕ) : Type 0 where
-  pub within : visits ≤ length ns
-  pub before : (j : ℕ) → suc j < visits → l (getD ns j 0) ≡ none
-  pub last-visit : (j : ℕ) → suc j ≡ visits → l (getD ns j 0) ≡ firstOn l ns
-  pub or-all : firstOn l ns ≡ none → visits ≡ length ns
+use Rattle.store.specs.State.{State, line, firstOn}
+use Rattle.steps.specs.Searches.{visitsOn, lookAnswer}
+use Rattle.theory.specs.Looking.{VisitsUntil, LookAnswer}
 
 visits-here : (l : ℕ → Option Copy) (n : ℕ) (ns : List ℕ) (x : Copy) → l n ≡ some x → VisitsUntil l (n ∷ ns) (visitsOn l (n ∷ ns))
 unfolding visitsOn firstOn
@@ -72,13 +65,6 @@ visits-until l (n ∷ ns) = go (option? (l n)) (visits-until l ns)
     go : (l n ≡ none) ⊎ ((x : Copy) × (l n ≡ some x)) → VisitsUntil l ns (visitsOn l ns) → VisitsUntil l (n ∷ ns) (visitsOn l (n ∷ ns))
     go (inr w) again = visits-here l n ns (w .0) (w .1)
     go (inl e) again = visits-on l n ns e again
-
--- A look's answer.
-pub record LookAnswer (p : Plan) (s : State) (k : ℕ) : Type 0 where
-  pub visits : ℕ
-  pub some-visit : 1 ≤ visits
-  pub until : VisitsUntil (line s k) (path p k) visits
-  pub says : lookAnswer k p s ≡ ended (current p s k) visits
 
 module _ (p : Plan) (rules : PlanRules p) (k : ℕ) where
   -- A look says the line's current result, which stands in the last node visited; or never, having visited every node of the path.
