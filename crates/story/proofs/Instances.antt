@@ -56,7 +56,7 @@ use Rattle.trips.proofs.RoundTrips.{fresh-idle}
 use Rattle.page_lines.specs.PageLine.{pageLinesFrom}
 use Rattle.page.specs.PageBytes.{pageLineBytes, pageLinesBytes, pageBytes, begins}
 use Rattle.page.specs.Promises.{pageNow, stillTrue, servedLength}
-use Rattle.calls.specs.PublicCalls.{Call, storeAfter, gives, answerTo, storeAfterAll}
+use Rattle.calls.specs.PublicCalls.{Call, storeAfter, returned, answerTo, storeAfterAll}
 use Rattle.calls.specs.PublicCalls.Call.{load, carry, start, step}
 use Rattle.calls.specs.Following.{
   eventOf,
@@ -96,7 +96,7 @@ use Rattle.story.proofs.Demands.{demand-1, demand-2, demand-3}
 
 -- Whoever unfolds this unfolds all definitions that the instances are about.
 opened : Bool
-unfolding tabulate allFrom flatten formIn form readLast putBelow readIn readAt holds firstEdge next walk pathFrom planTable plans planNumbered hasValue find member different fresh firstOn inReach nodeIn planOf stateOf column storeOf freshStore shapeTest planNumberTest clockTest kindTest copyTest placeTest allZero unusedTest nodeTest stampsFrom standsAt slotTest goodStore onStore put room entered entry carries merge countHeld mergeAlong carriedTo carriedOut carryStep lowestIdle startStep withRunning stepStep effect held copiesOf stillRunsAfter stillRuns isOwnStep ownSteps cancelsSlot notCancelled bind numbered numberAt valueBytes copyBytes readValue readCopy copiesBytes nodeBytes nodesBytes imageOf readCopies readNode readNodes nodesFrom clockFrom planFrom imageAt copiesHeld finished loadOutcome pageLinesFrom pageLineBytes pageLinesBytes pageBytes begins stillTrue servedLength storeAfter gives answerTo storeAfterAll eventOf eventsOf onEvent ownOutcome replacement sameStore enteredBy carriedBy history carriesSince
+unfolding tabulate allFrom flatten formIn form readLast putBelow readIn readAt holds firstEdge next walk pathFrom planTable plans planNumbered hasValue find member different fresh firstOn inReach nodeIn planOf stateOf column storeOf freshStore shapeTest planNumberTest clockTest kindTest copyTest placeTest allZero unusedTest nodeTest stampsFrom standsAt slotTest goodStore onStore put room entered entry carries merge countHeld mergeAlong carriedTo carriedOut carryStep lowestIdle startStep withRunning stepStep effect held copiesOf stillRunsAfter stillRuns isOwnStep ownSteps cancelsSlot notCancelled bind numbered numberAt valueBytes copyBytes readValue readCopy copiesBytes nodeBytes nodesBytes imageOf readCopies readNode readNodes nodesFrom clockFrom planFrom imageAt copiesHeld finished loadOutcome pageLinesFrom pageLineBytes pageLinesBytes pageBytes begins stillTrue servedLength storeAfter returned answerTo storeAfterAll eventOf eventsOf onEvent ownOutcome replacement sameStore enteredBy carriedBy history carriesSince
 opened = true
 
 -- The stores of the schedule are good and of the declared type.
