@@ -8,54 +8,30 @@ use Prim.Native.Nat.{ℕ, _*_, _≤_}
 use native.Mathlib.Omega.{arith}
 use lib.Dec.{lit≤}
 use lib.ListN.{length, replicate}
-use Rattle.lists.specs.Indexed.{tabulate, allFrom}
 use Rattle.lists.proofs.Options.{one-some}
-use Rattle.number.specs.Number.{Bytes, formIn, form, readLast, putBelow, readIn, readAt}
-use Rattle.plan.specs.Plan.{holds, firstEdge, next, walk, pathFrom, path, edgesOn}
+use Rattle.number.specs.Number.{Bytes}
+use Rattle.plan.specs.Plan.{path, edgesOn}
 use Rattle.plan.specs.PlanRules.{IsEdge}
-use Rattle.plan_table.specs.PlanTable.{planTable, plans, planNumbered}
 use Rattle.plan_table.proofs.TableLaws.{first-plan}
 use Rattle.store.specs.declared.Answer.{Answer}
 use Rattle.store.specs.declared.Copy.{Copy}
 use Rattle.store.specs.declared.Outcome.{Outcome}
 use Rattle.store.specs.declared.Store.{Store}
 use Rattle.store.specs.Answers.{DONE, IDLE, answer, bare}
-use Rattle.store.specs.Copies.{RESULT, hasValue, copy, find, member, different}
+use Rattle.store.specs.Copies.{RESULT, hasValue, copy}
 use Rattle.store.specs.Copies.Kind.{result}
-use Rattle.store.specs.State.{State, slotCount, idle, fresh, firstOn, inReach}
-use Rattle.store.specs.Layout.{nodeIn, planOf, stateOf, column, storeOf, freshStore}
-use Rattle.store.specs.StoreRules.{
-  shapeTest,
-  planNumberTest,
-  clockTest,
-  kindTest,
-  copyTest,
-  placeTest,
-  allZero,
-  unusedTest,
-  nodeTest,
-  stampsFrom,
-  standsAt,
-  slotTest,
-  goodStore,
-}
-use Rattle.store.specs.Calls.{onStore}
+use Rattle.store.specs.State.{State, slotCount, idle}
+use Rattle.store.specs.Layout.{planOf, stateOf, storeOf, freshStore}
+use Rattle.store.specs.StoreRules.{goodStore}
 use Rattle.store.proofs.Lifting.{fresh-good}
-use Rattle.steps.specs.Entries.{put, room, entered, entry}
-use Rattle.steps.specs.Carries.{carries, merge, countHeld, mergeAlong, carriedTo, carriedOut, carryStep}
 use Rattle.steps.specs.Searches.{ended, lowestIdle, startStep, withRunning, stepStep}
 use Rattle.theory.specs.Events.{effect, held, copiesOf, stillRunsAfter, stillRuns, isOwnStep, ownSteps, cancelsSlot, notCancelled}
 use Rattle.theory.specs.Paper.{InHistory}
-use Rattle.wire.specs.Reading.{bind, numbered, numberAt}
-use Rattle.copies.specs.CopyBytes.{valueBytes, copyBytes, readValue, readCopy}
-use Rattle.image_writing.specs.Image.{copiesBytes, nodeBytes, nodesBytes, imageOf, image}
-use Rattle.image_reading.specs.ImageReading.{readCopies, readNode, readNodes, nodesFrom, clockFrom, planFrom, imageAt}
-use Rattle.image_loading.specs.Loading.{copiesHeld, finished, loadOutcome}
+use Rattle.image_writing.specs.Image.{image}
+use Rattle.image_loading.specs.Loading.{loadOutcome}
 use Rattle.trips.specs.Trips.{Declared, idled, loadedAsItself}
 use Rattle.trips.proofs.RoundTrips.{fresh-idle}
-use Rattle.page_lines.specs.PageLine.{pageLinesFrom}
-use Rattle.page.specs.PageBytes.{pageLineBytes, pageLinesBytes, pageBytes, begins}
-use Rattle.page.specs.Promises.{pageNow, stillTrue, servedLength}
+use Rattle.page.specs.Promises.{pageNow, servedLength}
 use Rattle.calls.specs.PublicCalls.{Call, storeAfter, gives, answerTo, storeAfterAll}
 use Rattle.calls.specs.PublicCalls.Call.{load, carry, start, step}
 use Rattle.calls.specs.Following.{
@@ -78,6 +54,7 @@ use Rattle.calls.proofs.KeepsDeclared.{calls-keep-declared}
 use Rattle.paper_calls.specs.Structure.{StoreMCS, copiesSoFar, CallUpserts, CallSearch}
 use Rattle.kept.specs.Shows.{shows}
 use Rattle.kept.specs.Examples.{lineKey, entering, afterFresh}
+use Rattle.kept.proofs.ExamplesServed.{opened as pagesOpened}
 use Rattle.story.specs.Instances.{
   beforeSearch,
   whileItRuns,
@@ -96,7 +73,7 @@ use Rattle.story.proofs.Demands.{demand-1, demand-2, demand-3}
 
 -- Whoever unfolds this unfolds all definitions that the instances are about.
 opened : Bool
-unfolding tabulate allFrom flatten formIn form readLast putBelow readIn readAt holds firstEdge next walk pathFrom planTable plans planNumbered hasValue find member different fresh firstOn inReach nodeIn planOf stateOf column storeOf freshStore shapeTest planNumberTest clockTest kindTest copyTest placeTest allZero unusedTest nodeTest stampsFrom standsAt slotTest goodStore onStore put room entered entry carries merge countHeld mergeAlong carriedTo carriedOut carryStep lowestIdle startStep withRunning stepStep effect held copiesOf stillRunsAfter stillRuns isOwnStep ownSteps cancelsSlot notCancelled bind numbered numberAt valueBytes copyBytes readValue readCopy copiesBytes nodeBytes nodesBytes imageOf readCopies readNode readNodes nodesFrom clockFrom planFrom imageAt copiesHeld finished loadOutcome pageLinesFrom pageLineBytes pageLinesBytes pageBytes begins stillTrue servedLength storeAfter gives answerTo storeAfterAll eventOf eventsOf onEvent ownOutcome replacement sameStore enteredBy carriedBy history carriesSince
+unfolding pagesOpened flatten lowestIdle startStep withRunning stepStep effect held copiesOf stillRunsAfter stillRuns isOwnStep ownSteps cancelsSlot notCancelled gives answerTo eventOf eventsOf onEvent ownOutcome replacement sameStore enteredBy carriedBy history carriesSince
 opened = true
 
 -- The stores of the schedule are good and of the declared type.
@@ -340,7 +317,8 @@ instances =
       saves = its-image;
       loads = its-load;
       saves-again =
-          demand-2 .loaded-saves savedBytes (subst Bytes its-image (demand-2 .saved-and-loaded lastStore (good-after sevenSteps) last-declared .of-bytes))
+          demand-2 .loaded-saves savedBytes
+          (subst Bytes its-image (demand-2 .saved-and-loaded lastStore (good-after sevenSteps) last-declared .of-bytes))
           (ap (λ (o : Outcome). o .answer .number) its-load);
       page-is = its-page;
       served = its-length;
