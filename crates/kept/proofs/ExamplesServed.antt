@@ -60,7 +60,7 @@ use Rattle.kept.specs.Examples.{lineKey, entering, afterFresh, Examples}
 use Rattle.kept.proofs.AmendedPages.{never-again}
 
 -- Whoever unfolds this unfolds all definitions that the examples are about.
-opened : Bool
+unfoldable pub opened : Bool
 unfolding tabulate allFrom formIn form readLast putBelow readIn readAt holds firstEdge next walk pathFrom planTable plans planNumbered hasValue find member different fresh firstOn inReach nodeIn planOf stateOf column storeOf freshStore shapeTest planNumberTest clockTest kindTest copyTest placeTest allZero unusedTest nodeTest stampsFrom standsAt slotTest goodStore onStore put room entered entry carries merge countHeld mergeAlong carriedTo carriedOut carryStep bind numbered numberAt valueBytes copyBytes readValue readCopy copiesBytes nodeBytes nodesBytes imageOf readCopies readNode readNodes nodesFrom clockFrom planFrom imageAt copiesHeld finished loadOutcome pageLinesFrom pageLineBytes pageLinesBytes pageBytes begins stillTrue servedLength storeAfter storeAfterAll
 opened = true
 

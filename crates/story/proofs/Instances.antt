@@ -8,54 +8,31 @@ use Prim.Native.Nat.{ℕ, _*_, _≤_}
 use native.Mathlib.Omega.{arith}
 use lib.Dec.{lit≤}
 use lib.ListN.{length, replicate}
-use Rattle.lists.specs.Indexed.{tabulate, allFrom}
 use Rattle.lists.proofs.Options.{one-some}
-use Rattle.number.specs.Number.{Bytes, formIn, form, readLast, putBelow, readIn, readAt}
-use Rattle.plan.specs.Plan.{holds, firstEdge, next, walk, pathFrom, path, edgesOn}
+use Rattle.number.specs.Number.{Bytes}
+use Rattle.plan.specs.Plan.{path, edgesOn}
 use Rattle.plan.specs.PlanRules.{IsEdge}
-use Rattle.plan_table.specs.PlanTable.{planTable, plans, planNumbered}
 use Rattle.plan_table.proofs.TableLaws.{first-plan}
 use Rattle.store.specs.declared.Answer.{Answer}
 use Rattle.store.specs.declared.Copy.{Copy}
 use Rattle.store.specs.declared.Outcome.{Outcome}
 use Rattle.store.specs.declared.Store.{Store}
 use Rattle.store.specs.Answers.{DONE, IDLE, answer, bare}
-use Rattle.store.specs.Copies.{RESULT, hasValue, copy, find, member, different}
+use Rattle.store.specs.Copies.{RESULT, hasValue, copy}
 use Rattle.store.specs.Copies.Kind.{result}
-use Rattle.store.specs.State.{State, slotCount, idle, fresh, firstOn, inReach}
-use Rattle.store.specs.Layout.{nodeIn, planOf, stateOf, column, storeOf, freshStore}
-use Rattle.store.specs.StoreRules.{
-  shapeTest,
-  planNumberTest,
-  clockTest,
-  kindTest,
-  copyTest,
-  placeTest,
-  allZero,
-  unusedTest,
-  nodeTest,
-  stampsFrom,
-  standsAt,
-  slotTest,
-  goodStore,
-}
-use Rattle.store.specs.Calls.{onStore}
+use Rattle.store.specs.State.{State, slotCount, idle}
+use Rattle.store.specs.Layout.{planOf, stateOf, storeOf, freshStore}
+use Rattle.store.specs.StoreRules.{goodStore}
 use Rattle.store.proofs.Lifting.{fresh-good}
-use Rattle.steps.specs.Entries.{put, room, entered, entry}
-use Rattle.steps.specs.Carries.{carries, merge, countHeld, mergeAlong, carriedTo, carriedOut, carryStep}
 use Rattle.steps.specs.Searches.{ended, lowestIdle, startStep, withRunning, stepStep}
 use Rattle.theory.specs.Events.{effect, held, copiesOf, stillRunsAfter, stillRuns, isOwnStep, ownSteps, cancelsSlot, notCancelled}
+use Rattle.theory.specs.Events.Event.{enters}
 use Rattle.theory.specs.Paper.{InHistory}
-use Rattle.wire.specs.Reading.{bind, numbered, numberAt}
-use Rattle.copies.specs.CopyBytes.{valueBytes, copyBytes, readValue, readCopy}
-use Rattle.image_writing.specs.Image.{copiesBytes, nodeBytes, nodesBytes, imageOf, image}
-use Rattle.image_reading.specs.ImageReading.{readCopies, readNode, readNodes, nodesFrom, clockFrom, planFrom, imageAt}
-use Rattle.image_loading.specs.Loading.{copiesHeld, finished, loadOutcome}
+use Rattle.image_writing.specs.Image.{image}
+use Rattle.image_loading.specs.Loading.{loadOutcome}
 use Rattle.trips.specs.Trips.{Declared, idled, loadedAsItself}
 use Rattle.trips.proofs.RoundTrips.{fresh-idle}
-use Rattle.page_lines.specs.PageLine.{pageLinesFrom}
-use Rattle.page.specs.PageBytes.{pageLineBytes, pageLinesBytes, pageBytes, begins}
-use Rattle.page.specs.Promises.{pageNow, stillTrue, servedLength}
+use Rattle.page.specs.Promises.{pageNow, servedLength}
 use Rattle.calls.specs.PublicCalls.{Call, storeAfter, returned, answerTo, storeAfterAll}
 use Rattle.calls.specs.PublicCalls.Call.{load, carry, start, step}
 use Rattle.calls.specs.Following.{
@@ -73,11 +50,13 @@ use Rattle.calls.specs.Following.{
 }
 use Rattle.calls.specs.Recent.{currentIn, atEnd, SearchRuns, EndsByCall}
 use Rattle.calls.specs.DeclaredNumbers.{DeclaredCall, DeclaredCalls}
-use Rattle.calls.proofs.Follows.{call-keeps-good, calls-keep-good}
+use Rattle.calls.proofs.Follows.{acts-as, entry-acts, call-keeps-good, calls-keep-good}
 use Rattle.calls.proofs.KeepsDeclared.{calls-keep-declared}
 use Rattle.paper_calls.specs.Structure.{StoreMCS, copiesSoFar, CallUpserts, CallSearch}
 use Rattle.kept.specs.Shows.{shows}
+use Rattle.kept.specs.Amended.{EntryDone}
 use Rattle.kept.specs.Examples.{lineKey, entering, afterFresh}
+use Rattle.kept.proofs.ExamplesServed.{opened as pagesOpened}
 use Rattle.story.specs.Instances.{
   beforeSearch,
   whileItRuns,
@@ -96,7 +75,7 @@ use Rattle.story.proofs.Demands.{demand-1, demand-2, demand-3}
 
 -- Whoever unfolds this unfolds all definitions that the instances are about.
 opened : Bool
-unfolding tabulate allFrom flatten formIn form readLast putBelow readIn readAt holds firstEdge next walk pathFrom planTable plans planNumbered hasValue find member different fresh firstOn inReach nodeIn planOf stateOf column storeOf freshStore shapeTest planNumberTest clockTest kindTest copyTest placeTest allZero unusedTest nodeTest stampsFrom standsAt slotTest goodStore onStore put room entered entry carries merge countHeld mergeAlong carriedTo carriedOut carryStep lowestIdle startStep withRunning stepStep effect held copiesOf stillRunsAfter stillRuns isOwnStep ownSteps cancelsSlot notCancelled bind numbered numberAt valueBytes copyBytes readValue readCopy copiesBytes nodeBytes nodesBytes imageOf readCopies readNode readNodes nodesFrom clockFrom planFrom imageAt copiesHeld finished loadOutcome pageLinesFrom pageLineBytes pageLinesBytes pageBytes begins stillTrue servedLength storeAfter returned answerTo storeAfterAll eventOf eventsOf onEvent ownOutcome replacement sameStore enteredBy carriedBy history carriesSince
+unfolding pagesOpened flatten lowestIdle startStep withRunning stepStep effect held copiesOf stillRunsAfter stillRuns isOwnStep ownSteps cancelsSlot notCancelled returned answerTo eventOf eventsOf onEvent ownOutcome replacement sameStore enteredBy carriedBy history carriesSince
 opened = true
 
 -- The stores of the schedule are good and of the declared type.
@@ -216,12 +195,21 @@ held-shows = refl
 shown : shows lastStore lineKey ≡ some (210, 2)
 shown = ap (λ (z : Store). shows z lineKey) last-is ∙ held-shows
 
-held-enters : enteredBy (eventOf (entering 210)) heldStore ≡ some (copy lineKey RESULT 210 3)
+held-enters : onEvent (enters result lineKey 210) heldStore .answer .number ≡ DONE
 unfolding opened
 held-enters = refl
 
-entered-again : enteredBy (eventOf (entering 210)) lastStore ≡ some (copy lineKey RESULT 210 3)
-entered-again = ap (enteredBy (eventOf (entering 210))) last-is ∙ held-enters
+-- The same result once more is accepted.
+done-again : EntryDone (entering 210) lastStore result lineKey 210
+unfolding eventOf
+done-again = (
+  refl,
+  (
+    onEvent (enters result lineKey 210) lastStore .answer,
+    acts-as (entering 210) (enters result lineKey 210) refl (entry-acts result lineKey 210) .answers lastStore,
+    ap (λ (z : Store). onEvent (enters result lineKey 210) z .answer .number) last-is ∙ held-enters,
+  ),
+)
 
 line-carried : carriesSince lineKey sevenSteps (freshStore 1) 0 ≡ 2
 unfolding opened
@@ -340,22 +328,15 @@ instances =
       saves = its-image;
       loads = its-load;
       saves-again =
-          demand-2 .loaded-saves savedBytes (subst Bytes its-image (demand-2 .saved-and-loaded lastStore (good-after sevenSteps) last-declared .of-bytes))
+          demand-2 .loaded-saves savedBytes
+          (subst Bytes its-image (demand-2 .saved-and-loaded lastStore (good-after sevenSteps) last-declared .of-bytes))
           (ap (λ (o : Outcome). o .answer .number) its-load);
       page-is = its-page;
       served = its-length;
       never-again = λ later ds on kept notice begun.
           demand-2 .never-again lastStore (good-after sevenSteps) last-declared (entering 210 ∷ later) ds on 1 (lit≤ tt) kept notice begun 1 (lit≤ tt)
-          (copy lineKey RESULT 210 3)
-          (record {
-            before = [];
-            call = entering 210;
-            later = later;
-            parts = refl;
-            entered = unfold storeAfterAll in entered-again;
-            of-line = refl;
-          })
-          (210, 2) shown;
+          (210, 2) shown result 210
+          (record { before = []; call = entering 210; later = later; parts = refl; entry = unfold storeAfterAll in done-again });
       entered-twice = line-entered;
       carried-twice = line-carried;
       three-edges = line-edges;

@@ -182,8 +182,8 @@ pub record Demand2 : Type 1 where
   pub never-again :
       (z : Store) → goodStore z ≡ true → Declared z → (cs : List Call) → DeclaredCalls cs → StoreGoesOn cs z
       → (sample : ℕ) → sample ≤ lastSample → (kept notice : RefT (List ℕ)) → KeptFrom z sample (kept .now)
-      → (a : ℕ) → a < analytes → (x : Copy) → EntersLine cs z (keyFor sample a) x → (w : ℕ × ℕ) → shows z (keyFor sample a) ≡ some w
-      → PageNotServed (storeAfterAll cs z) sample kept notice
+      → (a : ℕ) → a < analytes → (w : ℕ × ℕ) → shows z (keyFor sample a) ≡ some w
+      → (kind : Kind) (v : ℕ) → EntersLine cs z kind (keyFor sample a) v → PageNotServed (storeAfterAll cs z) sample kept notice
   -- and always while nothing was entered of the sample's lines, saved and loaded too.
   pub served-while-untouched :
       (z : Store) → goodStore z ≡ true → Declared z → (cs : List Call) → DeclaredCalls cs → StoreGoesOn cs z
