@@ -1,5 +1,5 @@
 -- What stands behind the pointer after a sequence of calls of the C interface is what the public calls in their places leave: by the promises
--- of crate `export` alone. Assumes nothing.
+-- of crate `export` alone.
 use mathlib.Core.Path.{_≡_, refl, sym, ap, _∙_}
 use mathlib.Core.Bool.{true, false}
 use mathlib.Core.Logic.{_⊎_, inl, inr}

@@ -1,5 +1,5 @@
 -- Laws of steps, for the public calls: what is in reach of a node only increases; a look is a search with nothing in between; and what a
--- carry's answer counts. Assumes nothing.
+-- carry's answer counts.
 use mathlib.Core.Path.{_≡_, refl, sym, ap, _∙_, subst}
 use mathlib.Core.Bool.{true}
 use mathlib.Core.List.{List}

@@ -1,5 +1,5 @@
 -- Demand 3 over all sequences of public calls, fresh and load among them: since the store was last replaced, a line is carried at most as
--- often as its path has edges times the entries of it, loaded copies included; and this is reached. Assumes nothing.
+-- often as its path has edges times the entries of it, loaded copies included; and this is reached.
 use mathlib.Core.Path.{_≡_, refl, sym, ap, _∙_}
 use mathlib.Core.Bool.{true, false}
 use mathlib.Core.Logic.{_⊎_, inl, inr}

@@ -1,4 +1,4 @@
--- How many entries the clock allows: each accepted entry takes one stamp, and nothing else does. Assumes nothing.
+-- How many entries the clock allows: each accepted entry takes one stamp, and nothing else does.
 use mathlib.Core.Path.{_≡_, ap, _∙_}
 use mathlib.Core.Bool.{true}
 use mathlib.Core.List.{List, []}

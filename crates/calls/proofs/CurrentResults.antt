@@ -1,5 +1,5 @@
 -- What a public call does to the lines' current results: an accepted entry sets its own line's to its copy and leaves every other; every
--- other call that does not replace the store leaves them all, a carry too; and a refusal leaves the store as it was. Assumes nothing.
+-- other call that does not replace the store leaves them all, a carry too; and a refusal leaves the store as it was.
 use mathlib.Core.Path.{_≡_, refl, sym, ap, _∙_, subst}
 use mathlib.Core.Bool.{true, false}
 use mathlib.Core.Logic.{_⊎_, inl, inr}

@@ -1,5 +1,5 @@
 -- No finished search is left out: in a sequence of public calls from a store in which none runs, every step that answers DONE ends a search
--- that a call of the sequence started, and the store was not replaced since. Assumes nothing.
+-- that a call of the sequence started, and the store was not replaced since.
 use mathlib.Core.Path.{_≡_, refl, sym, ap, _∙_, subst}
 use mathlib.Core.Bool.{true, false, not}
 use mathlib.Core.Logic.{_⊎_, inl, inr}

@@ -1,4 +1,4 @@
--- Every public call keeps the store good, and is an event on its state or replaces it. Assumes nothing.
+-- Every public call keeps the store good, and is an event on its state or replaces it.
 use mathlib.Core.Path.{_≡_, refl, sym, ap, _∙_, subst}
 use mathlib.Core.Bool.{Bool, true, false, cond, not, _&&_}
 use mathlib.Core.Logic.{_⊎_, inl, inr}

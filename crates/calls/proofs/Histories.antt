@@ -1,5 +1,5 @@
 -- The paper's structure over all sequences of public calls, with the copies loaded and entered since the last accepted fresh or load as
--- the history. Assumes nothing.
+-- the history.
 use mathlib.Core.Path.{_≡_, refl, sym, ap, _∙_}
 use mathlib.Core.Bool.{Bool, true, false, not, _&&_}
 use mathlib.Core.Logic.{_⊎_, inl, inr}

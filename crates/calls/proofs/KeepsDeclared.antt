@@ -1,5 +1,5 @@
 -- Every sequence of public calls with numbers of their declared types keeps a store of the declared type: so what it saves loads as itself,
--- and no image that it saves is the beginning of another. Assumes nothing.
+-- and no image that it saves is the beginning of another.
 use mathlib.Core.Path.{_≡_, refl, sym, ap, subst}
 use mathlib.Core.Bool.{Bool, true, false, cond}
 use mathlib.Core.Logic.{_⊎_, inl, inr}

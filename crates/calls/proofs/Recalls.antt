@@ -1,5 +1,4 @@
 -- Search recency over all sequences of public calls; an accepted fresh or load ends every search of the store that it replaces.
--- Assumes nothing.
 use mathlib.Core.Path.{_≡_, refl, sym, ap, _∙_, subst}
 use mathlib.Core.Bool.{true, not}
 use mathlib.Core.Logic.{_⊎_, inl, inr}

@@ -1,5 +1,4 @@
--- A slot, event by event: one in which no search runs gets one by a start alone, and one whose search does not run on gets idle. Assumes
--- nothing.
+-- A slot, event by event: one in which no search runs gets one by a start alone, and one whose search does not run on gets idle.
 use mathlib.Core.Path.{_≡_, refl, sym, ap, _∙_, subst}
 use mathlib.Core.Bool.{Bool, true, false, not, _||_}
 use mathlib.Core.Logic.{_≢_, _⊎_, inl, inr}

@@ -1,5 +1,4 @@
 -- Uniqueness: any two outcomes that a public call's promise allows are equal. Of serve, whose outcome is lent, the pointer and the bytes.
--- Assumes nothing.
 use mathlib.Core.Path.{_≡_, sym, _∙_}
 use mathlib.Core.List.{List}
 use Prim.Native.Nat.{ℕ}

@@ -1,4 +1,4 @@
--- A carry on a good store: from the two lists of places to the store of the state after it. Assumes nothing.
+-- A carry on a good store: from the two lists of places to the store of the state after it.
 use mathlib.Core.Path.{_≡_, refl, sym, ap, ap₂, _∙_}
 use mathlib.Core.Bool.{true}
 use mathlib.Core.List.{List, [], _∷_, _++_, map}

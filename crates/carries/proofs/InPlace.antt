@@ -1,4 +1,4 @@
--- The two lists of a merge of places: a column can be written by them in place. Assumes nothing.
+-- The two lists of a merge of places: a column can be written by them in place.
 use mathlib.Core.List.{List, [], _∷_}
 use Prim.Native.Nat.{ℕ, zero, suc, _+_, _-_, _≤_}
 use native.Mathlib.Omega.{arith}

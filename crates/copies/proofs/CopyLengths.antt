@@ -1,4 +1,4 @@
--- How many bytes a value and a copy take, and that they are few. Assumes nothing.
+-- How many bytes a value and a copy take, and that they are few.
 use mathlib.Core.Path.{_≡_}
 use mathlib.Core.Bool.{Bool, true, false, cond}
 use mathlib.Core.List.{[], _++_}

@@ -1,4 +1,4 @@
--- Why the readers of a value and of a copy give what they promise: one law for each way out. Assumes nothing.
+-- Why the readers of a value and of a copy give what they promise: one law for each way out.
 use mathlib.Core.Path.{_≡_, sym, ap, _∙_}
 use mathlib.Core.Bool.{true, false}
 use mathlib.Core.List.{List}

@@ -1,4 +1,4 @@
--- A copy is read back where its bytes stand, and where one is read, its bytes stand. Assumes nothing.
+-- A copy is read back where its bytes stand, and where one is read, its bytes stand.
 use mathlib.Core.Path.{_≡_, refl, sym, ap, _∙_}
 use mathlib.Core.Bool.{Bool, true, false, cond}
 use mathlib.Core.List.{List, [], _++_}

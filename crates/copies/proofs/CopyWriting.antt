@@ -1,4 +1,4 @@
--- Why the writers of a value and of a copy give what they promise: the room for each number, and the numbers one after another. Assumes nothing.
+-- Why the writers of a value and of a copy give what they promise: the room for each number, and the numbers one after another.
 use mathlib.Core.Path.{_≡_}
 use mathlib.Core.Bool.{true, false}
 use mathlib.Core.List.{List, _++_}

@@ -1,5 +1,4 @@
 -- The ways of an entry: a bad store, the clock at its last value, a copy replaced, a copy added, and a full root; and what it holds.
--- Assumes nothing.
 use mathlib.Core.Path.{_≡_, refl, sym, ap, _∙_}
 use mathlib.Core.Bool.{true, false, true≢false, false≢true}
 use mathlib.Core.List.{List, _∷_, _++_}

@@ -1,4 +1,4 @@
--- A column in which one copy is put into a node, and those after it moved one place up. Assumes nothing.
+-- A column in which one copy is put into a node, and those after it moved one place up.
 use mathlib.Core.Path.{_≡_, sym, ap, _∙_}
 use mathlib.Core.List.{List, [], _∷_, _++_}
 use Prim.Native.Nat.{ℕ, suc, _+_, _-_, _*_, _<_, _≤_}

@@ -1,5 +1,4 @@
 -- The five columns of a store in memory, lent at once as five `&mut` for a lifetime made for one call, and taken back at what each shows last.
--- Assumes nothing.
 use mathlib.Core.Path.{_≡_, refl, sym, subst}
 use mathlib.Core.List.{List, [], _∷_, map, map-id}
 use Prim.Native.Nat.{ℕ, _+_}

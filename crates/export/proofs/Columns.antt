@@ -1,5 +1,4 @@
 -- The columns of a store behind a `&`, lent where they lie: out of the `&` to the store come five to its columns, and it stays as it is.
--- Assumes nothing.
 use mathlib.Core.Path.{_≡_, refl, sym, _∙_}
 use mathlib.Core.List.{List, [], _∷_, map, map-id}
 use Prim.Native.Nat.{ℕ, _+_, _*_}

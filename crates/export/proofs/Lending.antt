@@ -1,6 +1,6 @@
 -- Lending and calling: the part of the walk that the calls which leave the store as it is have in common. Plan, clock, the columns' `&` and the
 -- slots are taken out of the `&` to the store into locals of their own, in this order, and a worker is called with them. Each law is over any
--- function whose locals from some number on are those, whatever else it holds. Assumes nothing.
+-- function whose locals from some number on are those, whatever else it holds.
 use mathlib.Core.Path.{_≡_, refl, sym, subst, ap}
 use mathlib.Core.List.{List, [], _∷_, _++_}
 use Prim.Native.Nat.{ℕ, zero, _+_}

@@ -1,5 +1,5 @@
 -- Uniqueness: any two answers, and any two stores behind the pointer, that a promise of the C interface allows are equal. That of Looks, Saves
--- and Pages is proved with the calls themselves (`calls/proofs/Uniqueness.antt`). Assumes nothing.
+-- and Pages is proved with the calls themselves (`calls/proofs/Uniqueness.antt`).
 use mathlib.Core.Path.{_≡_, sym, _∙_}
 use mathlib.Core.List.{List}
 use Prim.Native.Nat.{ℕ}

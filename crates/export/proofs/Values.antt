@@ -1,4 +1,4 @@
--- How the machine holds a store, an answer and any other struct. Assumes nothing.
+-- How the machine holds a store, an answer and any other struct.
 use mathlib.Core.Path.{_≡_, ap}
 use mathlib.Core.List.{List, [], _∷_, map}
 use mir.Val.{Val, vunit}

@@ -1,4 +1,4 @@
--- Why loading gives what it promises: one law for each way out. Assumes nothing.
+-- Why loading gives what it promises: one law for each way out.
 use mathlib.Core.Path.{_≡_, refl, sym, ap, _∙_}
 use mathlib.Core.Bool.{Bool, true, false}
 use mathlib.Core.List.{List, []}

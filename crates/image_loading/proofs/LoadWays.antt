@@ -1,4 +1,4 @@
--- The ways that loading can go, and the numbers that it answers. Assumes nothing.
+-- The ways that loading can go, and the numbers that it answers.
 use mathlib.Core.Path.{_≡_, refl, sym, ap, _∙_}
 use mathlib.Core.Bool.{Bool, true, false, cond}
 use mathlib.Core.List.{List, [], _∷_}

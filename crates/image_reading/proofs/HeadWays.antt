@@ -1,4 +1,4 @@
--- Why the reader of an image's head gives what it promises: one law for each way out. Assumes nothing.
+-- Why the reader of an image's head gives what it promises: one law for each way out.
 use mathlib.Core.Path.{_≡_, refl, _∙_}
 use mathlib.Core.Bool.{true, false}
 use mathlib.Core.List.{List}

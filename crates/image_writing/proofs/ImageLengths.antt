@@ -1,4 +1,4 @@
--- How many bytes the parts of an image take, and that they are not too many for a machine's number. Assumes nothing.
+-- How many bytes the parts of an image take, and that they are not too many for a machine's number.
 use mathlib.Core.Path.{_≡_, refl, ap}
 use mathlib.Core.List.{List, [], _∷_, _++_}
 use Prim.Native.Nat.{ℕ, suc, _+_, _-_, _*_, _<_, _≤_}
@@ -6,7 +6,7 @@ use native.Mathlib.Omega.{arith}
 use lib.Dec.{lit≤}
 use lib.ListN.{length, getD, length-append}
 use Rattle.lists.specs.Indexed.{tabulate}
-use Rattle.lists.proofs.Tabulating.{length-tabulate, getD-tabulate-0}
+use Rattle.lists.proofs.Tabulating.{length-tabulate, getD-from-start}
 use Rattle.number.specs.Number.{form}
 use Rattle.number.proofs.Forms.{form-length}
 use Rattle.plan.specs.Sizes.{mostNodes}
@@ -78,7 +78,7 @@ pub nodes-in-short : (size : ℕ) (counts keys kinds values stamps : List ℕ) �
 nodes-in-short size counts keys kinds values stamps there within =
     let ns = tabulate 0 size f in
     let long : length ns ≡ size = length-tabulate f 0 size in
-    omega (arith, nodes-short ns (λ n h. rw (getD-tabulate-0 f size n [] (omega arith)) (few n (omega arith))))
+    omega (arith, nodes-short ns (λ n h. rw (getD-from-start f size n [] (omega arith)) (few n (omega arith))))
   where
     f : ℕ → List Copy
     f n = nodeIn counts keys kinds values stamps n

@@ -1,4 +1,4 @@
--- Why the writers of an image give what they promise: the room for each part, and the parts written one after another. Assumes nothing.
+-- Why the writers of an image give what they promise: the room for each part, and the parts written one after another.
 use mathlib.Core.Path.{_≡_, ap, _∙_}
 use mathlib.Core.List.{List, _++_}
 use Prim.Native.Nat.{ℕ, _+_, _-_, _≤_}

@@ -1,5 +1,5 @@
 -- Bytes kept from a store, over calls through which it goes on, saved and loaded too: when they are served, exactly; never again after an
--- entry of a line that they show; not while a result entered since stands; and always while nothing is entered of the sample. Assumes nothing.
+-- entry of a line that they show; not while a result entered since stands; and always while nothing is entered of the sample.
 use mathlib.Core.Path.{_≡_, refl, sym, ap, _∙_}
 use mathlib.Core.Bool.{Bool, true, false, cond}
 use mathlib.Core.List.{List, [], _∷_}

@@ -1,4 +1,4 @@
--- Entries among calls of the C interface, by their steps and answers, are entries among the public calls in their places. Assumes nothing.
+-- Entries among calls of the C interface, by their steps and answers, are entries among the public calls in their places.
 use mathlib.Core.Path.{_≡_, refl, sym, ap, _∙_, subst}
 use mathlib.Core.List.{List, [], _∷_, map, List·Memᴰ, List·Memᴰ·head, List·Memᴰ·tail, List·Memᴰ·not-nil, List·Memᴰ·cases-cons}
 use mathlib.Core.Logic.{_⊎_, inl, inr}

@@ -1,5 +1,5 @@
 -- Bytes that were a sample's page in one store are served by another, of any plan, exactly when every line of the sample shows the same in
--- both. Assumes nothing.
+-- both.
 use mathlib.Core.Path.{_≡_, sym, ap, _∙_}
 use mathlib.Core.Bool.{true, false}
 use mathlib.Core.List.{List, [], _++_}

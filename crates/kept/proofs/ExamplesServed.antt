@@ -1,4 +1,4 @@
--- The examples, by computing. Assumes nothing.
+-- The examples, by computing.
 use mathlib.Core.Path.{_≡_, refl, sym, subst}
 use mathlib.Core.Bool.{Bool, true}
 use mathlib.Core.List.{List, [], _∷_, List·Memᴰ·eq-of-singleton}

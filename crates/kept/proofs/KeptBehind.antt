@@ -1,4 +1,4 @@
--- The harm from C: page and serve behind a pointer, and any calls of the C interface between them, each by its promise. Assumes nothing.
+-- The harm from C: page and serve behind a pointer, and any calls of the C interface between them, each by its promise.
 use mathlib.Core.Path.{_≡_, refl, sym, ap, _∙_, subst}
 use mathlib.Core.Bool.{true}
 use mathlib.Core.List.{List, map}

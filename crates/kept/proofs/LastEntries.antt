@@ -1,5 +1,5 @@
 -- A line's current result after calls through which a store goes on: the last copy of it that they entered, or what it was before; and the
--- entries by their answers. Assumes nothing.
+-- entries by their answers.
 use mathlib.Core.Path.{_≡_, refl, sym, ap, _∙_, subst}
 use mathlib.Core.Bool.{Bool, true, false, cond}
 use mathlib.Core.List.{List, [], _∷_, _++_, List·Memᴰ·head, List·Memᴰ·tail, List·Memᴰ·eq-of-singleton}

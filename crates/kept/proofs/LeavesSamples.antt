@@ -1,4 +1,4 @@
--- What leaves a sample alone: entries of other samples, carries, searches, refused calls. Assumes nothing.
+-- What leaves a sample alone: entries of other samples, carries, searches, refused calls.
 use mathlib.Core.Path.{_≡_, ap, _∙_}
 use mathlib.Core.Option.{Option, none, some}
 use Prim.Native.Nat.{ℕ, _<_}

@@ -1,4 +1,4 @@
--- Save and load: a loaded store serves what the saved one did, in place of whatever store it is loaded. Assumes nothing.
+-- Save and load: a loaded store serves what the saved one did, in place of whatever store it is loaded.
 use mathlib.Core.Path.{_≡_, sym, ap, _∙_, subst}
 use mathlib.Core.Bool.{true}
 use mathlib.Core.List.{List}

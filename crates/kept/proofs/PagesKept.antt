@@ -1,5 +1,5 @@
 -- What an accepted page leaves in its buffer are bytes kept from the store; and so, by the promises of page and serve alone, what serve hands
--- back of them. Assumes nothing.
+-- back of them.
 use mathlib.Core.Path.{_≡_, sym, ap, _∙_}
 use mathlib.Core.Bool.{true, false}
 use mathlib.Core.List.{List, _++_}

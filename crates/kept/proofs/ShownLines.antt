@@ -1,5 +1,5 @@
 -- The page of a sample is what is shown of each of its lines, and no more: two stores, of any plans, have one page of a sample exactly when
--- they show the same of each line. Assumes nothing.
+-- they show the same of each line.
 use mathlib.Core.Path.{_≡_, refl, sym, ap, _∙_, subst}
 use mathlib.Core.Bool.{true, false}
 use mathlib.Core.List.{List, _∷_, _++_, List·Memᴰ}

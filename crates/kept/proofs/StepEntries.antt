@@ -1,4 +1,4 @@
--- The steps of the C interface that are entries, by their numbers and answers. Assumes nothing.
+-- The steps of the C interface that are entries, by their numbers and answers.
 use mathlib.Core.Path.{_≡_, refl, sym, ap, _∙_}
 use mathlib.Core.Bool.{Bool, true, false, cond}
 use mathlib.Core.List.{[], _∷_}

@@ -1,4 +1,4 @@
--- Numbers in decimal: the last digit after the others, and at most 20 digits for 64 bits. Assumes nothing.
+-- Numbers in decimal: the last digit after the others, and at most 20 digits for 64 bits.
 use mathlib.Core.Path.{_≡_, refl, sym, ap, _∙_}
 use mathlib.Core.Bool.{true, false, cond}
 use mathlib.Core.List.{List, [], _∷_, _++_}

@@ -1,4 +1,4 @@
--- Why the writers of a line leave what they promise: one law for each way out. Assumes nothing.
+-- Why the writers of a line leave what they promise: one law for each way out.
 use mathlib.Core.Path.{_≡_, ap, _∙_}
 use mathlib.Core.List.{List, [], _∷_, _++_, append-assoc}
 use Prim.Native.Nat.{ℕ, _+_, _/_, _%_, _^_, _<_, _≤_}

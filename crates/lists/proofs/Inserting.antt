@@ -1,4 +1,4 @@
--- A list with one element put in at a place: what stands in it. Assumes nothing.
+-- A list with one element put in at a place: what stands in it.
 use mathlib.Core.Path.{_≡_, refl, ap}
 use mathlib.Core.List.{List, [], _∷_, _++_}
 use Prim.Native.Nat.{ℕ, zero, suc, _<_, _≤_}

@@ -1,4 +1,4 @@
--- Laws of something that is there or not. Assumes nothing.
+-- Laws of something that is there or not.
 use mathlib.Core.Path.{_≡_, refl}
 use mathlib.Core.Logic.{_⊎_, inl, inr}
 use mathlib.Core.Option.{Option, none, some}

@@ -1,4 +1,4 @@
--- Two numbers in their order. Assumes nothing.
+-- Two numbers in their order.
 use mathlib.Core.Path.{_≡_}
 use Prim.Native.Nat.{ℕ, _<_}
 use native.Mathlib.Omega.{arith}

@@ -1,4 +1,4 @@
--- Lists whose keys strictly rise, said by a bound from below, for induction, and by neighbours. Assumes nothing.
+-- Lists whose keys strictly rise, said by a bound from below, for induction, and by neighbours.
 use mathlib.Core.Path.{_≡_}
 use mathlib.Core.List.{List, [], _∷_}
 use Prim.Native.Nat.{ℕ, zero, suc, _<_, _≤_}

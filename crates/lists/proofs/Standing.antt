@@ -1,5 +1,4 @@
 -- What stands in a list can be taken apart and put together, and what a writer wrote stands there and touched nothing else.
--- Assumes nothing.
 use mathlib.Core.Path.{_≡_, refl, sym, ap, ap₂, _∙_}
 use mathlib.Core.Bool.{Bool, true, false}
 use mathlib.Core.List.{List, [], _∷_, _++_, append-assoc, append-nil}

@@ -1,4 +1,4 @@
--- Laws of stores into a list by index: stores in a row, a store into a tabulated list, and a list of one element only. Assumes nothing.
+-- Laws of stores into a list by index: stores in a row, a store into a tabulated list, and a list of one element only.
 use mathlib.Core.Path.{_≡_, refl, sym, ap, _∙_}
 use mathlib.Core.List.{List, [], _∷_, _++_, map}
 use Prim.Native.Nat.{ℕ, zero, suc, _+_, _<_, _≤_}
@@ -8,7 +8,7 @@ use native.Mathlib.Decide.{ℕ-discrete}
 use lib.ListN.{length, getD, set, replicate, length-set}
 use lib.Seq.{sets, set-comm, getD-set-same, getD-set-other}
 use Rattle.lists.specs.Indexed.{tabulate}
-use Rattle.lists.proofs.Tabulating.{length-tabulate, getD-tabulate-0, as-tabulate}
+use Rattle.lists.proofs.Tabulating.{length-tabulate, getD-from-start, as-tabulate}
 
 -- Stores in a row leave what stands before and after them, and put their elements in between.
 module _ {A : Type 0} where
@@ -48,7 +48,7 @@ module _ {A : Type 0} where
     where
       go : (j : ℕ) → j < n → Dec (j ≡ k) → getD (set (tabulate 0 n f) k v) j v ≡ g j
       go j h (yes e) = rw e (getD-set-same (tabulate 0 n f) k v v (omega (arith, length-tabulate f 0 n)) ∙ sym here)
-      go j h (no e) = getD-set-other (tabulate 0 n f) k j v v e ∙ getD-tabulate-0 f n j v h ∙ sym (others j e)
+      go j h (no e) = getD-set-other (tabulate 0 n f) k j v v e ∙ getD-from-start f n j v h ∙ sym (others j e)
 
   -- One element over and over, read with that element as what stands past the end.
   pub getD-same : (n i : ℕ) (d : A) → getD (replicate n d) i d ≡ d

@@ -1,4 +1,4 @@
--- Laws of tabulated lists: their length and elements, when a list is one, and tests at each of some numbers in a row. Assumes nothing.
+-- Laws of tabulated lists: their length and elements, when a list is one, and tests at each of some numbers in a row.
 use mathlib.Core.Path.{_≡_, refl, sym, ap, _∙_}
 use mathlib.Core.Bool.{Bool, true, false, _&&_}
 use mathlib.Core.List.{List, [], _∷_, _++_, map}
@@ -25,8 +25,8 @@ module _ {A : Type 0} (f : ℕ → A) where
   getD-tabulate i (suc n) (suc j) d h = getD-tabulate (suc i) n j d (omega arith) ∙ ap f (suc-add i j ∙ sym (add-suc i j))
 
   -- From 0 on the index is the number.
-  pub getD-tabulate-0 : (n j : ℕ) (d : A) → j < n → getD (tabulate 0 n f) j d ≡ f j
-  getD-tabulate-0 n j d h = getD-tabulate 0 n j d h ∙ ap f (zero-add j)
+  pub getD-from-start : (n j : ℕ) (d : A) → j < n → getD (tabulate 0 n f) j d ≡ f j
+  getD-from-start n j d h = getD-tabulate 0 n j d h ∙ ap f (zero-add j)
 
   -- A list whose elements are f's is f, tabulated.
   pub as-tabulate : (l : List A) (i n : ℕ) (d : A) → length l ≡ n → ((j : ℕ) → j < n → getD l j d ≡ f (i + j)) → l ≡ tabulate i n f
@@ -89,8 +89,8 @@ unfolding allFrom
 all-end f i n h = let s : n - i ≡ 0 = omega arith in rw s
 
 -- A list whose elements are f's from 0 on is f, tabulated from 0.
-pub as-tabulate-0 : {A : Type 0} (f : ℕ → A) (l : List A) (n : ℕ) (d : A) → length l ≡ n → ((j : ℕ) → j < n → getD l j d ≡ f j) → l ≡ tabulate 0 n f
-as-tabulate-0 f l n d h k = as-tabulate f l 0 n d h (λ j g. k j g ∙ ap f (sym (zero-add j)))
+pub as-from-start : {A : Type 0} (f : ℕ → A) (l : List A) (n : ℕ) (d : A) → length l ≡ n → ((j : ℕ) → j < n → getD l j d ≡ f j) → l ≡ tabulate 0 n f
+as-from-start f l n d h k = as-tabulate f l 0 n d h (λ j g. k j g ∙ ap f (sym (zero-add j)))
 
 -- Past its end stands the default.
 pub getD-tabulate-past : {A : Type 0} (f : ℕ → A) (i n j : ℕ) (d : A) → n ≤ j → getD (tabulate i n f) j d ≡ d

@@ -1,4 +1,4 @@
--- Laws of tests: what a test that holds says of its parts. Assumes nothing.
+-- Laws of tests: what a test that holds says of its parts.
 use mathlib.Core.Path.{_≡_, refl, sym}
 use mathlib.Core.Bool.{Bool, true, false, _&&_, _||_}
 use mathlib.Core.Logic.{_⊎_, ⊎-elim, inl, inr}

@@ -1,5 +1,4 @@
 -- Elements that stand at a place of a list, and what a writer leaves there.
--- Assumes nothing.
 use mathlib.Core.List.{List, _++_}
 use mathlib.Core.Path.{_≡_}
 use Prim.Native.Nat.{ℕ, _+_}

@@ -1,4 +1,4 @@
--- A look down a key's path: what is still to be answered from a node on, turn by turn. Assumes nothing.
+-- A look down a key's path: what is still to be answered from a node on, turn by turn.
 use mathlib.Core.Path.{_≡_, sym, ap, _∙_}
 use mathlib.Core.Bool.{true, false}
 use mathlib.Core.Logic.{_⊎_, inl, inr}

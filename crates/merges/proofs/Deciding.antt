@@ -1,4 +1,4 @@
--- The walk through two nodes from its start to its end, and the count of the places that an edge holds. Assumes nothing.
+-- The walk through two nodes from its start to its end, and the count of the places that an edge holds.
 use mathlib.Core.Path.{_≡_, refl, sym, _∙_}
 use mathlib.Core.Bool.{true, false}
 use mathlib.Core.List.{List, append-nil}

@@ -1,4 +1,4 @@
--- One turn of the walk through two nodes, a law for each way out: what the merge comes to stays the same. Assumes nothing.
+-- One turn of the walk through two nodes, a law for each way out: what the merge comes to stays the same.
 use mathlib.Core.Path.{_≡_, sym, ap, _∙_}
 use mathlib.Core.Bool.{Bool, true, false}
 use mathlib.Core.List.{List, [], _∷_, _++_, append-assoc}

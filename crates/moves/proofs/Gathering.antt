@@ -1,4 +1,4 @@
--- A column written in place: a turn of each loop and its end, and the column after a carry. Assumes nothing.
+-- A column written in place: a turn of each loop and its end, and the column after a carry.
 use mathlib.Core.Path.{_≡_, refl, sym, ap, _∙_}
 use mathlib.Core.List.{List, [], _∷_, _++_, map-append}
 use Prim.Native.Nat.{ℕ, suc, _+_, _-_, _<_, _≤_}

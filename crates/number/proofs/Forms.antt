@@ -1,6 +1,5 @@
 -- The form of a number: its first byte and the rest, and how many bytes it has.
 -- Each law is shown for numbers of any size, and then for the 32-bit numbers of document 01.
--- Assumes nothing.
 use mathlib.Core.Path.{_≡_, refl}
 use mathlib.Core.Logic.{_↔_}
 use mathlib.Core.List.{[], _∷_}

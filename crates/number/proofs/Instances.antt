@@ -1,5 +1,4 @@
 -- Document 01's own numbers, computed on the definitions.
--- Assumes nothing.
 use mathlib.Core.Path.{_≡_, refl}
 use mathlib.Core.List.{[], _∷_}
 use Rattle.number.specs.declared.Reading.the-variants.{Value, Cut, Malformed}

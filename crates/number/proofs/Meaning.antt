@@ -1,6 +1,5 @@
 -- What a form means: it is a list of groups, it spells its number, and it is the one shortest list of groups that does.
 -- Each law is shown for numbers of any size, and then for the 32-bit numbers of document 01.
--- Assumes nothing.
 use mathlib.Core.Path.{_≡_, sym, ap, ap₂, _∙_}
 use mathlib.Core.Logic.{_↔_}
 use mathlib.Core.List.{List, [], _∷_}

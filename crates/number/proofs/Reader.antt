@@ -1,5 +1,4 @@
 -- Why the reading function gives what it promises: what its loop keeps true, at its start, at each turn and at each way out.
--- Assumes nothing.
 use mathlib.Core.Path.{_≡_, refl, sym, ap, _∙_}
 use mathlib.Core.Bool.{true, false}
 use mathlib.Core.List.{List}

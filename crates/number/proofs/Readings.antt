@@ -1,6 +1,5 @@
 -- What was written is read back, and what is read was the form: one number, one form, and no form begins another.
 -- Each law is shown for numbers of any size, and then for the 32-bit numbers of document 01.
--- Assumes nothing.
 use mathlib.Core.Path.{_≡_, refl, sym, ap, _∙_}
 use mathlib.Core.Logic.{_↔_}
 use mathlib.Core.Bool.{Bool, true, false}

@@ -1,6 +1,5 @@
 -- When each refusal comes: CUT and NUMBER are given exactly where document 01 says.
 -- Each law is shown for numbers of any size, and then for reading at an offset.
--- Assumes nothing.
 use mathlib.Core.Path.{_≡_, refl, sym, _∙_}
 use mathlib.Core.Logic.{_↔_, _⊎_, inl, inr, ⊎-elim}
 use mathlib.Core.Bool.{Bool, true, false}

@@ -1,5 +1,4 @@
 -- The ways that reading can go at an offset, and which of them it goes.
--- Assumes nothing.
 use mathlib.Core.Path.{_≡_, refl}
 use mathlib.Core.Bool.{Bool, true, false}
 use mathlib.Core.List.{List}

@@ -1,5 +1,4 @@
 -- Why the writing functions give what they promise: what each loop keeps true, at its start, at each turn and at its end.
--- Assumes nothing.
 use mathlib.Core.Path.{_≡_, refl, ap, _∙_}
 use mathlib.Core.List.{List}
 use Prim.Native.Nat.{ℕ, suc, _+_, _/_, _%_, _<_, _≤_}

@@ -1,5 +1,4 @@
 -- Numbers as bytes, of any size. Document 01, "Bytes".
--- Assumes nothing.
 use mathlib.Core.Path.{_≡_}
 use mathlib.Core.Bool.{Bool, true, false, cond}
 use mathlib.Core.List.{List, [], _∷_}

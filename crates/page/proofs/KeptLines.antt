@@ -1,5 +1,5 @@
 -- Two pages of a sample, of two states of any plans: where they begin one byte string they have the same lines, and where the same is shown of
--- every analyte they are one page. Assumes nothing.
+-- every analyte they are one page.
 use mathlib.Core.Path.{_≡_, refl, ap, _∙_}
 use mathlib.Core.Bool.{Bool, true, false, cond}
 use mathlib.Core.List.{List, _∷_, _++_}

@@ -1,4 +1,4 @@
--- A good store with a page of 357 bytes: the last sample, 32 results with five-byte values and stamps. By computing. Assumes nothing.
+-- A good store with a page of 357 bytes: the last sample, 32 results with five-byte values and stamps. By computing.
 use mathlib.Core.Path.{_≡_, refl}
 use mathlib.Core.Bool.{true}
 use mathlib.Core.List.{List, [], _∷_}

@@ -1,4 +1,4 @@
--- "At most 357 bytes." Assumes nothing.
+-- "At most 357 bytes."
 use mathlib.Core.Bool.{Bool, true, false, cond}
 use mathlib.Core.List.{List, _∷_}
 use mathlib.Core.Option.{Option, none, some}

@@ -1,4 +1,4 @@
--- The ways out of page, served_length and serve, and the scratch that the sample's page is written into. Assumes nothing.
+-- The ways out of page, served_length and serve, and the scratch that the sample's page is written into.
 use mathlib.Core.Path.{_≡_, sym, ap, ap₂, _∙_}
 use mathlib.Core.Bool.{Bool, true, false, not, _&&_}
 use mathlib.Core.List.{List, []}

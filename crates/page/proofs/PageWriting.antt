@@ -1,4 +1,4 @@
--- A page's bytes written one after another, laid into a buffer, and compared with kept ones: each turn and each way out. Assumes nothing.
+-- A page's bytes written one after another, laid into a buffer, and compared with kept ones: each turn and each way out.
 use mathlib.Core.Path.{_≡_, refl, sym, ap, _∙_}
 use mathlib.Core.Bool.{true, false}
 use mathlib.Core.Logic.{⊎-elim}

@@ -1,5 +1,4 @@
 -- A page reads back from the left: two byte strings that begin with pages and are equal have the same sample and the same lines.
--- Assumes nothing.
 use mathlib.Core.Path.{_≡_, refl, sym, _∙_}
 use mathlib.Core.Bool.{true}
 use mathlib.Core.List.{List, [], _∷_, _++_, append-assoc}

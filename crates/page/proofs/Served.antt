@@ -1,4 +1,4 @@
--- What serve hands back is the sample's page as the store is now, in the kept page's own bytes, or the whole notice. Assumes nothing.
+-- What serve hands back is the sample's page as the store is now, in the kept page's own bytes, or the whole notice.
 use mathlib.Core.Path.{_≡_, ap, _∙_}
 use mathlib.Core.Bool.{true, false, _&&_}
 use mathlib.Core.List.{List}

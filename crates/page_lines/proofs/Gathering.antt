@@ -1,4 +1,4 @@
--- The lines of a page gathered analyte by analyte into three columns: what each way out leaves, and each turn. Assumes nothing.
+-- The lines of a page gathered analyte by analyte into three columns: what each way out leaves, and each turn.
 use mathlib.Core.Path.{_≡_, refl, sym, ap, _∙_}
 use mathlib.Core.Bool.{Bool, true, false, cond}
 use mathlib.Core.List.{List, [], _∷_, _++_, append-assoc, append-nil}

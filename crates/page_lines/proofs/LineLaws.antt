@@ -1,4 +1,4 @@
--- For each analyte a page's line is what its look gives, and there are no more lines than analytes. Assumes nothing.
+-- For each analyte a page's line is what its look gives, and there are no more lines than analytes.
 use mathlib.Core.Path.{_≡_, refl, sym, ap, _∙_}
 use mathlib.Core.Bool.{Bool, true, false, cond}
 use mathlib.Core.List.{List, _∷_}

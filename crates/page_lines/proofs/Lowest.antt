@@ -1,5 +1,5 @@
 -- Node numbers rise down a path, so where copies stand on their keys' paths a line's current copy is its copy in the lowest node that
--- has one. Assumes nothing.
+-- has one.
 use mathlib.Core.Path.{_≡_, refl}
 use mathlib.Core.List.{List, [], _∷_}
 use mathlib.Core.Option.{Option, none, some}

@@ -1,5 +1,5 @@
 -- The nodes laid over one another, from the last to the root: what each turn and the end leave, and that a good store has what is asked
--- for. Assumes nothing.
+-- for.
 use mathlib.Core.Path.{_≡_, refl, sym, ap, _∙_}
 use mathlib.Core.Bool.{true, false}
 use mathlib.Core.Logic.{_⊎_, inl, inr}
@@ -13,7 +13,7 @@ use lib.ListN.{length, getD, replicate, length-replicate, getD-replicate}
 use borrow.Author.Tests.{lt-ltb, eqb-true}
 use Rattle.lists.specs.Indexed.{tabulate}
 use Rattle.lists.proofs.Options.{one-some, not-none-and-some}
-use Rattle.lists.proofs.Tabulating.{length-tabulate, getD-tabulate-0, tabulate-on, tabulate-off}
+use Rattle.lists.proofs.Tabulating.{length-tabulate, getD-from-start, tabulate-on, tabulate-off}
 use Rattle.lists.proofs.Truths.{bool?}
 use Rattle.plan.specs.Sizes.{mostNodes}
 use Rattle.plan.specs.Plan.{Plan, size}
@@ -66,7 +66,7 @@ laid-at : (counts keys : List ℕ) (node sample : ℕ) (at : List ℕ) (a : ℕ)
     ≡ placeOver (getD at a 0) (find (numberIn keys) (tabulate (width * node) (getD counts node 0) itself) (keyFor sample a))
 unfolding laidOver
 laid-at counts keys node sample at a h =
-    getD-tabulate-0
+    getD-from-start
     (λ b. placeOver (getD at b 0) (find (numberIn keys) (tabulate (width * node) (getD counts node 0) itself) (keyFor sample b)))
     analytes a 0 h
 

@@ -1,4 +1,4 @@
--- The sample's copies of one node laid over those of later nodes, place by place: what each turn and each way out leaves. Assumes nothing.
+-- The sample's copies of one node laid over those of later nodes, place by place: what each turn and each way out leaves.
 use mathlib.Core.Path.{_≡_, refl, sym, ap, _∙_}
 use mathlib.Core.List.{List}
 use mathlib.Core.Option.{Option, none, some}
@@ -10,7 +10,7 @@ use lib.Seq.{getD-set-same, getD-set-other}
 use borrow.Author.Tests.{eq-eqb, ne-eqb}
 use Rattle.lists.specs.Indexed.{tabulate}
 use Rattle.lists.proofs.Options.{one-some}
-use Rattle.lists.proofs.Tabulating.{tabulate-on, tabulate-off, as-tabulate-0}
+use Rattle.lists.proofs.Tabulating.{tabulate-on, tabulate-off, as-from-start}
 use Rattle.store.specs.Copies.{find}
 use Rattle.store.specs.Layout.{width}
 use Rattle.store.specs.Workers.{numberIn, itself, placeIn, RisesIn}
@@ -78,7 +78,7 @@ module _ (keys : List ℕ) (from end sample : ℕ) where
       ends : ((a i : ℕ) → a < analytes → at ≤ i → i < end → numberIn keys i ≡ keyFor sample a → ⊥)
           → now ≡ laid before
       ends miss =
-          as-tabulate-0 (λ a. placeOver (getD before a 0) (found from a)) now analytes 0 (g .long)
+          as-from-start (λ a. placeOver (getD before a 0) (found from a)) now analytes 0 (g .long)
           (λ a h. rw (find-nowhere (numberIn keys) (keyFor sample a) end at (g .high) (λ i. miss a i h)) at (g .same a h))
 
       -- and no place is left,

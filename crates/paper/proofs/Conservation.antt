@@ -1,4 +1,4 @@
--- Conservation of a line's copies over every sequence. Assumes nothing.
+-- Conservation of a line's copies over every sequence.
 use mathlib.Core.Path.{_≡_, refl, ap}
 use mathlib.Core.Bool.{Bool, true, false, cond, not, _&&_}
 use mathlib.Core.List.{List, [], _∷_, flatten}

@@ -1,5 +1,4 @@
 -- A carry's answer counts lines: a is the number of keys whose line it carries, b of those whose copy in the target it discards.
--- Assumes nothing.
 use mathlib.Core.Path.{_≡_, refl, sym, ap, _∙_, subst}
 use mathlib.Core.Bool.{Bool, true, false, cond, not, _&&_}
 use mathlib.Core.Logic.{_⊎_, inl, inr}

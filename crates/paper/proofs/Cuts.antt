@@ -1,4 +1,4 @@
--- Invariant 6, with edgesets cut to the keys that reach their node. Assumes nothing.
+-- Invariant 6, with edgesets cut to the keys that reach their node.
 use mathlib.Core.Path.{_≡_, refl, sym, _∙_}
 use mathlib.Core.Bool.{true, false}
 use mathlib.Core.Logic.{_⊎_, inl, inr}

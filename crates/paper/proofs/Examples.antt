@@ -1,4 +1,4 @@
--- The examples, by computing. Assumes nothing.
+-- The examples, by computing.
 use mathlib.Core.Path.{_≡_, refl}
 use mathlib.Core.Bool.{Bool, true, false}
 use mathlib.Core.List.{[], _∷_, flatten}

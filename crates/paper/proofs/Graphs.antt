@@ -1,5 +1,5 @@
 -- The paper's graph: a plan has no way round, a key is in a node's inset exactly when the node is on its path, and invariants 5 and 7
--- hold. Assumes nothing.
+-- hold.
 use mathlib.Core.Path.{_≡_, ap, subst}
 use mathlib.Core.Logic.{_⊎_, inl, inr}
 use mathlib.Core.Option.{none, some}

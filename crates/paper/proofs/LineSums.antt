@@ -1,4 +1,4 @@
--- What is counted over all copies is the sum, over the lines, of what is counted by line. Assumes nothing.
+-- What is counted over all copies is the sum, over the lines, of what is counted by line.
 use mathlib.Core.Path.{_≡_, refl, sym, ap, _∙_, subst}
 use mathlib.Core.Bool.{Bool, true, not}
 use mathlib.Core.Logic.{_⊎_, inl, inr}

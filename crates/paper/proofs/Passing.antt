@@ -1,4 +1,4 @@
--- The keys of a list that pass a test, in the list's order. Assumes nothing.
+-- The keys of a list that pass a test, in the list's order.
 use mathlib.Core.Path.{_≡_, refl, ap, subst}
 use mathlib.Core.Bool.{Bool, true, false, cond}
 use mathlib.Core.List.{List, [], _∷_, List·Memᴰ, List·Memᴰ·head, List·Memᴰ·tail, List·Memᴰ·not-nil}

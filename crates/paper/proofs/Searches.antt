@@ -1,4 +1,4 @@
--- (4): search recency to the letter, from a search's start; and what a search that already runs finds. Assumes nothing.
+-- (4): search recency to the letter, from a search's start; and what a search that already runs finds.
 use mathlib.Core.Path.{_≡_, refl, ap, subst}
 use mathlib.Core.Bool.{true}
 use mathlib.Core.Logic.{_≢_, _⊎_, inl, inr}

@@ -1,4 +1,4 @@
--- All copies over every sequence: conservation, and the bound on what the carries' answers add up to. Assumes nothing.
+-- All copies over every sequence: conservation, and the bound on what the carries' answers add up to.
 use mathlib.Core.Path.{_≡_, refl}
 use mathlib.Core.Bool.{cond, _&&_}
 use mathlib.Core.Logic.{_⊎_, inl, inr}

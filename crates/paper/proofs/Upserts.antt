@@ -1,4 +1,4 @@
--- (3): an accepted entry is the paper's upsert, to the letter; and every other event keeps MCS(r, t, H). Assumes nothing.
+-- (3): an accepted entry is the paper's upsert, to the letter; and every other event keeps MCS(r, t, H).
 use mathlib.Core.Path.{_≡_, refl, ap, _∙_, subst}
 use mathlib.Core.Logic.{_≢_}
 use mathlib.Core.List.{List, [], _∷_}

@@ -1,4 +1,4 @@
--- A carry's rise is at most its fall, so no count that its answer says is cut off at 0. Assumes nothing.
+-- A carry's rise is at most its fall, so no count that its answer says is cut off at 0.
 use mathlib.Core.Path.{_≡_, ap, _∙_}
 use mathlib.Core.Bool.{true}
 use Prim.Native.Nat.{ℕ, _<_}

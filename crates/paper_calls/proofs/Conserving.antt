@@ -1,5 +1,5 @@
 -- Conservation over all sequences of public calls from a good store, fresh and load among them: of a line's copies and of all copies since
--- the store was last replaced; and what the carries' answers add up to. Assumes nothing.
+-- the store was last replaced; and what the carries' answers add up to.
 use mathlib.Core.Path.{_≡_, refl, sym, ap, _∙_, subst}
 use mathlib.Core.Bool.{true}
 use mathlib.Core.List.{List}

@@ -1,5 +1,5 @@
 -- No finished search is left out, whatever runs in the good store at hand: in a sequence of public calls every step that answers DONE ends a
--- search that a call of the sequence started, or one that already ran at the beginning. Assumes nothing.
+-- search that a call of the sequence started, or one that already ran at the beginning.
 use mathlib.Core.Path.{_≡_, refl, sym, ap, _∙_, subst}
 use mathlib.Core.Bool.{true, false}
 use mathlib.Core.Logic.{_≢_, _⊎_, inl, inr}

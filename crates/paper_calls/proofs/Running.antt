@@ -1,4 +1,4 @@
--- A search that already runs in a good store at hand, whoever started it; and the visits of a look. Assumes nothing.
+-- A search that already runs in a good store at hand, whoever started it; and the visits of a look.
 use mathlib.Core.Path.{_≡_, refl, sym, ap, _∙_, subst}
 use mathlib.Core.Bool.{true}
 use mathlib.Core.Logic.{_≢_}

@@ -1,5 +1,5 @@
 -- Public calls since the store was last replaced: what is summed over them is what is summed over their events, on the state of the store
--- that was laid down then, or of the one at the start. Assumes nothing.
+-- that was laid down then, or of the one at the start.
 use mathlib.Core.Path.{_≡_, refl, sym, ap, _∙_}
 use mathlib.Core.Bool.{Bool, true, false, cond, _&&_}
 use mathlib.Core.Logic.{_⊎_, inl, inr}

@@ -1,5 +1,5 @@
 -- Over all sequences of public calls: every store reached is the paper's structure, an accepted entry is the paper's upsert, every other call
--- that does not replace the store keeps MCS(r, t, H), and a finished search is recent over the whole history at its start. Assumes nothing.
+-- that does not replace the store keeps MCS(r, t, H), and a finished search is recent over the whole history at its start.
 use mathlib.Core.Path.{_≡_, refl, sym, ap, _∙_, subst}
 use mathlib.Core.Bool.{true}
 use mathlib.Core.List.{List, _∷_, _++_}

@@ -1,4 +1,4 @@
--- A plan's arrays give back the plan's own edges and capacities, also past its last node. Assumes nothing.
+-- A plan's arrays give back the plan's own edges and capacities, also past its last node.
 use mathlib.Core.Path.{_≡_, refl, sym, ap, _∙_}
 use mathlib.Core.List.{List, []}
 use Prim.Native.Nat.{ℕ, suc, _+_, _-_, _<_, _≤_}
@@ -9,7 +9,7 @@ use mathlib.Core.Bool.{false}
 use lib.ListN.{length, getD, List·getD-eq-default}
 use borrow.Author.Tests.{lt-ltb, le-ltb}
 use Rattle.lists.specs.Indexed.{tabulate}
-use Rattle.lists.proofs.Tabulating.{getD-tabulate-0, as-tabulate-0, getD-tabulate-past}
+use Rattle.lists.proofs.Tabulating.{getD-from-start, as-from-start, getD-tabulate-past}
 use Rattle.plan.specs.declared.Edge.{Edge}
 use Rattle.plan.specs.declared.Hop.the-variants.{To, Ends}
 use Rattle.plan.specs.Sizes.{mostNodes, mostEdges}
@@ -21,8 +21,8 @@ use Rattle.plan.proofs.NextLaws.{no-edges, range-holds}
 pub cell-grid : (part : Edge → ℕ) (p : Plan) (n i : ℕ) → n < mostNodes → i < mostEdges → cell (gridOf part p) n i ≡ part (edgeOf p n i)
 unfolding gridOf
 cell-grid part p n i h g =
-    ap (λ (l : List ℕ). getD l i 0) (getD-tabulate-0 (λ m. tabulate 0 mostEdges (λ j. part (edgeOf p m j))) mostNodes n [] h)
-    ∙ getD-tabulate-0 (λ j. part (edgeOf p n j)) mostEdges i 0 g
+    ap (λ (l : List ℕ). getD l i 0) (getD-from-start (λ m. tabulate 0 mostEdges (λ j. part (edgeOf p m j))) mostNodes n [] h)
+    ∙ getD-from-start (λ j. part (edgeOf p n j)) mostEdges i 0 g
 
 -- A row by node: what it has, and nothing past the last node.
 module _ (row : List ℕ) (n : ℕ) where
@@ -39,7 +39,7 @@ row-back : (f : ℕ → ℕ) → ((n : ℕ) → mostNodes ≤ n → f n ≡ 0) �
 row-back f none n = go (decLt n mostNodes)
   where
     go : Dec (n < mostNodes) → atNode (tabulate 0 mostNodes f) n ≡ f n
-    go (yes h) = at-within (tabulate 0 mostNodes f) n h ∙ getD-tabulate-0 f mostNodes n 0 h
+    go (yes h) = at-within (tabulate 0 mostNodes f) n h ∙ getD-from-start f mostNodes n 0 h
     go (no h) = let past : mostNodes ≤ n = omega arith in at-past (tabulate 0 mostNodes f) n past ∙ sym (none n past)
 
 module _ (p : Plan) (few : size p ≤ mostNodes) where
@@ -73,7 +73,7 @@ module _ (p : Plan) (few : size p ≤ mostNodes) where
     unfolding edgesIn
     edges-back n =
         ap (λ (c : ℕ). tabulate 0 c (made n)) (count-back n)
-        ∙ sym (as-tabulate-0 (made n) (edgesOf p n) (length (edgesOf p n)) noEdge refl each)
+        ∙ sym (as-from-start (made n) (edgesOf p n) (length (edgesOf p n)) noEdge refl each)
       where
         each : (i : ℕ) → i < length (edgesOf p n) → edgeOf p n i ≡ made n i
         each i h = go (decLt n (size p))
@@ -94,7 +94,7 @@ counted-within counts n count i e h = go (decLt n mostNodes)
 module _ (counts : List ℕ) (lows highs targets : Grid) (n i : ℕ) where
   pub edge-is : i < edgeCountIn counts n → getD (edgesIn counts lows highs targets n) i noEdge ≡ edgeIn lows highs targets n i
   unfolding edgesIn
-  edge-is h = getD-tabulate-0 (edgeIn lows highs targets n) (edgeCountIn counts n) i noEdge h
+  edge-is h = getD-from-start (edgeIn lows highs targets n) (edgeCountIn counts n) i noEdge h
 
   pub edge-past : edgeCountIn counts n ≤ i → getD (edgesIn counts lows highs targets n) i noEdge ≡ noEdge
   unfolding edgesIn

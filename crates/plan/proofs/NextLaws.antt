@@ -1,5 +1,5 @@
 -- The key's next step is the target of the first edge, in edge order, that holds the key; under the plan rules it goes to a node of
--- the plan with a greater number, and any edge that holds the key gives it. Assumes nothing.
+-- the plan with a greater number, and any edge that holds the key gives it.
 use mathlib.Core.Path.{_≡_, refl, ap}
 use mathlib.Core.Bool.{true, false, and-false}
 use mathlib.Core.Logic.{_⊎_, ⊎-elim, inl, inr}

@@ -1,5 +1,4 @@
 -- "So each key has one path from the root, ending at a node with no edge for it": for every plan that meets the plan rules.
--- Assumes nothing.
 use mathlib.Core.Path.{_≡_, refl, sym, ap, subst}
 use mathlib.Core.Logic.{⊎-elim}
 use mathlib.Core.List.{List, [], _∷_}

@@ -1,4 +1,4 @@
--- The rows of a plan, lent, say what the plan does. Assumes nothing.
+-- The rows of a plan, lent, say what the plan does.
 use mathlib.Core.Path.{_≡_, refl, ap, _∙_}
 use mathlib.Core.List.{List}
 use Prim.Native.Nat.{ℕ}

@@ -1,4 +1,4 @@
--- The plan rules and their test are one, for every plan: each rule holds exactly when its test does. Assumes nothing.
+-- The plan rules and their test are one, for every plan: each rule holds exactly when its test does.
 use mathlib.Core.Path.{_≡_, ap}
 use mathlib.Core.Bool.{Bool, true, _&&_, _||_}
 use mathlib.Core.Logic.{⊎-elim}

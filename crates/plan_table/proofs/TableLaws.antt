@@ -1,4 +1,4 @@
--- The table of plans is shown to meet the plan rules, by one computed test. Assumes nothing.
+-- The table of plans is shown to meet the plan rules, by one computed test.
 use mathlib.Core.Path.{_≡_, refl}
 use mathlib.Core.Bool.{true}
 use mathlib.Core.List.{[]}

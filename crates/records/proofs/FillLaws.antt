@@ -1,4 +1,4 @@
--- A list while records are withFirst down at its beginning, and what decoding has withFirst down at last. Assumes nothing.
+-- A list while records are withFirst down at its beginning, and what decoding has withFirst down at last.
 use mathlib.Core.Path.{_≡_, refl, ap, _∙_}
 use mathlib.Core.Bool.{true, false}
 use mathlib.Core.List.{List, _++_}

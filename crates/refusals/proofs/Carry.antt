@@ -1,4 +1,4 @@
--- Carry: BADSTORE, NODE, EDGE. Assumes nothing.
+-- Carry: BADSTORE, NODE, EDGE.
 use mathlib.Core.Path.{_≡_, refl}
 use mathlib.Core.Bool.{true, false}
 use mathlib.Core.List.{_∷_}

@@ -1,4 +1,4 @@
--- Decode: SMALL; then from the left CUT, NUMBER, PLAN or OP, and MANY first at a step's start. Assumes nothing.
+-- Decode: SMALL; then from the left CUT, NUMBER, PLAN or OP, and MANY first at a step's start.
 use mathlib.Core.Path.{_≡_, refl, sym, ap, subst, _∙_}
 use mathlib.Core.Bool.{true, false, cond}
 use mathlib.Core.List.{List, [], _∷_}

@@ -1,4 +1,4 @@
--- Enter and withdraw, an entry by its kind: BADSTORE, CLOCK, FULL. Assumes nothing.
+-- Enter and withdraw, an entry by its kind: BADSTORE, CLOCK, FULL.
 use mathlib.Core.Path.{_≡_, refl}
 use mathlib.Core.Bool.{true, false}
 use mathlib.Core.List.{_∷_}

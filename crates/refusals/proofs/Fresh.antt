@@ -1,4 +1,4 @@
--- Fresh: PLAN. Assumes nothing.
+-- Fresh: PLAN.
 use mathlib.Core.Path.{_≡_, sym, ap, _∙_}
 use mathlib.Core.Bool.{true, false}
 use mathlib.Core.Logic.{_↔_, _⊎_, inl, inr}

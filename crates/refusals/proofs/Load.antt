@@ -1,4 +1,4 @@
--- Load: for each number from the left CUT, NUMBER, then its own check; at the end TRAIL, then RULE. Assumes nothing.
+-- Load: for each number from the left CUT, NUMBER, then its own check; at the end TRAIL, then RULE.
 use mathlib.Core.Path.{_≡_, refl, sym, ap, subst, _∙_}
 use mathlib.Core.Bool.{true, false, cond}
 use mathlib.Core.List.{List, [], _∷_}

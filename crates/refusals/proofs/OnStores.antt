@@ -1,5 +1,5 @@
 -- From the refusals of a step on states to those of its call on stores. BADSTORE comes first: it is given exactly when a store rule is
--- broken, and every other refusal exactly when its step gives it in a good store. Assumes nothing.
+-- broken, and every other refusal exactly when its step gives it in a good store.
 use mathlib.Core.Path.{_≡_, sym, ap, _∙_}
 use mathlib.Core.Bool.{true, false}
 use mathlib.Core.List.{List, _∷_}

@@ -1,4 +1,4 @@
--- Page: BADSTORE, SAMPLE, SMALL. Serve: the notice. Assumes nothing.
+-- Page: BADSTORE, SAMPLE, SMALL. Serve: the notice.
 use mathlib.Core.Path.{_≡_, ap, _∙_}
 use mathlib.Core.Bool.{true, false, _&&_}
 use mathlib.Core.List.{List, [], _∷_, _++_}
@@ -168,9 +168,9 @@ module _ (z : Store) (sample : ℕ) where
       omega (arith, form-some sample, length-append (form sample) (form (length ls) ++ pageLinesBytes ls))
 
   -- so the length 0 says exactly that the notice is due.
-  pub serve-length-0 : (kept : List ℕ) → (servedLength z sample kept ≡ 0) ↔ (StillTrue z sample kept → ⊥)
+  pub serve-length-none : (kept : List ℕ) → (servedLength z sample kept ≡ 0) ↔ (StillTrue z sample kept → ⊥)
   unfolding servedLength
-  serve-length-0 kept = go (bool? (stillTrue z sample kept))
+  serve-length-none kept = go (bool? (stillTrue z sample kept))
     where
       go : (stillTrue z sample kept ≡ true) ⊎ (stillTrue z sample kept ≡ false) → (servedLength z sample kept ≡ 0) ↔ (StillTrue z sample kept → ⊥)
       go (inl t) = (

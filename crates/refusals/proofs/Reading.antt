@@ -1,5 +1,5 @@
 -- Reading from the left: "the first fault wins". A chain stops where its first part stops, or where the rest does after it; and a number
--- is CUT or NUMBER exactly where document 01 says. Assumes nothing.
+-- is CUT or NUMBER exactly where document 01 says.
 use mathlib.Core.Path.{_≡_, refl, ap, _∙_}
 use mathlib.Core.Bool.{true}
 use mathlib.Core.List.{List, [], _∷_}

@@ -1,4 +1,4 @@
--- Run: BADSTORE, OP, then the refusals of the record's own step. Assumes nothing.
+-- Run: BADSTORE, OP, then the refusals of the record's own step.
 use mathlib.Core.Path.{_≡_, refl, sym, ap, _∙_}
 use mathlib.Core.Bool.{true, false}
 use mathlib.Core.List.{List, [], _∷_}

@@ -1,4 +1,4 @@
--- Save: BADSTORE, SMALL. Assumes nothing.
+-- Save: BADSTORE, SMALL.
 use mathlib.Core.Path.{_≡_, ap}
 use mathlib.Core.Bool.{true, false}
 use mathlib.Core.List.{List, [], _∷_}

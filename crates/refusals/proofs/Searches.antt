@@ -1,4 +1,4 @@
--- Start: BADSTORE, SLOTS. Step and cancel: BADSTORE, SLOT, IDLE. Look: BADSTORE. Assumes nothing.
+-- Start: BADSTORE, SLOTS. Step and cancel: BADSTORE, SLOT, IDLE. Look: BADSTORE.
 use mathlib.Core.Path.{_≡_, refl}
 use mathlib.Core.Bool.{true, false}
 use mathlib.Core.List.{[], _∷_}

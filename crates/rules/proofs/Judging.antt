@@ -1,4 +1,4 @@
--- The test of all store rules, way out by way out. Assumes nothing.
+-- The test of all store rules, way out by way out.
 use mathlib.Core.Path.{_≡_, refl, sym, ap, _∙_}
 use mathlib.Core.Bool.{Bool, true, false, and-true, and-false, _&&_}
 use mathlib.Core.List.{List}

@@ -1,4 +1,4 @@
--- The test of a node is that of its own numbers and that of the paths of its copies. Assumes nothing.
+-- The test of a node is that of its own numbers and that of the paths of its copies.
 use mathlib.Core.Path.{_≡_, refl, ap, _∙_}
 use mathlib.Core.Bool.{Bool, true, false, and-true, and-false, _&&_}
 use mathlib.Core.List.{List}

@@ -1,4 +1,4 @@
--- The tests of a copy's own numbers and of a used place, way out by way out. Assumes nothing.
+-- The tests of a copy's own numbers and of a used place, way out by way out.
 use mathlib.Core.Path.{_≡_}
 use mathlib.Core.Bool.{true, false, and-false}
 use mathlib.Core.List.{List}

@@ -1,4 +1,4 @@
--- The test of a node's own numbers, way out by way out, and that a look in a node that passes can go by halves. Assumes nothing.
+-- The test of a node's own numbers, way out by way out, and that a look in a node that passes can go by halves.
 use mathlib.Core.Path.{_≡_, sym, _∙_}
 use mathlib.Core.Bool.{Bool, true, false, and-false, _&&_}
 use mathlib.Core.Logic.{⊎-elim}

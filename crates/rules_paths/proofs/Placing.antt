@@ -1,4 +1,4 @@
--- The test of the paths of copies, way out by way out; it reads neither clock nor kinds nor values. Assumes nothing.
+-- The test of the paths of copies, way out by way out; it reads neither clock nor kinds nor values.
 use mathlib.Core.Path.{_≡_, refl, sym, ap, _∙_}
 use mathlib.Core.Bool.{true, false}
 use mathlib.Core.List.{List, [], _∷_, map}

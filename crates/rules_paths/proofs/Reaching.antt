@@ -1,4 +1,4 @@
--- The stamp in reach from a key's next step, walked down node by node. Assumes nothing.
+-- The stamp in reach from a key's next step, walked down node by node.
 use mathlib.Core.Path.{_≡_, sym, _∙_}
 use mathlib.Core.List.{List, []}
 use mathlib.Core.Option.{Option}

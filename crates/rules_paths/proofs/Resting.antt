@@ -1,4 +1,4 @@
--- The test of a slot, way out by way out: idle, of no known mark, or running. Assumes nothing.
+-- The test of a slot, way out by way out: idle, of no known mark, or running.
 use mathlib.Core.Path.{_≡_}
 use mathlib.Core.Bool.{false, and-false, _&&_}
 use Prim.Native.Nat.{ℕ}

@@ -1,4 +1,4 @@
--- A walk down a key's path: what is said of the nodes still to come, turn by turn. Assumes nothing.
+-- A walk down a key's path: what is said of the nodes still to come, turn by turn.
 use mathlib.Core.Path.{_≡_, refl}
 use mathlib.Core.Bool.{true, false}
 use mathlib.Core.List.{[], _∷_}

@@ -1,4 +1,4 @@
--- Decoding never looks further than its first 2818 bytes: so many of any bytes, or more, are decoded as all of them are. Assumes nothing.
+-- Decoding never looks further than its first 2818 bytes: so many of any bytes, or more, are decoded as all of them are.
 use mathlib.Core.Path.{_≡_, refl, ap, _∙_}
 use mathlib.Core.Bool.{Bool, true, false, cond}
 use mathlib.Core.List.{List, []}

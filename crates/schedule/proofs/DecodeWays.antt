@@ -1,4 +1,4 @@
--- Why the functions below decode give what they promise: one law for each way out. Assumes nothing.
+-- Why the functions below decode give what they promise: one law for each way out.
 use mathlib.Core.Path.{_≡_, refl, sym, ap, _∙_}
 use mathlib.Core.Bool.{true, false}
 use mathlib.Core.List.{List, [], _∷_, _++_, append-assoc, append-nil}

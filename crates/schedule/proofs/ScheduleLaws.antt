@@ -1,5 +1,4 @@
 -- What decoding gives: at most 256 steps, of known numbers, each in at most 11 bytes, up to the end of the bytes; and where it stops.
--- Assumes nothing.
 use mathlib.Core.Path.{_≡_, refl, ap, _∙_}
 use mathlib.Core.Bool.{Bool, true, false, cond}
 use mathlib.Core.List.{List, [], _∷_}

@@ -1,4 +1,4 @@
--- Start, step and cancel on a good store: what they ask for is there, and their answer and slots are the call's outcome. Assumes nothing.
+-- Start, step and cancel on a good store: what they ask for is there, and their answer and slots are the call's outcome.
 use mathlib.Core.Path.{_≡_, refl, sym, ap, subst, _∙_}
 use mathlib.Core.Bool.{Bool, true, false}
 use mathlib.Core.Logic.{_≢_}

@@ -1,4 +1,4 @@
--- The lowest idle slot, looked for from the first on: the slots still to come say where it is. Assumes nothing.
+-- The lowest idle slot, looked for from the first on: the slots still to come say where it is.
 use mathlib.Core.Path.{_≡_}
 use mathlib.Core.Logic.{_≢_}
 use mathlib.Core.List.{List}

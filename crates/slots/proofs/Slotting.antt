@@ -1,4 +1,4 @@
--- What start, step and cancel do with the slots, way out by way out. Assumes nothing.
+-- What start, step and cancel do with the slots, way out by way out.
 use mathlib.Core.Path.{_≡_, refl, sym, ap, subst, _∙_}
 use mathlib.Core.Logic.{_≢_}
 use mathlib.Core.List.{List}

@@ -1,4 +1,4 @@
--- What a step decides by a plan's rows and a store's columns, lent, way out by way out. Assumes nothing.
+-- What a step decides by a plan's rows and a store's columns, lent, way out by way out.
 use mathlib.Core.Path.{_≡_, sym, _∙_}
 use mathlib.Core.Logic.{_≢_}
 use mathlib.Core.List.{List}

@@ -1,5 +1,5 @@
 -- What a carry does, in document 01's words: what it carries and what it leaves, what its three numbers count, that it moves each copy
--- to the target and nowhere else, and that the same carry again moves nothing. Assumes nothing.
+-- to the target and nowhere else, and that the same carry again moves nothing.
 use mathlib.Core.Path.{_≡_, refl, sym, ap, _∙_}
 use mathlib.Core.Bool.{true, false, _&&_}
 use mathlib.Core.List.{List, []}

@@ -1,4 +1,4 @@
--- Every step keeps all state rules, for every plan that meets the plan rules, and whatever numbers it is called with. Assumes nothing.
+-- Every step keeps all state rules, for every plan that meets the plan rules, and whatever numbers it is called with.
 use mathlib.Core.Path.{_≡_, refl, sym, _∙_, subst}
 use mathlib.Core.Bool.{Bool, true, false, cond}
 use mathlib.Core.Logic.{_≢_, _⊎_, inl, inr}

@@ -1,4 +1,4 @@
--- What each step does to the nodes, and what one line sees of it: nothing, one entry, or one carry along an edge. Assumes nothing.
+-- What each step does to the nodes, and what one line sees of it: nothing, one entry, or one carry along an edge.
 use mathlib.Core.Path.{_≡_, refl, ap, _∙_, subst}
 use mathlib.Core.Bool.{Bool, true, false, not, _&&_}
 use mathlib.Core.Logic.{_≢_}

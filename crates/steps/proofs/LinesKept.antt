@@ -1,4 +1,4 @@
--- A step that each line sees as nothing, as one entry or as one carry keeps the rules on lines. Assumes nothing.
+-- A step that each line sees as nothing, as one entry or as one carry keeps the rules on lines.
 use mathlib.Core.Path.{_≡_, sym, ap, _∙_, subst}
 use mathlib.Core.Logic.{_⊎_, inl, inr}
 use mathlib.Core.Option.{some}

@@ -1,5 +1,5 @@
 -- The merge of a node's list into its target's, of any things with rising keys: what it does to one key, to the order, to the lengths,
--- and what its counts count. Assumes nothing.
+-- and what its counts count.
 use mathlib.Core.Path.{_≡_, refl, sym, ap, _∙_, subst}
 use mathlib.Core.Bool.{Bool, true, false, not, _&&_}
 use mathlib.Core.Logic.{_⊎_, ⊎-elim, inl, inr}

@@ -1,4 +1,4 @@
--- A node's list, of any things with rising keys: what `find`, `put` and `room` give. Assumes nothing.
+-- A node's list, of any things with rising keys: what `find`, `put` and `room` give.
 use mathlib.Core.Path.{_≡_, refl, sym, ap, _∙_}
 use mathlib.Core.Bool.{true, false}
 use mathlib.Core.Logic.{_≢_, _⊎_, inl, inr}

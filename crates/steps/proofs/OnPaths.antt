@@ -1,4 +1,4 @@
--- Where a node stands on a key's path: the root first, and the key's next node one place further. Assumes nothing.
+-- Where a node stands on a key's path: the root first, and the key's next node one place further.
 use mathlib.Core.Path.{_≡_, sym}
 use Prim.Native.Nat.{ℕ, suc, _-_, _<_, _≤_}
 use native.Mathlib.Omega.{arith}

@@ -1,4 +1,4 @@
--- A thing put into a list by the place of its key among rising keys: over the one with its key, or in between. Assumes nothing.
+-- A thing put into a list by the place of its key among rising keys: over the one with its key, or in between.
 use mathlib.Core.Path.{_≡_, refl, sym, ap, _∙_}
 use mathlib.Core.List.{List, [], _∷_, _++_}
 use Prim.Native.Nat.{ℕ, suc, _<_, _≤_}

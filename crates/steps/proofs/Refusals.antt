@@ -1,5 +1,5 @@
 -- "A refusal is given exactly when its line holds and none earlier in the order does", and leaves the state unaltered; and a start takes
--- the lowest idle slot. Assumes nothing.
+-- the lowest idle slot.
 use mathlib.Core.Path.{_≡_, refl}
 use mathlib.Core.Logic.{_≢_, _↔_}
 use mathlib.Core.Option.{none}

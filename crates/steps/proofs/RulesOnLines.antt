@@ -1,4 +1,4 @@
--- The state rules on copies, said of lines instead of places: the two say the same where keys rise. Assumes nothing.
+-- The state rules on copies, said of lines instead of places: the two say the same where keys rise.
 use mathlib.Core.Path.{_≡_, sym, ap, _∙_, subst}
 use mathlib.Core.List.{List}
 use mathlib.Core.Option.{some}

@@ -1,4 +1,4 @@
--- A look is a whole search at once: a search started and stepped with nothing else between ends with the look's answer. Assumes nothing.
+-- A look is a whole search at once: a search started and stepped with nothing else between ends with the look's answer.
 use mathlib.Core.Path.{_≡_, refl, sym, ap, _∙_, subst}
 use mathlib.Core.Logic.{_⊎_, inl, inr}
 use mathlib.Core.List.{List, [], _∷_}

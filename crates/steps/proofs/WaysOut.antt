@@ -1,4 +1,4 @@
--- The ways out of each step, in the order of the refusals: which answer and which state, and exactly when. Assumes nothing.
+-- The ways out of each step, in the order of the refusals: which answer and which state, and exactly when.
 use mathlib.Core.Path.{_≡_, refl}
 use mathlib.Core.Bool.{Bool, true, false, cond}
 use mathlib.Core.Logic.{_≢_}

@@ -1,4 +1,4 @@
--- The fresh store in full, and the two answers of its making. Assumes nothing.
+-- The fresh store in full, and the two answers of its making.
 use mathlib.Core.Path.{_≡_, sym}
 use mathlib.Core.Bool.{true, false}
 use mathlib.Core.List.{[]}
@@ -37,13 +37,13 @@ fresh-store-is plan = sym (blank-store plan (fresh (planNumbered plan)) (λ n. g
 
 -- A plan's number is from 1 to the number of plans.
 module _ (plan : ℕ) where
-  pub plan-number-0 : plan < 1 → false ≡ planNumberTest plan
+  pub below-the-plans : plan < 1 → false ≡ planNumberTest plan
   unfolding planNumberTest
-  plan-number-0 h = rw (lt-leb 1 plan h)
+  below-the-plans h = rw (lt-leb 1 plan h)
 
-  pub plan-number-1 : 1 ≤ plan → leb plan plans ≡ planNumberTest plan
+  pub from-the-first-plan : 1 ≤ plan → leb plan plans ≡ planNumberTest plan
   unfolding planNumberTest
-  plan-number-1 h = rw (le-leb 1 plan h)
+  from-the-first-plan h = rw (le-leb 1 plan h)
 
 -- The two ways out of its making.
 module _ (plan : ℕ) (a : Answer) (z : Store) where

@@ -1,4 +1,4 @@
--- The nodes of a good store as the workers on its columns take them: by places, with rising keys. Assumes nothing.
+-- The nodes of a good store as the workers on its columns take them: by places, with rising keys.
 use mathlib.Core.Path.{_≡_, sym, ap}
 use mathlib.Core.Bool.{true}
 use mathlib.Core.List.{List}

@@ -1,4 +1,4 @@
--- A search by halves in the places from .. end of a column, and what a look there finds. Assumes nothing.
+-- A search by halves in the places from .. end of a column, and what a look there finds.
 use mathlib.Core.Path.{_≡_, refl, sym, ap, _∙_}
 use mathlib.Core.List.{List}
 use mathlib.Core.Option.{Option, none, some}

@@ -1,4 +1,4 @@
--- Which kinds have a value: the only laws that open `hasValue`. Assumes nothing.
+-- Which kinds have a value: the only laws that open `hasValue`.
 use mathlib.Core.Path.{_≡_, refl}
 use mathlib.Core.Bool.{true, false}
 use Prim.Native.Nat.{ℕ, _≤_}

@@ -1,4 +1,4 @@
--- The layout of a store: what a node's places hold, what a column is, and that a store and its state give each other back. Assumes nothing.
+-- The layout of a store: what a node's places hold, what a column is, and that a store and its state give each other back.
 use mathlib.Core.Path.{_≡_, refl, sym, ap, _∙_, subst}
 use mathlib.Core.List.{List, [], _∷_, _++_, map, append-nil}
 use Prim.Native.Nat.{ℕ, _+_, _-_, _*_, _/_, _%_, _<_, _≤_}
@@ -8,7 +8,7 @@ use native.Mathlib.Decide.{decLt, ℕ-discrete}
 use lib.ListN.{length, getD, set, replicate, length-set, length-map, length-append, length-replicate, getD-replicate, List·getD-append, List·getD-eq-default}
 use lib.Seq.{ext-getD, sets, length-sets, getD-append-seam, getD-append-add, getD-set-same, getD-set-other}
 use Rattle.lists.specs.Indexed.{tabulate}
-use Rattle.lists.proofs.Tabulating.{length-tabulate, getD-tabulate, getD-tabulate-0, getD-tabulate-past, as-tabulate}
+use Rattle.lists.proofs.Tabulating.{length-tabulate, getD-tabulate, getD-from-start, getD-tabulate-past, as-tabulate}
 use Rattle.lists.proofs.Storing.{sets-below, sets-past, sets-inside, set-tabulated, getD-same, getD-map}
 use Rattle.plan.specs.Sizes.{mostNodes}
 use Rattle.plan.specs.Plan.{Plan, size}
@@ -48,7 +48,7 @@ module _ (counts keys kinds values stamps : List ℕ) (n : ℕ) where
 -- The nodes of a state that parts hold: those of its columns, and nothing past them.
 module _ (nodes clock : ℕ) (counts keys kinds values stamps : List ℕ) (slots : List Slot) (n : ℕ) where
   pub parts-node : n < nodes → nodeAt (stateIn nodes clock counts keys kinds values stamps slots) n ≡ nodeIn counts keys kinds values stamps n
-  parts-node h = getD-tabulate-0 (nodeIn counts keys kinds values stamps) nodes n [] h
+  parts-node h = getD-from-start (nodeIn counts keys kinds values stamps) nodes n [] h
 
   pub parts-past : nodes ≤ n → nodeAt (stateIn nodes clock counts keys kinds values stamps slots) n ≡ []
   parts-past h = getD-tabulate-past (nodeIn counts keys kinds values stamps) 0 nodes n [] h
@@ -98,7 +98,7 @@ unfolding column
 place-at part ns n i h g =
     let node : (width * n + i) / width ≡ n = omega arith in
     let place : (width * n + i) % width ≡ i = omega arith in
-    getD-tabulate-0 (λ j. part (placeOf ns j)) places (width * n + i) 0 (omega arith) ∙ rw (node, place)
+    getD-from-start (λ j. part (placeOf ns j)) places (width * n + i) 0 (omega arith) ∙ rw (node, place)
 
 -- A list of as many places that at each place of each node holds that copy's number is the column.
 pub column-is : (part : Copy → ℕ) (ns : List (List Copy)) (c : List ℕ) → length c ≡ places
@@ -258,7 +258,7 @@ blank-store plan s empty =
 module _ (plan : ℕ) (s : State) where
   pub stored-count : (n : ℕ) → n < mostNodes → countOf (storeOf plan s) n ≡ length (nodeAt s n)
   unfolding storeOf
-  stored-count n h = getD-tabulate-0 (λ m. length (nodeAt s m)) mostNodes n 0 h
+  stored-count n h = getD-from-start (λ m. length (nodeAt s m)) mostNodes n 0 h
 
   pub stored-copy : (n i : ℕ) → n < mostNodes → i < width → copyOf (storeOf plan s) (width * n + i) ≡ copyAt s n i
   unfolding storeOf

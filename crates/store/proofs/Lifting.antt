@@ -1,4 +1,4 @@
--- Calls on stores: what a step on states shows of its call, the store rules kept by it, and the fresh store. Assumes nothing.
+-- Calls on stores: what a step on states shows of its call, the store rules kept by it, and the fresh store.
 use mathlib.Core.Path.{_≡_, sym, ap, _∙_, subst}
 use mathlib.Core.Bool.{true, false, cond}
 use mathlib.Core.Logic.{_⊎_, inl, inr}

@@ -1,4 +1,4 @@
--- A list with one thing put in and those after it moved up: how it is made, and what it holds. Assumes nothing.
+-- A list with one thing put in and those after it moved up: how it is made, and what it holds.
 use mathlib.Core.Path.{_≡_, ap, _∙_}
 use mathlib.Core.List.{List, [], _∷_, _++_, append-assoc}
 use Prim.Native.Nat.{ℕ, suc, _+_, _-_, _≤_, _<_}

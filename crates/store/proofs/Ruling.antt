@@ -1,4 +1,4 @@
--- The store rules and their test are one, for every store: `goodStore` holds exactly when StoreRules does. Assumes nothing.
+-- The store rules and their test are one, for every store: `goodStore` holds exactly when StoreRules does.
 use mathlib.Core.Path.{_≡_, ap}
 use mathlib.Core.Bool.{true}
 use Prim.Native.Nat.{ℕ, suc, _+_, _-_, _*_, _<_, _≤_}

@@ -1,5 +1,5 @@
 -- "Down a path, a key's stamps strictly fall", said of any two copies of a key and said of each copy and the first one in reach below
--- it: the two are one, where keys rise in each node and copies stand on their keys' paths. Assumes nothing.
+-- it: the two are one, where keys rise in each node and copies stand on their keys' paths.
 use mathlib.Core.Path.{_≡_, refl, sym, ap, _∙_, subst}
 use mathlib.Core.Logic.{_⊎_, ⊎-elim}
 use mathlib.Core.List.{List, [], _∷_}

@@ -1,5 +1,5 @@
 -- The tests of lists that the store rules are made of, each read by index and back: the number stands in the list, or at a place of
--- it; all numbers are different; all of a part are zero. Assumes nothing.
+-- it; all numbers are different; all of a part are zero.
 use mathlib.Core.Path.{_≡_, refl, sym, ap, _∙_}
 use mathlib.Core.Bool.{true, false, not}
 use mathlib.Core.Logic.{_⊎_, ⊎-elim, inl, inr}

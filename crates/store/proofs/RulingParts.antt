@@ -1,4 +1,4 @@
--- The store rules and their tests part by part: a place held, a copy, a search slot and unused places. Assumes nothing.
+-- The store rules and their tests part by part: a place held, a copy, a search slot and unused places.
 use mathlib.Core.Path.{_≡_, refl, ap}
 use mathlib.Core.Bool.{Bool, true, false, _||_}
 use mathlib.Core.Logic.{_⊎_, ⊎-elim, inl, inr}

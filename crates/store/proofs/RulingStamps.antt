@@ -1,4 +1,4 @@
--- The stamps of all copies held are different exactly when no stamp stands at two places. Assumes nothing.
+-- The stamps of all copies held are different exactly when no stamp stands at two places.
 use mathlib.Core.Path.{_≡_, refl, sym, ap, _∙_}
 use mathlib.Core.Bool.{true}
 use mathlib.Core.Logic.{⊎-elim}

@@ -1,4 +1,4 @@
--- The place of a key in a list, and by it what a look for the key finds where keys rise. Assumes nothing.
+-- The place of a key in a list, and by it what a look for the key finds where keys rise.
 use mathlib.Core.Path.{_≡_, refl, sym, ap, _∙_}
 use mathlib.Core.Bool.{Bool, true, false, cond}
 use mathlib.Core.List.{List, [], _∷_, map}

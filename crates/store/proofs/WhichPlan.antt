@@ -1,4 +1,4 @@
--- Which plan a store has: the only laws that open `planOf`. Assumes nothing.
+-- Which plan a store has: the only laws that open `planOf`.
 use mathlib.Core.Path.{_≡_, refl, sym, ap, _∙_, subst}
 use mathlib.Core.Bool.{true}
 use mathlib.Core.List.{List}

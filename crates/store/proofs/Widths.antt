@@ -1,4 +1,4 @@
--- Lists that say of each node no more than it has places: of a row read by node, and of a plan's capacities. Assumes nothing.
+-- Lists that say of each node no more than it has places: of a row read by node, and of a plan's capacities.
 use mathlib.Core.Path.{_≡_, ap}
 use mathlib.Core.List.{List}
 use Prim.Native.Nat.{ℕ, _<_, _≤_}

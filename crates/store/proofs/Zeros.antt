@@ -1,4 +1,4 @@
--- The test that a part of a column is all zero, by the bits of its places laid together. Assumes nothing.
+-- The test that a part of a column is all zero, by the bits of its places laid together.
 use mathlib.Core.Path.{_≡_}
 use mathlib.Core.Bool.{true, _&&_, and-assoc}
 use mathlib.Core.List.{List}

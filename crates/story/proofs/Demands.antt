@@ -1,4 +1,4 @@
--- The three demands hold: each field is one theorem. Assumes nothing.
+-- The three demands hold: each field is one theorem.
 use Rattle.trips.proofs.RoundTrips.{loaded-saves}
 use Rattle.refusals.proofs.Fresh.{fresh-refused}
 use Rattle.refusals.proofs.Save.{save-refused}

@@ -1,4 +1,4 @@
--- The instances: computed, and the demands' own fields applied. Assumes nothing.
+-- The instances: computed, and the demands' own fields applied.
 use mathlib.Core.Path.{_≡_, refl, sym, ap, _∙_, subst}
 use mathlib.Core.Bool.{Bool, true}
 use mathlib.Core.List.{List, [], _∷_, _++_, flatten, List·Memᴰ, List·Memᴰ·not-nil, List·Memᴰ·cases-cons, List·Memᴰ·eq-of-singleton}

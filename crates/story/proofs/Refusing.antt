@@ -1,4 +1,4 @@
--- Each promise allows one outcome, and each refusal is given exactly when its line holds. Assumes nothing.
+-- Each promise allows one outcome, and each refusal is given exactly when its line holds.
 use Rattle.refusals.proofs.OnStores.{rule-broken}
 use Rattle.refusals.proofs.Fresh.{fresh-plan}
 use Rattle.refusals.proofs.Entries.{entry-badstore, entry-clock, entry-full}

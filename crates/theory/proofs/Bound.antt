@@ -1,5 +1,5 @@
 -- Demand 3: how often the copies of a line are carried. A carry takes one off what the line's copies are worth, and an entry adds at most
--- the edges of the path. Assumes nothing.
+-- the edges of the path.
 use mathlib.Core.Path.{_≡_, refl, ap, _∙_, subst}
 use mathlib.Core.Bool.{Bool, true, false, cond}
 use mathlib.Core.List.{List, [], _∷_, _++_, flatten}

@@ -1,4 +1,4 @@
--- What events do to the clock: it goes up by one at each accepted entry, and stays at every other event. Assumes nothing.
+-- What events do to the clock: it goes up by one at each accepted entry, and stays at every other event.
 use mathlib.Core.Path.{_≡_, refl}
 use mathlib.Core.Bool.{cond}
 use mathlib.Core.List.{List, [], _∷_}

@@ -1,4 +1,4 @@
--- What an event does: it keeps all state rules; and for a line it is nothing, one entry, or one carry along an edge. Assumes nothing.
+-- What an event does: it keeps all state rules; and for a line it is nothing, one entry, or one carry along an edge.
 use mathlib.Core.Path.{_≡_, refl, sym, ap, _∙_, subst}
 use mathlib.Core.Bool.{Bool, true, false, cond, _&&_}
 use mathlib.Core.Logic.{_⊎_, inl, inr}

@@ -1,5 +1,4 @@
 -- Contents in reach of a state that meets the rules: the paper's equation (5), and the newest of the copies that a node leads to.
--- Assumes nothing.
 use mathlib.Core.Path.{_≡_, refl, ap, _∙_}
 use mathlib.Core.Logic.{_⊎_, inl, inr}
 use mathlib.Core.List.{List}

@@ -1,5 +1,5 @@
 -- The paper's structure, kept by every event and so by every sequence: its invariants 1 to 4, from any state that meets the state rules,
--- with the copies that it holds as the history. Assumes nothing.
+-- with the copies that it holds as the history.
 use mathlib.Core.Path.{_≡_, refl, sym, ap, _∙_, subst}
 use mathlib.Core.Logic.{_⊎_, inl, inr}
 use mathlib.Core.List.{

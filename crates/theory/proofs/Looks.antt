@@ -1,5 +1,5 @@
 -- A look's answer: the line's current result, after as many visits as there are path nodes down to the first that has a copy, or all.
--- (That a search with nothing in between ends with the same answer is steps' law search-is-look.) Assumes nothing.
+-- (That a search with nothing in between ends with the same answer is steps' law search-is-look.)
 use mathlib.Core.Path.{_≡_, refl, sym, ap, _∙_}
 use mathlib.Core.Logic.{_⊎_, inl, inr}
 use mathlib.Core.List.{List, [], _∷_}

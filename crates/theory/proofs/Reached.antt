@@ -1,5 +1,5 @@
 -- Demand 3: the bound is reached, for every plan that meets the plan rules, every line, every value, and every number of entries that the
--- clock allows. Assumes nothing.
+-- clock allows.
 use mathlib.Core.Path.{_≡_, refl, sym, ap, _∙_, subst}
 use mathlib.Core.Bool.{true, false, cond}
 use mathlib.Core.Logic.{_⊎_, inl, inr}

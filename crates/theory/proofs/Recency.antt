@@ -1,5 +1,5 @@
 -- Search recency, for every plan that meets the plan rules, from any state that meets the state rules, and over all sequences; a search
--- that is not cancelled ends within as many own steps as its path has nodes. Assumes nothing.
+-- that is not cancelled ends within as many own steps as its path has nodes.
 use mathlib.Core.Path.{_≡_, refl, sym, ap, _∙_, subst}
 use mathlib.Core.Bool.{true}
 use mathlib.Core.Logic.{_⊎_, inl, inr}

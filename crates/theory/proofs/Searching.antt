@@ -1,5 +1,5 @@
 -- A search in a slot, event by event: what is not its own leaves it, its own step ends it or takes it to the key's next node; and what is
--- in reach of the node where it stands never gets older. Assumes nothing.
+-- in reach of the node where it stands never gets older.
 use mathlib.Core.Path.{_≡_, refl, sym, ap, _∙_, subst}
 use mathlib.Core.Bool.{Bool, true, false, not, _&&_}
 use mathlib.Core.Logic.{_≢_, _⊎_, inl, inr}

@@ -1,5 +1,5 @@
 -- What an event does to the logical contents, a line's current result: an accepted entry sets its own line's to its copy and leaves every
--- other; every other event, a carry too, leaves them all; and a refusal leaves the state. Assumes nothing.
+-- other; every other event, a carry too, leaves them all; and a refusal leaves the state.
 use mathlib.Core.Path.{_≡_, refl, ap, _∙_}
 use mathlib.Core.Logic.{_≢_, inl, inr}
 use mathlib.Core.Option.{Option, none, some}

@@ -1,4 +1,4 @@
--- What transcribe learns of decode's answer, its way out, and what its caller learns. Assumes nothing.
+-- What transcribe learns of decode's answer, its way out, and what its caller learns.
 use mathlib.Core.Path.{_≡_, refl, ap₂, _∙_}
 use mathlib.Core.List.{List}
 use Prim.Native.Nat.{ℕ, _≤_}

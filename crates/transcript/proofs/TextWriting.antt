@@ -1,4 +1,4 @@
--- Printed lines written one after another: each turn and each way out. Assumes nothing.
+-- Printed lines written one after another: each turn and each way out.
 use mathlib.Core.Path.{_≡_, refl, _∙_}
 use mathlib.Core.List.{List, [], _++_, append-nil}
 use Prim.Native.Nat.{ℕ, suc, _+_, _-_, _*_, _<_, _≤_}

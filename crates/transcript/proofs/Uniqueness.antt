@@ -1,4 +1,4 @@
--- Uniqueness: any two lengths, and any two buffers at exit, that the promise of transcribe allows are equal. Assumes nothing.
+-- Uniqueness: any two lengths, and any two buffers at exit, that the promise of transcribe allows are equal.
 use mathlib.Core.Path.{_≡_, sym, _∙_}
 use mathlib.Core.List.{List}
 use Prim.Native.Nat.{ℕ}

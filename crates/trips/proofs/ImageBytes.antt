@@ -1,4 +1,4 @@
--- Each byte of an image is a byte. Assumes nothing.
+-- Each byte of an image is a byte.
 use mathlib.Core.List.{List, [], _∷_}
 use Prim.Native.Nat.{ℕ, suc, _<_}
 use native.Mathlib.Omega.{arith}

@@ -1,4 +1,4 @@
--- The parts of an image: each is read back where it stands, and where one is read, its bytes stand. Assumes nothing.
+-- The parts of an image: each is read back where it stands, and where one is read, its bytes stand.
 use mathlib.Core.Path.{_≡_, refl, ap, _∙_}
 use mathlib.Core.List.{List, [], _∷_}
 use Prim.Native.Nat.{ℕ, zero, suc, _<_, _≤_}

@@ -1,4 +1,4 @@
--- A whole image: it is read back where it stands, and where one is read, its bytes stand. Assumes nothing.
+-- A whole image: it is read back where it stands, and where one is read, its bytes stand.
 use mathlib.Core.Path.{_≡_, refl, ap, _∙_, subst}
 use mathlib.Core.Bool.{true}
 use mathlib.Core.List.{List, [], _++_}

@@ -1,4 +1,4 @@
--- Save and load, there and back. Document 01, "Bytes": "loading a saved store gives it with all slots idle". Assumes nothing.
+-- Save and load, there and back. Document 01, "Bytes": "loading a saved store gives it with all slots idle".
 use mathlib.Core.Path.{_≡_, refl, sym, ap, _∙_}
 use mathlib.Core.Bool.{true}
 use mathlib.Core.List.{List, [], _++_}
@@ -8,7 +8,7 @@ use native.Mathlib.Decide.{decLt}
 use lib.Dec.{lit≤, ltb, eqb}
 use lib.ListN.{length, getD, take, replicate, length-append, length-replicate}
 use Rattle.lists.proofs.Standing.{stands-itself, stands-front, stands-whole, no-elements}
-use Rattle.lists.proofs.Tabulating.{getD-tabulate-0, getD-tabulate-past}
+use Rattle.lists.proofs.Tabulating.{getD-from-start, getD-tabulate-past}
 use Rattle.lists.proofs.Storing.{getD-same}
 use Rattle.number.specs.Number.{Bytes, narrow}
 use Rattle.plan.specs.Plan.{Plan}
@@ -148,7 +148,7 @@ unfolding column
 column-small part ns most small i = go (decLt i places)
   where
     go : Dec (i < places) → getD (column part ns) i 0 ≤ most
-    go (yes h) = rw (getD-tabulate-0 (λ j. part (placeOf ns j)) places i 0 h) (small (i / width) (i % width))
+    go (yes h) = rw (getD-from-start (λ j. part (placeOf ns j)) places i 0 h) (small (i / width) (i % width))
     go (no h) = rw (getD-tabulate-past (λ j. part (placeOf ns j)) 0 places i 0 (omega arith)) (omega arith)
 
 pub stored-declared : (plan : ℕ) (t : State) → ((n i : ℕ) → Small (copyAt t n i)) → Declared (storeOf plan t)

@@ -1,4 +1,4 @@
--- A lent buffer after bytes were written into it from its beginning on, or were not because it is too short. Assumes nothing.
+-- A lent buffer after bytes were written into it from its beginning on, or were not because it is too short.
 use mathlib.Core.Path.{_≡_, sym, ap, _∙_}
 use mathlib.Core.List.{List, _++_}
 use Prim.Native.Nat.{ℕ, _<_, _≤_}

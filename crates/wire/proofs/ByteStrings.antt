@@ -1,4 +1,4 @@
--- Byte strings: none, and one after another. Assumes nothing.
+-- Byte strings: none, and one after another.
 use mathlib.Core.List.{List, [], _∷_, _++_}
 use Prim.Native.Nat.{ℕ, zero, suc}
 use lib.Dec.{lit<}

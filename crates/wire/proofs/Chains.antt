@@ -1,4 +1,4 @@
--- Readings one after another: where a chain succeeds or stops, and what a number that is read says of the bytes. Assumes nothing.
+-- Readings one after another: where a chain succeeds or stops, and what a number that is read says of the bytes.
 use mathlib.Core.Path.{_≡_, refl, sym, ap, _∙_, subst}
 use mathlib.Core.Bool.{Bool, true, false, cond}
 use mathlib.Core.List.{List}

@@ -1,4 +1,4 @@
--- Parts of a byte string, one after another: what a loop that counts their bytes or writes them keeps true. Assumes nothing.
+-- Parts of a byte string, one after another: what a loop that counts their bytes or writes them keeps true.
 use mathlib.Core.Path.{_≡_, refl, ap, _∙_}
 use mathlib.Core.List.{List, [], _∷_, _++_}
 use Prim.Native.Nat.{ℕ, suc, _+_, _-_, _<_, _≤_}

@@ -1,4 +1,4 @@
--- Document 01's P1 to P10, by computing. Assumes nothing.
+-- Document 01's P1 to P10, by computing.
 use mathlib.Core.Path.{_≡_, refl, sym, ap, _∙_, subst}
 use mathlib.Core.Bool.{Bool, true}
 use Prim.Native.Nat.{ℕ}

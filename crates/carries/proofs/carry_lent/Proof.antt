@@ -1,4 +1,4 @@
--- `carries::carry_lent` meets its contract. Assumes nothing.
+-- `carries::carry_lent` meets its contract.
 use borrow.Author.Needs.{needs}
 use Rattle.carries.proofs.Carrying.{kept-long, got-long, settled-out}
 use Rattle.carries.proofs.carry_lent.Statement.{statement}

@@ -1,4 +1,4 @@
--- `copies::copy_length` meets its contract. Assumes nothing.
+-- `copies::copy_length` meets its contract.
 use native.Mathlib.Omega.{arith}
 use Rattle.number.proofs.Forms.{form-length}
 use Rattle.store.specs.Copies.{copy}

@@ -1,4 +1,4 @@
--- `copies::no_copy` meets its contract. Assumes nothing.
+-- `copies::no_copy` meets its contract.
 use mathlib.Core.Path.{refl}
 use Rattle.copies.specs.CopyBytes.{copyReadOf}
 use Rattle.copies.proofs.no_copy.Statement.{statement}

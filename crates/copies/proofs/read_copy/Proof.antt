@@ -1,4 +1,4 @@
--- `copies::read_copy` meets its contract. Assumes nothing.
+-- `copies::read_copy` meets its contract.
 use mathlib.Core.Path.{_∙_}
 use borrow.Author.Tests.{not-true, not-false}
 use Rattle.wire.proofs.Chains.{num-got, num-fault}

@@ -1,4 +1,4 @@
--- `copies::read_value` meets its contract. Assumes nothing.
+-- `copies::read_value` meets its contract.
 use mathlib.Core.Path.{sym, _∙_}
 use Rattle.wire.specs.Reading.{numOf}
 use Rattle.copies.proofs.CopyReading.{value-read, value-none}

@@ -1,4 +1,4 @@
--- `copies::value_length` meets its contract. Assumes nothing.
+-- `copies::value_length` meets its contract.
 use mathlib.Core.Path.{sym, ap, _∙_}
 use lib.ListN.{length}
 use Rattle.copies.proofs.CopyLengths.{value-written, value-left-out}

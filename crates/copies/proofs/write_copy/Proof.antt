@@ -1,4 +1,4 @@
--- `copies::write_copy` meets its contract. Assumes nothing.
+-- `copies::write_copy` meets its contract.
 use Rattle.store.specs.Copies.{copy}
 use Rattle.copies.proofs.CopyWriting.{key-fits, kind-fits, value-part-fits, stamp-fits, wrote-copy}
 use borrow.Author.Needs.{needs}

@@ -1,4 +1,4 @@
--- `copies::write_value` meets its contract. Assumes nothing.
+-- `copies::write_value` meets its contract.
 use mathlib.Core.Path.{sym, _∙_}
 use Rattle.copies.proofs.CopyWriting.{value-fits, wrote-value, wrote-no-value}
 use borrow.Author.Needs.{needs}

@@ -1,4 +1,4 @@
--- `entries::enter` meets its contract. Assumes nothing.
+-- `entries::enter` meets its contract.
 use mathlib.Core.Path.{refl}
 use Rattle.entries.proofs.Entering.{enters-held}
 use borrow.Author.Needs.{needs}

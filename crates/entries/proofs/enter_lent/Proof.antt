@@ -1,4 +1,4 @@
--- `entries::enter_lent` meets its contract. Assumes nothing.
+-- `entries::enter_lent` meets its contract.
 use mathlib.Core.Path.{refl}
 use Rattle.entries.proofs.Entering.{enters-held}
 use borrow.Author.Needs.{needs}

@@ -1,4 +1,4 @@
--- `entries::withdraw_lent` meets its contract. Assumes nothing.
+-- `entries::withdraw_lent` meets its contract.
 use native.Mathlib.Omega.{arith}
 use Rattle.entries.proofs.Entering.{withdraws-held}
 use borrow.Author.Needs.{needs}

@@ -1,4 +1,4 @@
--- `examples_bytes::print` meets its contract. Assumes nothing.
+-- `examples_bytes::print` meets its contract.
 use Rattle.io.proofs.Counting.{front}
 use Rattle.lines.proofs.LineLaws.{line-within}
 use borrow.Author.Needs.{needs}

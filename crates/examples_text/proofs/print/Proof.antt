@@ -1,4 +1,4 @@
--- `examples_text::print` meets its contract. Assumes nothing.
+-- `examples_text::print` meets its contract.
 use Rattle.io.proofs.Counting.{front}
 use Rattle.transcript.proofs.TextWays.{text-within}
 use borrow.Author.Needs.{needs}

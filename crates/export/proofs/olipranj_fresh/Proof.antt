@@ -1,5 +1,5 @@
 -- `export::olipranj_fresh` meets its promise: a walk of its MIR, by hand. The borrow is opened, `Store::fresh` makes the store, it is lying over
--- what stood there, and the borrow is closed. Assumes nothing.
+-- what stood there, and the borrow is closed.
 use mathlib.Core.Path.{refl, ap}
 use Prim.Native.Nat.{ℕ, _<_, _^_}
 use mathlib.Core.List.{[], _∷_, List}

@@ -1,5 +1,5 @@
 -- `export::olipranj_load` meets its promise: a walk of its MIR, by hand. The borrow is opened; the store's columns are lent at once for a lifetime
--- made for the call of `load_lent`, which reads the bytes into them; plan, clock and slots are written, and the borrow is closed. Assumes nothing.
+-- made for the call of `load_lent`, which reads the bytes into them; plan, clock and slots are written, and the borrow is closed.
 use mathlib.Core.Path.{_≡_, refl, ap}
 use Prim.Native.Nat.{ℕ, _+_}
 use mathlib.Core.List.{[], _∷_, List}

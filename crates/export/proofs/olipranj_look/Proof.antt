@@ -1,5 +1,5 @@
 -- `export::olipranj_look` meets its promise: a walk of its MIR by the laws of lending and calling (`Lending.antt`);
--- `look_lent` answers. Assumes nothing.
+-- `look_lent` answers.
 use mathlib.Core.Path.{refl, subst}
 use Prim.Native.Nat.{ℕ, _<_, _^_}
 use mathlib.Core.List.{[], _∷_, List}

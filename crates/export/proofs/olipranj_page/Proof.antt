@@ -1,5 +1,5 @@
 -- `export::olipranj_page` meets its promise: a walk of its MIR by the laws of lending and calling (`Lending.antt`);
--- the buffer is passed on to `page_lent`. Assumes nothing.
+-- the buffer is passed on to `page_lent`.
 use mathlib.Core.Path.{refl, subst}
 use Prim.Native.Nat.{ℕ, _<_, _^_}
 use mathlib.Core.List.{[], _∷_, List}

@@ -1,5 +1,5 @@
 -- `export::olipranj_save` meets its promise: a walk of its MIR by the laws of lending and calling (`Lending.antt`);
--- the buffer is passed on to `save_lent`. Assumes nothing.
+-- the buffer is passed on to `save_lent`.
 use mathlib.Core.Path.{refl, subst}
 use Prim.Native.Nat.{ℕ}
 use mathlib.Core.List.{[], _∷_, List}

@@ -1,5 +1,5 @@
 -- `export::olipranj_serve` meets its promise: a walk of its MIR by the laws of lending and calling (`Lending.antt`);
--- the kept bytes are passed on to `served_length_lent`. Assumes nothing.
+-- the kept bytes are passed on to `served_length_lent`.
 use mathlib.Core.Path.{refl, subst}
 use Prim.Native.Nat.{ℕ, _<_, _^_}
 use mathlib.Core.List.{[], _∷_, List}

@@ -1,6 +1,6 @@
 -- `export::olipranj_step` meets its promise: a walk of its MIR, by hand. The borrow is opened; the store's columns are lent at once for a lifetime made
 -- for the call; `do_lent` writes them; the lifetime ends, and the store lies there with what they show last; the clock and the slots are
--- written, and the borrow is closed. Assumes nothing.
+-- written, and the borrow is closed.
 use mathlib.Core.Path.{refl, ap, subst}
 use Prim.Native.Nat.{ℕ, _<_, _^_}
 use lib.Dec.{lit<}

@@ -1,4 +1,4 @@
--- `image::load_lent` meets its contract. Assumes nothing.
+-- `image::load_lent` meets its contract.
 use mathlib.Core.Path.{_∙_}
 use borrow.Author.Tests.{not-true, not-false}
 use Rattle.image_loading.proofs.LoadEnds.{head-refused, head-loads}

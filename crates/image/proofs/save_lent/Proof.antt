@@ -1,4 +1,4 @@
--- `image::save_lent` meets its contract. Assumes nothing.
+-- `image::save_lent` meets its contract.
 use mathlib.Core.Path.{_≡_, sym, _∙_}
 use mathlib.Core.Bool.{true}
 use native.Mathlib.Omega.{arith}

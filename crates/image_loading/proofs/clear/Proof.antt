@@ -1,4 +1,4 @@
--- `image_loading::clear` meets its contract. Assumes nothing.
+-- `image_loading::clear` meets its contract.
 use Rattle.image_loading.proofs.LoadEnds.{empty-counts, empty-columns}
 use Rattle.image_loading.proofs.clear.Statement.{statement}
 use Rattle.image_loading.proofs.clear.Tie as tie

@@ -1,4 +1,4 @@
--- `image_loading::copies_held` meets its contract. Assumes nothing.
+-- `image_loading::copies_held` meets its contract.
 use mathlib.Core.Path.{_≡_}
 use Prim.Native.Nat.{_+_, _-_, _*_, _≤_}
 use native.Mathlib.Omega.{arith}

@@ -1,4 +1,4 @@
--- `image_loading::finish` meets its contract. Assumes nothing.
+-- `image_loading::finish` meets its contract.
 use mathlib.Core.Path.{_≡_, refl, sym, _∙_}
 use mathlib.Core.Bool.{true}
 use borrow.Author.Tests.{not-true, not-false}

@@ -1,4 +1,4 @@
--- `image_loading::load_nodes` meets its contract. Assumes nothing.
+-- `image_loading::load_nodes` meets its contract.
 use mathlib.Core.Path.{_∙_}
 use borrow.Author.Tests.{not-true, not-false}
 use Rattle.plan_table.specs.PlanTable.{planNumbered}

@@ -1,4 +1,4 @@
--- `image_loading::refuse` meets its contract. Assumes nothing.
+-- `image_loading::refuse` meets its contract.
 use Rattle.image_loading.proofs.LoadEnds.{refused-is}
 use borrow.Author.Needs.{needs}
 use Rattle.image_loading.proofs.refuse.Statement.{statement}

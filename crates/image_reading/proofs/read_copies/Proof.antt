@@ -1,4 +1,4 @@
--- `image_reading::read_copies` meets its contract. Assumes nothing.
+-- `image_reading::read_copies` meets its contract.
 use Prim.Native.Nat.{_-_, _≤_}
 use borrow.Author.Tests.{not-true, not-false}
 use Rattle.wire.specs.declared.Num.{Num}

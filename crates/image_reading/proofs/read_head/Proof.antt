@@ -1,4 +1,4 @@
--- `image_reading::read_head` meets its contract. Assumes nothing.
+-- `image_reading::read_head` meets its contract.
 use mathlib.Core.Path.{sym, _∙_}
 use borrow.Author.Tests.{not-true, not-false}
 use Rattle.wire.proofs.Chains.{num-got, num-fault}

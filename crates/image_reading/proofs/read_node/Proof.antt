@@ -1,4 +1,4 @@
--- `image_reading::read_node` meets its contract. Assumes nothing.
+-- `image_reading::read_node` meets its contract.
 use borrow.Author.Tests.{not-true, not-false}
 use Rattle.wire.proofs.Chains.{num-got}
 use Rattle.image_reading.proofs.NodeWays.{node-no-count, node-over, node-stops, node-whole}

@@ -1,5 +1,4 @@
 -- `lines::write_decimal` meets its contract. It calls itself with the number without its last digit, and the number is the measure.
--- Assumes nothing.
 use Prim.Native.Nat.{ℕ, _<_}
 use native.Mathlib.Omega.{arith}
 use borrow.Author.Needs.{needs}

@@ -1,4 +1,4 @@
--- `lines::print_into` meets its contract. Assumes nothing.
+-- `lines::print_into` meets its contract.
 use native.Mathlib.Omega.{arith}
 use Rattle.lines.proofs.LineLaws.{line-printed}
 use borrow.Author.Needs.{needs}

@@ -1,4 +1,4 @@
--- `lines::write_word` meets its contract. Assumes nothing.
+-- `lines::write_word` meets its contract.
 use native.Mathlib.Omega.{arith}
 use Rattle.lines.proofs.DecimalLaws.{decimal-few}
 use Rattle.lines.proofs.LineLaws.{wrote-byte, word-ends}

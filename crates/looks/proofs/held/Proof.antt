@@ -1,4 +1,4 @@
--- `looks::held` meets its contract. Assumes nothing.
+-- `looks::held` meets its contract.
 use mathlib.Core.Path.{_∙_}
 use Rattle.looks.proofs.Descending.{held-answer}
 use borrow.Author.Needs.{needs}

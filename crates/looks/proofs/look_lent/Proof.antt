@@ -1,4 +1,4 @@
--- `looks::look_lent` meets its contract. Assumes nothing.
+-- `looks::look_lent` meets its contract.
 use mathlib.Core.Path.{_≡_, refl, sym, _∙_}
 use mathlib.Core.Bool.{true, false}
 use borrow.Author.Tests.{not-true, not-false}

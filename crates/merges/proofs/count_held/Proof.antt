@@ -1,4 +1,4 @@
--- `merges::count_held` meets its contract. Assumes nothing.
+-- `merges::count_held` meets its contract.
 use mathlib.Core.Path.{_≡_, sym, _∙_}
 use mathlib.Core.Logic.{⊎-elim}
 use Prim.Native.Nat.{_+_, _-_, _<_, _≤_}

@@ -1,4 +1,4 @@
--- `merges::decide` meets its contract. Assumes nothing.
+-- `merges::decide` meets its contract.
 use mathlib.Core.Path.{_≡_, _∙_}
 use Prim.Native.Nat.{_+_, _-_}
 use native.Mathlib.Omega.{arith}

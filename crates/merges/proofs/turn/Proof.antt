@@ -1,4 +1,4 @@
--- `merges::turn` meets its contract. Assumes nothing.
+-- `merges::turn` meets its contract.
 use mathlib.Core.Path.{_≡_, sym, _∙_}
 use mathlib.Core.Logic.{⊎-elim}
 use Prim.Native.Nat.{_<_, _≤_}

@@ -1,4 +1,4 @@
--- `moves::carry_column` meets its contract. Assumes nothing.
+-- `moves::carry_column` meets its contract.
 use native.Mathlib.Omega.{arith}
 use borrow.Author.Needs.{needs}
 use Rattle.store.specs.Layout.{places}

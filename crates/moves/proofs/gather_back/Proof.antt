@@ -1,4 +1,4 @@
--- `moves::gather_back` meets its contract. Assumes nothing.
+-- `moves::gather_back` meets its contract.
 use mathlib.Core.Path.{_≡_, refl, ap, _∙_}
 use mathlib.Core.List.{List}
 use Prim.Native.Nat.{ℕ, _+_, _-_, _<_, _≤_}

@@ -1,5 +1,4 @@
 -- `number::length_of` meets its contract. The loop keeps `Counting`; its measure is the rest.
--- Assumes nothing.
 use borrow.Author.Needs.{needs}
 use Rattle.number.proofs.Writer.{Counting, count-starts, count-turns, count-ends}
 use Rattle.number.proofs.length_of.Statement.{statement}

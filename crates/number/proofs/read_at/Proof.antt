@@ -1,5 +1,4 @@
 -- `number::read_at` meets its contract. The loop keeps `Going`; its measure is how many bytes with the top bit may still come.
--- Assumes nothing.
 use mathlib.Core.Path.{_≡_}
 use mathlib.Core.Logic.{⊎-elim}
 use Prim.Native.Nat.{_+_, _-_, _*_, _<_, _≤_}

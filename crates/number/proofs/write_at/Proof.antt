@@ -1,5 +1,4 @@
 -- `number::write_at` meets its contract. The loop keeps `Writing`; its measure is the rest.
--- Assumes nothing.
 use borrow.Author.Needs.{needs}
 use Rattle.number.proofs.Writer.{Writing, write-starts, write-room, write-turns, write-ends}
 use Rattle.number.proofs.write_at.Statement.{statement}

@@ -1,4 +1,4 @@
--- `olipranj::main` meets its contract. Assumes nothing.
+-- `olipranj::main` meets its contract.
 use Rattle.io.proofs.Counting.{front}
 use Rattle.transcript.proofs.TextWays.{text-within}
 use borrow.Author.Needs.{needs}

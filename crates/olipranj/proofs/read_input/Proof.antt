@@ -1,4 +1,4 @@
--- `olipranj::read_input` meets its contract. Assumes nothing.
+-- `olipranj::read_input` meets its contract.
 use mathlib.Core.Path.{_≡_}
 use Prim.Native.Nat.{_-_, _≤_}
 use lib.ListN.{length}

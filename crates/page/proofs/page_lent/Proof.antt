@@ -1,4 +1,4 @@
--- `page::page_lent` meets its contract. Assumes nothing.
+-- `page::page_lent` meets its contract.
 use mathlib.Core.Path.{_≡_, sym}
 use mathlib.Core.Bool.{true}
 use Prim.Native.Nat.{_≤_}

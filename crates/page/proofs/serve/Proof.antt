@@ -1,4 +1,4 @@
--- `page::serve` meets its promise. Assumes nothing.
+-- `page::serve` meets its promise.
 use borrow.Author.Needs.{needs}
 use lib.Seq.{length-take-le}
 use Rattle.page.proofs.PageWays.{serve-notice, serve-fits, serve-kept}

@@ -1,4 +1,4 @@
--- `page::served_length_lent` meets its contract. Assumes nothing.
+-- `page::served_length_lent` meets its contract.
 use mathlib.Core.Path.{_≡_, sym, _∙_}
 use mathlib.Core.Bool.{true}
 use Prim.Native.Nat.{_≤_}

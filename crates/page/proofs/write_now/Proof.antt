@@ -1,4 +1,4 @@
--- `page::write_now` meets its contract. Assumes nothing.
+-- `page::write_now` meets its contract.
 use mathlib.Core.List.{[]}
 use native.Mathlib.Omega.{arith}
 use borrow.Author.Needs.{needs}

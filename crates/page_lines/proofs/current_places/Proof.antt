@@ -1,4 +1,4 @@
--- `page_lines::current_places` meets its contract. The loop's invariant: so many nodes, from the last on, are laid over. Assumes nothing.
+-- `page_lines::current_places` meets its contract. The loop's invariant: so many nodes, from the last on, are laid over.
 use mathlib.Core.Path.{_≡_}
 use Prim.Native.Nat.{_+_, _-_, _≤_}
 use native.Mathlib.Omega.{arith}

@@ -1,5 +1,4 @@
 -- `page_lines::gather` meets its contract. The loop's invariant: the lines gathered, and those of the analytes still to come, are all.
--- Assumes nothing.
 use mathlib.Core.Path.{sym, _∙_}
 use mathlib.Core.Logic.{⊎-elim}
 use Prim.Native.Nat.{_-_, _<_, _≤_}

@@ -1,5 +1,4 @@
 -- `page_lines::lay_node` meets its contract. The loop's invariant: what is laid over, with what is still to come, is the whole node's.
--- Assumes nothing.
 use mathlib.Core.Path.{_∙_}
 use Prim.Native.Nat.{ℕ, _+_, _-_, _*_, _≤_}
 use native.Mathlib.Omega.{arith}

@@ -1,4 +1,4 @@
--- `page_lines::no_lines` meets its contract. Assumes nothing.
+-- `page_lines::no_lines` meets its contract.
 use mathlib.Core.Path.{refl}
 use Rattle.lists.specs.Indexed.{tabulate}
 use Rattle.page_lines.specs.Workers.{pageLinesIn}

@@ -20,7 +20,7 @@ use borrow.Author.Needs.{needs}
 use Rattle.rules.proofs.good.Statement.{statement}
 use Rattle.rules.proofs.good.Tie as tie
 
--- `rules::good` meets its contract: the test of all store rules, of the store that is lent. Assumes nothing.
+-- `rules::good` meets its contract: the test of all store rules, of the store that is lent.
 
 -- The store of what is lent and given.
 abbrev asked : tie.Start → Store

@@ -1,4 +1,4 @@
--- `rules_nodes::key_rises` meets its contract. Assumes nothing.
+-- `rules_nodes::key_rises` meets its contract.
 use native.Mathlib.Omega.{arith}
 use Rattle.rules_nodes.proofs.Marking.{rises-last, rises-next}
 use borrow.Author.Needs.{needs}

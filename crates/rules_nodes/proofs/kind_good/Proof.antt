@@ -1,4 +1,4 @@
--- `rules_nodes::kind_good` meets its contract. Assumes nothing.
+-- `rules_nodes::kind_good` meets its contract.
 use mathlib.Core.Path.{sym, _∙_}
 use borrow.Author.Needs.{needs}
 use native.Mathlib.Omega.{arith}

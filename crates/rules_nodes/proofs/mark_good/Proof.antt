@@ -1,4 +1,4 @@
--- `rules_nodes::mark_good` meets its contract. Assumes nothing.
+-- `rules_nodes::mark_good` meets its contract.
 use mathlib.Core.Path.{sym, _∙_}
 use native.Mathlib.Omega.{arith}
 use borrow.Author.Tests.{not-true, not-false}

@@ -1,4 +1,4 @@
--- `rules_nodes::node_tidy` meets its contract. Assumes nothing.
+-- `rules_nodes::node_tidy` meets its contract.
 use mathlib.Core.Path.{refl, sym, _∙_}
 use Prim.Native.Nat.{_+_, _*_}
 use native.Mathlib.Omega.{arith}

@@ -1,5 +1,4 @@
 -- `rules_nodes::nodes_tidy` meets its contract. The loop's invariant: all nodes pass if those from this one on do. The measure is their number.
--- Assumes nothing.
 use mathlib.Core.Path.{_≡_, refl, sym, _∙_}
 use mathlib.Core.Bool.{Bool}
 use Prim.Native.Nat.{ℕ, _-_, _≤_}

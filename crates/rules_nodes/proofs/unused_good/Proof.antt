@@ -1,4 +1,4 @@
--- `rules_nodes::unused_good` meets its contract. Assumes nothing.
+-- `rules_nodes::unused_good` meets its contract.
 use mathlib.Core.Path.{sym, _∙_}
 use borrow.Author.Tests.{not-true, not-false}
 use Rattle.rules_nodes.proofs.Tidying.{keys-fail, kinds-fail, values-fail, stamps-decide}

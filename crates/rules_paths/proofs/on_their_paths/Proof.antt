@@ -1,4 +1,4 @@
--- `rules_paths::on_their_paths` meets its contract. Assumes nothing.
+-- `rules_paths::on_their_paths` meets its contract.
 use mathlib.Core.Path.{sym, _∙_}
 use borrow.Author.Tests.{not-true, not-false}
 use borrow.Author.Needs.{needs}

@@ -1,4 +1,4 @@
--- `rules_stamps::stands_behind` meets its contract. Assumes nothing.
+-- `rules_stamps::stands_behind` meets its contract.
 use mathlib.Core.Path.{sym, _∙_}
 use Prim.Native.Nat.{_≤_}
 use native.Mathlib.Omega.{arith}

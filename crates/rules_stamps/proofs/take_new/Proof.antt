@@ -1,5 +1,4 @@
 -- `rules_stamps::take_new` meets its contract. The loop's invariant: the stamps from this place on are taken. The measure is this place.
--- Assumes nothing.
 use mathlib.Core.Path.{_≡_, sym, _∙_}
 use Prim.Native.Nat.{_-_, _≤_}
 use native.Mathlib.Omega.{arith}

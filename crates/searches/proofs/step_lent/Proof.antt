@@ -1,4 +1,4 @@
--- `searches::step_lent` meets its contract. Assumes nothing.
+-- `searches::step_lent` meets its contract.
 use mathlib.Core.Path.{refl, sym, _∙_}
 use mathlib.Core.Logic.{⊎-elim}
 use Rattle.plan.proofs.RowsLent.{own-count}

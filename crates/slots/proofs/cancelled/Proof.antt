@@ -1,4 +1,4 @@
--- `slots::cancelled` meets its contract. Assumes nothing.
+-- `slots::cancelled` meets its contract.
 use mathlib.Core.Path.{_≡_}
 use lib.ListN.{length}
 use Rattle.store.specs.State.{slotCount}

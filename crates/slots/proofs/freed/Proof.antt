@@ -1,4 +1,4 @@
--- `slots::freed` meets its contract. Assumes nothing.
+-- `slots::freed` meets its contract.
 use mathlib.Core.Path.{ap}
 use Rattle.store.specs.declared.Slot.{Slot}
 use borrow.Author.Needs.{needs}

@@ -1,4 +1,4 @@
--- `slots::refused` meets its contract. Assumes nothing.
+-- `slots::refused` meets its contract.
 use mathlib.Core.Path.{ap}
 use lib.ListN.{getD}
 use Rattle.store.specs.declared.Answer.{Answer}

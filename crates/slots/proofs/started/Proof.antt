@@ -1,5 +1,5 @@
 -- `slots::started` meets its contract. The loop's invariant: the slots from n on say which is the lowest idle one. The measure is how many
--- are left. Assumes nothing.
+-- are left.
 use mathlib.Core.Path.{_≡_, sym, _∙_}
 use Prim.Native.Nat.{_-_, _≤_}
 use native.Mathlib.Nat.{zero-add}

@@ -1,4 +1,4 @@
--- `slots::stepped` meets its contract. Assumes nothing.
+-- `slots::stepped` meets its contract.
 use mathlib.Core.Path.{_≡_}
 use native.Mathlib.Omega.{arith}
 use lib.ListN.{length}

@@ -1,4 +1,4 @@
--- `slots::visited` meets its contract. Assumes nothing.
+-- `slots::visited` meets its contract.
 use mathlib.Core.Path.{_≡_, sym, _∙_}
 use native.Mathlib.Omega.{arith}
 use native.Mathlib.Numerals.{add-one}

@@ -1,4 +1,4 @@
--- `transcript::transcribe` meets its contract. Assumes nothing.
+-- `transcript::transcribe` meets its contract.
 use native.Mathlib.Omega.{arith}
 use Rattle.schedule.proofs.ScheduleLaws.{decode-b-fits}
 use Rattle.transcript.proofs.TextWays.{decode-few, transcribed}

@@ -1,4 +1,4 @@
--- `transcript::write_decoded` meets its contract. Assumes nothing.
+-- `transcript::write_decoded` meets its contract.
 use Rattle.transcript.proofs.TextWriting.{refused-wrote, steps-room, accepted-wrote}
 use borrow.Author.Needs.{needs}
 use Rattle.transcript.proofs.write_decoded.Statement.{statement}

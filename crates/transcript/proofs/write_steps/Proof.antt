@@ -1,4 +1,4 @@
--- `transcript::write_steps` meets its contract. The loop's invariant: the printed lines from a place on complete all. Assumes nothing.
+-- `transcript::write_steps` meets its contract. The loop's invariant: the printed lines from a place on complete all.
 use Prim.Native.Nat.{_-_}
 use Rattle.store.specs.Promises.{freshOutcome}
 use Rattle.transcript.proofs.TextWriting.{WritingSteps, steps-start, step-fits, steps-turn, steps-end}

@@ -1,4 +1,4 @@
--- `wire::read_number` meets its contract. Assumes nothing.
+-- `wire::read_number` meets its contract.
 use Rattle.number.specs.Number.{narrow}
 use Rattle.wire.specs.Reading.{numbered, numOf}
 use Rattle.wire.proofs.Chains.{told}

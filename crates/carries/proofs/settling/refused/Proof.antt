@@ -1,4 +1,4 @@
--- `carries::settling::refused` meets its contract. Assumes nothing.
+-- `carries::settling::refused` meets its contract.
 use mathlib.Core.Path.{ap}
 use borrow.Author.Needs.{needs}
 use Rattle.store.specs.declared.Answer.{Answer}

@@ -1,4 +1,4 @@
--- `carries::settling::settle_lent` meets its contract. Assumes nothing.
+-- `carries::settling::settle_lent` meets its contract.
 use mathlib.Core.Path.{_≡_, refl, sym, _∙_}
 use mathlib.Core.Bool.{true, false}
 use borrow.Author.Needs.{needs}

@@ -1,4 +1,4 @@
--- `image_writing::lengths::image_length` meets its contract. Assumes nothing.
+-- `image_writing::lengths::image_length` meets its contract.
 use Prim.Native.Nat.{_+_, _*_, _≤_}
 use native.Mathlib.Omega.{arith}
 use Rattle.number.proofs.Forms.{form-length}

@@ -1,4 +1,4 @@
--- `image_writing::lengths::node_length` meets its contract. Assumes nothing.
+-- `image_writing::lengths::node_length` meets its contract.
 use Prim.Native.Nat.{_*_}
 use native.Mathlib.Omega.{arith}
 use Rattle.store.specs.Layout.{width, copyIn}

@@ -1,4 +1,4 @@
--- `image_writing::writing::write_copies` meets its contract. Assumes nothing.
+-- `image_writing::writing::write_copies` meets its contract.
 use Prim.Native.Nat.{_-_, _≤_}
 use Rattle.lists.specs.Indexed.{tabulate}
 use Rattle.store.specs.Layout.{copyIn}

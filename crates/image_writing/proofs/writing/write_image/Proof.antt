@@ -1,4 +1,4 @@
--- `image_writing::writing::write_image` meets its contract. Assumes nothing.
+-- `image_writing::writing::write_image` meets its contract.
 use mathlib.Core.List.{[]}
 use Rattle.store.specs.State.{State}
 use Rattle.store.specs.Layout.{stateIn}

@@ -1,4 +1,4 @@
--- `image_writing::writing::write_node` meets its contract. Assumes nothing.
+-- `image_writing::writing::write_node` meets its contract.
 use Prim.Native.Nat.{_*_}
 use Rattle.store.specs.Layout.{width, copyIn}
 use Rattle.image_writing.proofs.WriteWays.{count-fits, copies-fit, wrote-node}

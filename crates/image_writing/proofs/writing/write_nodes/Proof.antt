@@ -1,4 +1,4 @@
--- `image_writing::writing::write_nodes` meets its contract. Assumes nothing.
+-- `image_writing::writing::write_nodes` meets its contract.
 use Prim.Native.Nat.{_-_, _≤_}
 use native.Mathlib.Omega.{arith}
 use Rattle.lists.specs.Indexed.{tabulate}

@@ -1,4 +1,4 @@
--- `page::writing::lay` meets its contract. The loop's invariant: the page's first i bytes were written. Assumes nothing.
+-- `page::writing::lay` meets its contract. The loop's invariant: the page's first i bytes were written.
 use Prim.Native.Nat.{_-_, _≤_}
 use borrow.Author.Needs.{needs}
 use lib.ListN.{length, take, length-set}

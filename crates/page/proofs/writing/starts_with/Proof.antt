@@ -1,4 +1,4 @@
--- `page::writing::starts_with` meets its contract. The loop's invariant: all depends on the bytes from i on. Assumes nothing.
+-- `page::writing::starts_with` meets its contract. The loop's invariant: all depends on the bytes from i on.
 use mathlib.Core.Path.{_≡_, refl}
 use Prim.Native.Nat.{_-_, _≤_}
 use borrow.Author.Needs.{needs}

@@ -1,4 +1,4 @@
--- `page::writing::write_line` meets its contract. Assumes nothing.
+-- `page::writing::write_line` meets its contract.
 use native.Mathlib.Omega.{arith}
 use Rattle.page_lines.specs.PageLine.{pageLine}
 use Rattle.page.proofs.PageWriting.{line-long, line-wrote}

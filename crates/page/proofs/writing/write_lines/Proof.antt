@@ -1,5 +1,4 @@
 -- `page::writing::write_lines` meets its contract. The loop's invariant: the lines from i on fit, and once written they complete all.
--- Assumes nothing.
 use Prim.Native.Nat.{ℕ, _-_, _≤_}
 use borrow.Author.Needs.{needs}
 use Rattle.page_lines.specs.PageLine.{PageLine}

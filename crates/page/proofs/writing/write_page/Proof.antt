@@ -1,4 +1,4 @@
--- `page::writing::write_page` meets its contract. Assumes nothing.
+-- `page::writing::write_page` meets its contract.
 use borrow.Author.Needs.{needs}
 use native.Mathlib.Omega.{arith}
 use Rattle.page.proofs.PageWriting.{page-long, page-wrote}

@@ -1,4 +1,4 @@
--- `plan::arrays::at_node` meets its contract. Assumes nothing.
+-- `plan::arrays::at_node` meets its contract.
 use mathlib.Core.Path.{sym}
 use native.Mathlib.Omega.{arith}
 use borrow.Author.Needs.{needs}

@@ -1,4 +1,4 @@
--- `plan::arrays::edge_count_in` meets its contract. Assumes nothing.
+-- `plan::arrays::edge_count_in` meets its contract.
 use borrow.Author.Needs.{needs}
 use Rattle.plan.proofs.arrays.edge_count_in.Statement.{statement}
 use Rattle.plan.proofs.arrays.edge_count_in.Tie as tie

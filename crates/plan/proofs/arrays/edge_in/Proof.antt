@@ -1,4 +1,4 @@
--- `plan::arrays::edge_in` meets its contract. Assumes nothing.
+-- `plan::arrays::edge_in` meets its contract.
 use mathlib.Core.Path.{sym}
 use native.Mathlib.Omega.{arith}
 use Rattle.plan.proofs.ArrayLaws.{counted-within, edge-is, edge-past}

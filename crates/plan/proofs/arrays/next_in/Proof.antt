@@ -1,5 +1,4 @@
 -- `plan::arrays::next_in` meets its contract. The loop's invariant: what is left of the edges gives the key's next step. The measure is their number.
--- Assumes nothing.
 use mathlib.Core.Path.{_≡_, sym, _∙_}
 use mathlib.Core.Logic.{⊎-elim}
 use Prim.Native.Nat.{ℕ, _-_, _≤_}

@@ -1,4 +1,4 @@
--- `rules_paths::paths::copy_placed` meets its contract. Assumes nothing.
+-- `rules_paths::paths::copy_placed` meets its contract.
 use mathlib.Core.Path.{sym, _∙_}
 use borrow.Author.Tests.{not-true, not-false}
 use Rattle.store.specs.State.{State}

@@ -1,5 +1,4 @@
 -- `rules_paths::paths::node_placed` meets its contract. The loop's invariant: all copies pass if those from i on do. The measure is their number.
--- Assumes nothing.
 use mathlib.Core.Path.{_≡_, refl, sym, _∙_}
 use mathlib.Core.Bool.{Bool}
 use Prim.Native.Nat.{ℕ, _+_, _-_, _*_, _≤_}

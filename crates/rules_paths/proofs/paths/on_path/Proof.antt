@@ -1,5 +1,5 @@
 -- `rules_paths::paths::on_path` meets its contract. The loop's invariant: the node stands on the path if it stands among the nodes to come. The
--- measure is how many may come. Assumes nothing.
+-- measure is how many may come.
 use mathlib.Core.Path.{_≡_, sym, ap, _∙_}
 use Prim.Native.Nat.{_-_}
 use native.Mathlib.Omega.{arith}

@@ -1,5 +1,5 @@
 -- `rules_paths::paths::stamp_below` meets its contract. The loop's invariant: the next step leads to a node of the plan, and the stamp in reach is
--- the one in reach from there. The measure is how many nodes may come. Assumes nothing.
+-- the one in reach from there. The measure is how many nodes may come.
 use mathlib.Core.Path.{_≡_, sym, ap, _∙_}
 use mathlib.Core.Logic.{⊎-elim}
 use Prim.Native.Nat.{_+_, _-_, _*_, _<_}

@@ -1,5 +1,5 @@
 -- `rules_paths::paths::stands_at` meets its contract. The loop's invariant: the node stands on the path, with so many nodes above it, if it does
--- among the nodes to come, with those left. The measure is how many may come. Assumes nothing.
+-- among the nodes to come, with those left. The measure is how many may come.
 use mathlib.Core.Path.{_≡_, sym, ap, _∙_}
 use mathlib.Core.List.{List}
 use Prim.Native.Nat.{ℕ, _-_}

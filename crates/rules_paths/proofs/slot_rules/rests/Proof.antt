@@ -1,4 +1,4 @@
--- `rules_paths::slot_rules::rests` meets its contract. Assumes nothing.
+-- `rules_paths::slot_rules::rests` meets its contract.
 use native.Mathlib.Omega.{arith}
 use Rattle.rules_paths.proofs.Resting.{first-is-not, second-is-not, third-decides}
 use Rattle.rules_paths.proofs.slot_rules.rests.Statement.{statement}

@@ -1,4 +1,4 @@
--- `rules_paths::slot_rules::slot_good` meets its contract. Assumes nothing.
+-- `rules_paths::slot_rules::slot_good` meets its contract.
 use mathlib.Core.Path.{sym, _∙_}
 use native.Mathlib.Omega.{arith}
 use Rattle.rules_paths.proofs.Resting.{slot-rests, slot-strange, slot-runs}

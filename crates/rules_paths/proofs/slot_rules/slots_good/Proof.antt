@@ -1,5 +1,4 @@
 -- `rules_paths::slot_rules::slots_good` meets its contract. The loop's invariant: all slots pass if those from i on do. The measure is their number.
--- Assumes nothing.
 use mathlib.Core.Path.{_≡_, refl, sym, _∙_}
 use mathlib.Core.Bool.{Bool}
 use mathlib.Core.List.{List}

@@ -1,4 +1,4 @@
--- `schedule::decoding::decode_into` meets its contract. Assumes nothing.
+-- `schedule::decoding::decode_into` meets its contract.
 use mathlib.Core.Path.{_∙_}
 use Rattle.schedule.proofs.DecodeWays.{into-small, into-list}
 use borrow.Author.Needs.{needs}

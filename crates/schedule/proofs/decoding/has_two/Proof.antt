@@ -1,4 +1,4 @@
--- `schedule::decoding::has_two` meets its contract. Assumes nothing.
+-- `schedule::decoding::has_two` meets its contract.
 use Rattle.schedule.proofs.DecodeWays.{two-enter, two-carry}
 use Rattle.schedule.proofs.decoding.has_two.Statement.{statement}
 use Rattle.schedule.proofs.decoding.has_two.Tie as tie

@@ -1,4 +1,4 @@
--- `schedule::decoding::is_known` meets its contract. Assumes nothing.
+-- `schedule::decoding::is_known` meets its contract.
 use Rattle.schedule.proofs.DecodeWays.{known-below, known-from}
 use Rattle.schedule.proofs.decoding.is_known.Statement.{statement}
 use Rattle.schedule.proofs.decoding.is_known.Tie as tie

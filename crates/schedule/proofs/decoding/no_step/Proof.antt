@@ -1,4 +1,4 @@
--- `schedule::decoding::no_step` meets its contract. Assumes nothing.
+-- `schedule::decoding::no_step` meets its contract.
 use mathlib.Core.Path.{refl}
 use Rattle.schedule.specs.Workers.{stepReadOf}
 use Rattle.schedule.proofs.decoding.no_step.Statement.{statement}

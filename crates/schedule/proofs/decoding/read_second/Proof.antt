@@ -1,4 +1,4 @@
--- `schedule::decoding::read_second` meets its contract. Assumes nothing.
+-- `schedule::decoding::read_second` meets its contract.
 use mathlib.Core.Path.{sym, _∙_}
 use Rattle.wire.specs.Reading.{numOf}
 use Rattle.schedule.proofs.DecodeWays.{second-read, second-none}

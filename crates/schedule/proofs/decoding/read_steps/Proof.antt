@@ -1,4 +1,4 @@
--- `schedule::decoding::read_steps` meets its contract. Assumes nothing.
+-- `schedule::decoding::read_steps` meets its contract.
 use mathlib.Core.Path.{_≡_, _∙_}
 use Prim.Native.Nat.{_-_, _≤_}
 use lib.ListN.{length}

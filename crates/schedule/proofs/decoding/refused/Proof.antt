@@ -1,4 +1,4 @@
--- `schedule::decoding::refused` meets its contract. Assumes nothing.
+-- `schedule::decoding::refused` meets its contract.
 use Rattle.schedule.proofs.DecodeWays.{refused-whole}
 use borrow.Author.Needs.{needs}
 use borrow.Author.Needs.{needs}

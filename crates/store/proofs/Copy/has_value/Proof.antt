@@ -1,4 +1,4 @@
--- `store::Copy::has_value` meets its contract. Assumes nothing.
+-- `store::Copy::has_value` meets its contract.
 use mathlib.Core.Path.{sym}
 use Rattle.store.proofs.KindLaws.{valued-is}
 use Rattle.store.proofs.Copy.has_value.Statement.{statement}

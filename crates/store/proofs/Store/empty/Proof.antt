@@ -1,4 +1,4 @@
--- `store::Store::empty` meets its contract. Assumes nothing.
+-- `store::Store::empty` meets its contract.
 use mathlib.Core.Path.{sym}
 use borrow.Author.Needs.{needs}
 use Rattle.store.proofs.Freshening.{fresh-store-is}

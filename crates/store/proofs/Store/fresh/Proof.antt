@@ -1,4 +1,4 @@
--- `store::Store::fresh` meets its contract. Assumes nothing.
+-- `store::Store::fresh` meets its contract.
 use mathlib.Core.Path.{sym, _∙_}
 use borrow.Author.Needs.{needs}
 use Rattle.store.proofs.Freshening.{fresh-done, fresh-refused}

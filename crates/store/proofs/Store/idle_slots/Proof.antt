@@ -1,4 +1,4 @@
--- `store::Store::idle_slots` meets its contract. Assumes nothing.
+-- `store::Store::idle_slots` meets its contract.
 use mathlib.Core.Path.{ap}
 use lib.ListN.{replicate}
 use borrow.Author.Needs.{needs}

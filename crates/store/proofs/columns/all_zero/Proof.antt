@@ -1,4 +1,4 @@
--- `store::columns::all_zero` meets its contract. Assumes nothing.
+-- `store::columns::all_zero` meets its contract.
 use mathlib.Core.Path.{_≡_, refl, sym, ap, _∙_}
 use mathlib.Core.Bool.{_&&_, and-true}
 use Prim.Native.Nat.{_-_, _≤_}

@@ -1,4 +1,4 @@
--- `store::columns::look_among` meets its contract. Assumes nothing.
+-- `store::columns::look_among` meets its contract.
 use Prim.Native.Nat.{_+_, _-_, _/_, _≤_, _<_}
 use native.Mathlib.Omega.{arith}
 use borrow.Author.Needs.{needs}

@@ -1,4 +1,4 @@
--- `store::columns::look_at` meets its contract. Assumes nothing.
+-- `store::columns::look_at` meets its contract.
 use mathlib.Core.Path.{_∙_}
 use borrow.Author.Needs.{needs}
 use Rattle.store.proofs.Laying.{node-looked}

@@ -1,4 +1,4 @@
--- `store::columns::seek` meets its contract. Assumes nothing.
+-- `store::columns::seek` meets its contract.
 use Prim.Native.Nat.{_+_, _-_, _/_, _≤_}
 use native.Mathlib.Omega.{arith}
 use borrow.Author.Needs.{needs}
