@@ -1,15 +1,21 @@
--- The promises of the calls that write the store behind a pointer: each fixes the answer and the store at exit. Of the others the promises
--- are those of the calls themselves: Looks, Saves, Pages and ServesLength.
+-- The promises of the calls that write the store behind a pointer: each fixes the answer and the store at exit; and of the check alone. Of the
+-- others the promises are those of the calls themselves: Looks, Saves, Pages and ServesLength.
 use mathlib.Core.Path.{_≡_}
 use mathlib.Core.List.{List}
 use Prim.Native.Nat.{ℕ}
 use Rattle.store.specs.declared.Answer.{Answer}
 use Rattle.store.specs.declared.Outcome.{Outcome}
 use Rattle.store.specs.declared.Store.{Store}
+use Rattle.store.specs.Answers.{DONE, bare}
+use Rattle.store.specs.Calls.{ofStore}
 use Rattle.store.specs.Promises.{freshOutcome}
 use Rattle.image_loading.specs.Loading.{loadOutcome}
 use Rattle.schedule.specs.Schedule.{stepRecord}
 use Rattle.schedule.specs.Running.{recordOutcome}
+
+-- The number of the layout in which a store and an answer lie for C: one more with each change of a field.
+abbrev pub layoutNumber : ℕ
+layoutNumber = 1
 
 -- An outcome in two parts: its answer is returned, its store stands behind the pointer.
 abbrev pub Gives : Outcome → Answer → Store → Type 0
@@ -26,3 +32,7 @@ StepsBehind before number x y = Gives (recordOutcome before (stepRecord number x
 -- The store of the image, or the first fault and a fresh store of plan 1, whatever stood there.
 abbrev pub LoadsBehind : List ℕ → Answer → Store → Type 0
 LoadsBehind bytes = Gives (loadOutcome bytes)
+
+-- The check alone: DONE, or BADSTORE.
+abbrev pub Checks : Store → Answer → Type 0
+Checks store r = r ≡ ofStore (λ p s. bare DONE) store

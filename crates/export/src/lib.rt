@@ -1,11 +1,25 @@
 // The C interface (include/olipranj.h): the public calls over a store behind a pointer. A call that leaves the store as it is lends its columns
 // where they lie; a step and a load lend them to be written there.
+ghost use mathlib.Core.Path.{_≡_};
+ghost use Rattle.store.specs.Workers.{LentSized, lentStore};
 ghost use Rattle.steps.specs.Promises.{Looks};
 ghost use Rattle.image.specs.Promises.{Saves};
 ghost use Rattle.page.specs.Promises.{Pages, ServesLength};
-ghost use Rattle.export.specs.Promises.{FreshensBehind, StepsBehind, LoadsBehind};
+ghost use Rattle.export.specs.Promises.{layoutNumber, FreshensBehind, StepsBehind, LoadsBehind, Checks};
 use store::Answer;
+use store::Slot;
 use store::Store;
+
+// The number of the layout in which a store and an answer lie for C.
+pub const LAYOUT: u32 = 1;
+
+// The library's own layout number.
+#[no_mangle]
+pub extern "C" fn olipranj_layout() -> u32
+    ensures { λ r. ⌜ r ≡ layoutNumber ⌝ }
+{
+    LAYOUT
+}
 
 // A fresh store of the plan, or PLAN and a fresh store of plan 1.
 #[no_mangle]
@@ -40,6 +54,43 @@ pub extern "C" fn olipranj_step(store: &mut Store, number: u32, x: u32, y: u32) 
     store.clock = done.clock;
     store.slots = done.slots;
     done.answer
+}
+
+// The check of all store rules as an answer, on lent columns.
+fn good_lent<'a>(
+    plan: u32,
+    clock: u32,
+    counts: &'a [u32; Store::NODES],
+    keys: &'a [u32; Store::PLACES],
+    kinds: &'a [u32; Store::PLACES],
+    values: &'a [u32; Store::PLACES],
+    stamps: &'a [u32; Store::PLACES],
+    slots: [Slot; Store::SLOTS],
+) -> Answer
+    requires { ⌜ LentSized counts keys kinds values stamps ⌝ }
+    ensures { λ r. ⌜ Checks (lentStore plan clock (counts .entry) (keys .entry) (kinds .entry) (values .entry) (stamps .entry) slots) r ⌝ }
+{
+    if rules::good(plan, clock, counts, keys, kinds, values, stamps, slots) {
+        return Answer::bare(Answer::DONE);
+    }
+    Answer::bare(Answer::BADSTORE)
+}
+
+// The check of all store rules alone.
+#[no_mangle]
+pub extern "C" fn olipranj_good(store: &Store) -> Answer
+    ensures { λ r. ⌜ Checks (now (store .entry)) r ⌝ }
+{
+    good_lent(
+        store.plan,
+        store.clock,
+        &store.counts,
+        &store.keys,
+        &store.kinds,
+        &store.values,
+        &store.stamps,
+        store.slots,
+    )
 }
 
 // A whole search at once.
