@@ -22,7 +22,7 @@ use Rattle.export.specs.Promises.{Gives}
 use Rattle.calls.specs.PublicCalls.{Call, accepted, replaced, storeAfter, storeAfterAll}
 use Rattle.calls.specs.PublicCalls.Call.{fresh, load}
 use Rattle.behind.specs.Behind.{CallBehind, MeetsPromise, AllMeet, orFresh, publicCall}
-use Rattle.behind.specs.Behind.CallBehind.{freshens, steps, looks, saves, loads, pages, serves}
+use Rattle.behind.specs.Behind.CallBehind.{freshens, steps, checks, looks, saves, loads, pages, serves}
 
 -- A refused fresh or load gives a fresh store of plan 1,
 fresh-refused : (plan : ℕ) → accepted (freshOutcome plan .answer) ≡ false → freshOutcome plan .store ≡ freshStore 1
@@ -69,6 +69,7 @@ call-behind (freshens plan r) z leaves does =
 call-behind (loads bytes r) z leaves does =
     taken-or-fresh (loadOutcome bytes) (load bytes) (λ y. refl) (load-refused bytes) r z leaves does
 call-behind (steps number x y r) z leaves does = does .1
+call-behind (checks r) z leaves does = does .1
 call-behind (looks k r) z leaves does = does .1
 call-behind (saves before r after) z leaves does = does .1
 call-behind (pages sample before r after) z leaves does = does .1

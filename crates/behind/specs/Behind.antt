@@ -9,7 +9,7 @@ use Rattle.steps.specs.Promises.{Looks}
 use Rattle.image.specs.Promises.{Saves}
 use Rattle.page.specs.Promises.{Pages, ServesLength}
 use Rattle.schedule.specs.Schedule.{stepRecord}
-use Rattle.export.specs.Promises.{FreshensBehind, StepsBehind, LoadsBehind}
+use Rattle.export.specs.Promises.{FreshensBehind, StepsBehind, LoadsBehind, Checks}
 use Rattle.calls.specs.PublicCalls.{Call, accepted}
 use Rattle.calls.specs.PublicCalls.Call.{fresh, load, reads, run}
 use Rattle.calls.specs.PublicCalls.Reading.{look, save, page, serveLength}
@@ -18,6 +18,7 @@ use Rattle.calls.specs.PublicCalls.Reading.{look, save, page, serveLength}
 pub data CallBehind : Type 0 where
   freshens : (plan : ℕ) (answer : Answer) → CallBehind
   steps : (number x y : ℕ) (answer : Answer) → CallBehind
+  checks : (answer : Answer) → CallBehind
   looks : (key : ℕ) (answer : Answer) → CallBehind
   saves : (before : List ℕ) (answer : Answer) (after : List ℕ) → CallBehind
   loads : (bytes : List ℕ) (answer : Answer) → CallBehind
@@ -28,6 +29,7 @@ pub data CallBehind : Type 0 where
 abbrev pub MeetsPromise : CallBehind → Store → Store → Type 0
 MeetsPromise (freshens plan r) finds leaves = FreshensBehind plan r leaves
 MeetsPromise (steps number x y r) finds leaves = StepsBehind finds number x y r leaves
+MeetsPromise (checks r) finds leaves = Checks finds r × (leaves ≡ finds)
 MeetsPromise (looks k r) finds leaves = Looks finds k r × (leaves ≡ finds)
 MeetsPromise (saves before r after) finds leaves = Saves finds before r after × (leaves ≡ finds)
 MeetsPromise (loads bytes r) finds leaves = LoadsBehind bytes r leaves
@@ -44,10 +46,11 @@ abbrev pub orFresh : Answer → Call → Call
 orFresh r c = cond (accepted r) c (fresh 1)
 
 -- The public call in the place of a call of the C interface: a step of three numbers is the run of one record, a refused fresh or load lays
--- down "a fresh store of plan 1", and every other call is itself.
+-- down "a fresh store of plan 1", the check alone is a look whose end is not told, and every other call is itself.
 unfoldable pub publicCall : CallBehind → Call
 publicCall (freshens plan r) = orFresh r (fresh plan)
 publicCall (steps number x y r) = run (stepRecord number x y ∷ []) 0
+publicCall (checks r) = reads (look 0)
 publicCall (looks k r) = reads (look k)
 publicCall (saves before r after) = reads (save before)
 publicCall (loads bytes r) = orFresh r (load bytes)

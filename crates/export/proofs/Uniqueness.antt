@@ -7,7 +7,7 @@ use Rattle.store.specs.declared.Answer.{Answer}
 use Rattle.store.specs.declared.Outcome.{Outcome}
 use Rattle.store.specs.declared.Store.{Store}
 use Rattle.page.specs.Promises.{ServesLength}
-use Rattle.export.specs.Promises.{Gives, FreshensBehind, StepsBehind, LoadsBehind}
+use Rattle.export.specs.Promises.{Gives, FreshensBehind, StepsBehind, LoadsBehind, Checks}
 
 gives-once : (o : Outcome) (r q : Answer) (after other : Store) → Gives o r after → Gives o q other → (r ≡ q) × (after ≡ other)
 gives-once o r q after other a b = (a .0 ∙ sym (b .0), a .1 ∙ sym (b .1))
@@ -27,3 +27,6 @@ load-behind-once bytes = gives-once _
 pub serve-length-once : (store : Store) (sample : ℕ) (kept : List ℕ) (r q : ℕ) → ServesLength store sample kept r
     → ServesLength store sample kept q → r ≡ q
 serve-length-once store sample kept r q a b = a ∙ sym b
+
+pub good-once : (store : Store) (r q : Answer) → Checks store r → Checks store q → r ≡ q
+good-once store r q a b = a ∙ sym b

@@ -21,13 +21,13 @@ pub extern "C" fn olipranj_layout() -> u32
     LAYOUT
 }
 
-// A fresh store of the plan, or PLAN and a fresh store of plan 1.
+// A fresh store of the plan, or PLAN and a fresh store of plan 1, over what stood there.
 #[no_mangle]
-pub extern "C" fn olipranj_fresh(store: &mut Store, plan: u32) -> Answer
-    ensures { λ r. ⌜ FreshensBehind plan r (now (store .exit)) ⌝ }
+pub extern "C" fn olipranj_fresh(into: &mut Store, plan: u32) -> Answer
+    ensures { λ r. ⌜ FreshensBehind plan r (now (into .exit)) ⌝ }
 {
     let outcome = Store::fresh(plan);
-    *store = outcome.store;
+    *into = outcome.store;
     outcome.answer
 }
 
@@ -129,22 +129,22 @@ pub extern "C" fn olipranj_save(store: &Store, buffer: &mut [u8]) -> Answer
     )
 }
 
-// The store of an image, or the first fault and a fresh store of plan 1.
+// The store of an image, or the first fault and a fresh store of plan 1, over what stood there.
 #[no_mangle]
-pub extern "C" fn olipranj_load(store: &mut Store, bytes: &[u8]) -> Answer
-    ensures { λ r. ⌜ LoadsBehind (now (bytes .entry)) r (now (store .exit)) ⌝ }
+pub extern "C" fn olipranj_load(into: &mut Store, bytes: &[u8]) -> Answer
+    ensures { λ r. ⌜ LoadsBehind (now (bytes .entry)) r (now (into .exit)) ⌝ }
 {
     let loaded = image::load_lent(
         bytes,
-        &mut store.counts,
-        &mut store.keys,
-        &mut store.kinds,
-        &mut store.values,
-        &mut store.stamps,
+        &mut into.counts,
+        &mut into.keys,
+        &mut into.kinds,
+        &mut into.values,
+        &mut into.stamps,
     );
-    store.plan = loaded.plan;
-    store.clock = loaded.clock;
-    store.slots = loaded.slots;
+    into.plan = loaded.plan;
+    into.clock = loaded.clock;
+    into.slots = loaded.slots;
     loaded.answer
 }
 
