@@ -1,7 +1,7 @@
 -- What stands behind the pointer after a sequence of calls of the C interface is what the public calls in their places leave: by the promises
 -- of crate `export` alone. Assumes nothing.
 use mathlib.Core.Path.{_≡_, refl, sym, ap, _∙_}
-use mathlib.Core.Bool.{true, false}
+use mathlib.Core.Bool.{true, false, cond}
 use mathlib.Core.Logic.{_⊎_, inl, inr}
 use mathlib.Core.List.{List, [], _∷_, map}
 use Prim.Native.Nat.{ℕ}
@@ -21,8 +21,8 @@ use Rattle.schedule.specs.Running.{runOutcome}
 use Rattle.export.specs.Promises.{Gives}
 use Rattle.calls.specs.PublicCalls.{Call, accepted, replaced, storeAfter, storeAfterAll}
 use Rattle.calls.specs.PublicCalls.Call.{fresh, load}
-use Rattle.behind.specs.Behind.{CallBehind, MeetsPromise, AllMeet, orFresh, publicCall}
-use Rattle.behind.specs.Behind.CallBehind.{freshens, steps, checks, looks, saves, loads, pages, serves}
+use Rattle.behind.specs.Behind.{CallBehind, ByASpare, MeetsPromise, AllMeet, orFresh, publicCall}
+use Rattle.behind.specs.Behind.CallBehind.{freshens, freshensLive, steps, checks, looks, saves, loads, loadsLive, pages, serves}
 
 -- A refused fresh or load gives a fresh store of plan 1,
 fresh-refused : (plan : ℕ) → accepted (freshOutcome plan .answer) ≡ false → freshOutcome plan .store ≡ freshStore 1
@@ -61,6 +61,12 @@ taken-or-fresh o c gives refused r z leaves given = go (bool? (accepted r))
     go (inl t) = rw t (given .1 ∙ sym (gives z ∙ rw (sym same ∙ t)))
     go (inr f) = rw f (given .1 ∙ refused (sym same ∙ f) ∙ sym (fresh-one z))
 
+-- By a spare store the live one is replaced as "the store before it goes on" says.
+by-a-spare : (o : Outcome) (r : Answer) (z leaves : Store) → ByASpare (Gives o) r z leaves → leaves ≡ replaced o z
+by-a-spare o r z leaves does =
+    does .2 ∙ ap (λ (a : Answer). cond (accepted a) (does .0) z) (does .1 .0)
+    ∙ ap (λ (s : Store). cond (accepted (o .answer)) s z) (does .1 .1)
+
 -- After every call the store behind the pointer is what the call in its place leaves,
 pub call-behind : (c : CallBehind) (z leaves : Store) → MeetsPromise c z leaves → leaves ≡ storeAfter (publicCall c) z
 unfolding publicCall storeAfter runOutcome
@@ -68,6 +74,8 @@ call-behind (freshens plan r) z leaves does =
     taken-or-fresh (freshOutcome plan) (fresh plan) (λ y. refl) (fresh-refused plan) r z leaves does
 call-behind (loads bytes r) z leaves does =
     taken-or-fresh (loadOutcome bytes) (load bytes) (λ y. refl) (load-refused bytes) r z leaves does
+call-behind (freshensLive plan r) z leaves does = by-a-spare (freshOutcome plan) r z leaves does
+call-behind (loadsLive bytes r) z leaves does = by-a-spare (loadOutcome bytes) r z leaves does
 call-behind (steps number x y r) z leaves does = does .1
 call-behind (checks r) z leaves does = does .1
 call-behind (looks k r) z leaves does = does .1

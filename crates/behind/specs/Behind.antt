@@ -14,25 +14,34 @@ use Rattle.calls.specs.PublicCalls.{Call, accepted}
 use Rattle.calls.specs.PublicCalls.Call.{fresh, load, reads, run}
 use Rattle.calls.specs.PublicCalls.Reading.{look, save, page, serveLength}
 
--- The calls of the C interface, each with its arguments and its answer (a serve's is a length); of a lent buffer the bytes at entry and at exit.
+-- The calls of the C interface, each with its arguments and its answer (a serve's is a length); of a lent buffer the bytes at entry and at exit. A
+-- fresh or load is made either at the pointer itself, or for the live store there by a spare one.
 pub data CallBehind : Type 0 where
   freshens : (plan : ℕ) (answer : Answer) → CallBehind
+  freshensLive : (plan : ℕ) (answer : Answer) → CallBehind
   steps : (number x y : ℕ) (answer : Answer) → CallBehind
   checks : (answer : Answer) → CallBehind
   looks : (key : ℕ) (answer : Answer) → CallBehind
   saves : (before : List ℕ) (answer : Answer) (after : List ℕ) → CallBehind
   loads : (bytes : List ℕ) (answer : Answer) → CallBehind
+  loadsLive : (bytes : List ℕ) (answer : Answer) → CallBehind
   pages : (sample : ℕ) (before : List ℕ) (answer : Answer) (after : List ℕ) → CallBehind
   serves : (sample : ℕ) (kept : List ℕ) (length : ℕ) → CallBehind
+
+-- A call that lays its store down at a spare pointer: if it is accepted the live store is then a copy of that one, and else it goes on.
+abbrev pub ByASpare : (Answer → Store → Type 0) → Answer → Store → Store → Type 0
+ByASpare Promise r finds leaves = (spare : Store) × Promise r spare × (leaves ≡ cond (accepted r) spare finds)
 
 -- A call meets its promise: it finds a store behind the pointer and leaves one there. A store that is lent to be read is left as it was.
 abbrev pub MeetsPromise : CallBehind → Store → Store → Type 0
 MeetsPromise (freshens plan r) finds leaves = FreshensBehind plan r leaves
+MeetsPromise (freshensLive plan r) finds leaves = ByASpare (FreshensBehind plan) r finds leaves
 MeetsPromise (steps number x y r) finds leaves = StepsBehind finds number x y r leaves
 MeetsPromise (checks r) finds leaves = Checks finds r × (leaves ≡ finds)
 MeetsPromise (looks k r) finds leaves = Looks finds k r × (leaves ≡ finds)
 MeetsPromise (saves before r after) finds leaves = Saves finds before r after × (leaves ≡ finds)
 MeetsPromise (loads bytes r) finds leaves = LoadsBehind bytes r leaves
+MeetsPromise (loadsLive bytes r) finds leaves = ByASpare (LoadsBehind bytes) r finds leaves
 MeetsPromise (pages sample before r after) finds leaves = Pages finds sample before r after × (leaves ≡ finds)
 MeetsPromise (serves sample kept n) finds leaves = ServesLength finds sample kept n × (leaves ≡ finds)
 
@@ -45,14 +54,16 @@ AllMeet (c ∷ cs) finds leaves = (next : Store) × MeetsPromise c finds next ×
 abbrev pub orFresh : Answer → Call → Call
 orFresh r c = cond (accepted r) c (fresh 1)
 
--- The public call in the place of a call of the C interface: a step of three numbers is the run of one record, a refused fresh or load lays
--- down "a fresh store of plan 1", the check alone is a look whose end is not told, and every other call is itself.
+-- The public call in the place of a call of the C interface: a step of three numbers is the run of one record, a refused fresh or load at the
+-- pointer itself lays down "a fresh store of plan 1", the check alone is a look whose end is not told, and every other call is itself.
 unfoldable pub publicCall : CallBehind → Call
 publicCall (freshens plan r) = orFresh r (fresh plan)
+publicCall (freshensLive plan r) = fresh plan
 publicCall (steps number x y r) = run (stepRecord number x y ∷ []) 0
 publicCall (checks r) = reads (look 0)
 publicCall (looks k r) = reads (look k)
 publicCall (saves before r after) = reads (save before)
 publicCall (loads bytes r) = orFresh r (load bytes)
+publicCall (loadsLive bytes r) = load bytes
 publicCall (pages sample before r after) = reads (page sample before)
 publicCall (serves sample kept n) = reads (serveLength sample kept)
