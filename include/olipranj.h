@@ -59,8 +59,8 @@ enum { OLIPRANJ_LAST_PLAN = 3, OLIPRANJ_LAST_ANALYTE = 31, OLIPRANJ_LAST_SAMPLE 
 
 /* The longest page and the longest image, in bytes. A number of 32 bits is at most 5 bytes long. A page: 4 for the sample, 1 for the line
    count, and 11 for each of 32 lines (analyte 1, value 5, stamp 5). An image: 1 for the format, 1 for the plan, 5 for the clock, 1 for each node's
-   count (at most 64), and 16 for each copy (key 5, kind 1, value 5, stamp 5). The longest is of plan 1, 4 nodes and 120 copies. That a page is at
-   most so long is proved; of the image it is this sum. Each is reached. */
+   count (at most 64), and 16 for each copy (key 5, kind 1, value 5, stamp 5). The longest is of plan 1, 4 nodes and 120 copies. That none is
+   longer and that each is reached is proved. */
 enum {
     OLIPRANJ_LONGEST_PAGE = 4 + 1 + 11 * (OLIPRANJ_LAST_ANALYTE + 1),
     OLIPRANJ_LONGEST_IMAGE = 1 + 1 + 5 + 4 * 1 + 16 * OLIPRANJ_MOST_COPIES

@@ -4,4 +4,5 @@ pub mod Columns
 pub mod Lending
 pub mod AtOnce
 pub mod LongestImage
+pub mod LongestReached
 pub mod Uniqueness
