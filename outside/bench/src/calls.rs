@@ -124,11 +124,7 @@ fn rows(plan: u32, store: &model::Store) -> Vec<Row> {
 
 /// The check of all store rules alone.
 fn print_check(plan: u32, stores: &[model::Store; 3]) {
-    extern "C" {
-        fn olipranj_good(store: *const olipranj::Raw) -> olipranj::Answer;
-    }
-    // The pointer is to a store that lives through the call, and the function only reads it.
-    let good = |store: &olipranj::Store| unsafe { olipranj_good(store.raw()) }.number == olipranj::Number::Done as u32;
+    let good = |store: &olipranj::Store| store.raw().good().is_done();
     let cells = stores.each_ref().map(|store| {
         assert!(good(&raw(store)) && model::good(store));
         let (ours, plain) = both(
