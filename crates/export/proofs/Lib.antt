@@ -5,4 +5,5 @@ pub mod Lending
 pub mod AtOnce
 pub mod LongestImage
 pub mod LongestReached
+pub mod GoodExactly
 pub mod Uniqueness
