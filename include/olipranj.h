@@ -16,9 +16,9 @@
    that alters a store excludes all other calls on it; the caller keeps them apart. Calls on different stores may always overlap: the library
    keeps nothing between calls, and no place of its own.
 
-   Processors: the archive is for x86-64, with the calls of Linux (System V). For another processor outside/library compiles the same module;
-   there it is not the archive that is tested by outside/c and outside/replay. Numbers lie in a store as the processor has them; an image and a
-   page have bytes that are the same everywhere. */
+   Processors: the archive is for x86-64, with the calls of Linux (System V). For another processor outside/library compiles the same module
+   anew, which is compared there (outside/compare) but is not the archive itself. Numbers lie in a store as the processor has them, so a store is
+   no file for another one; an image and a page have the same bytes everywhere. */
 #ifndef OLIPRANJ_H
 #define OLIPRANJ_H
 
@@ -111,8 +111,8 @@ enum {
     OLIPRANJ_MANY = 19     /* bytes are left after 256 steps of a schedule; no call here gives it */
 };
 
-/* What a look, or a search that ended, found: the answer's `a`. */
-enum { OLIPRANJ_NEVER_ENTERED = 0, OLIPRANJ_WITHDRAWN = 1, OLIPRANJ_RESULT = 2 };
+/* What a look, or a search that ended, found: the answer's `a`, and not a copy's kind, which is one less. */
+enum { OLIPRANJ_LOOK_NEVER = 0, OLIPRANJ_LOOK_WITHDRAWN = 1, OLIPRANJ_LOOK_RESULT = 2 };
 
 /* The step numbers. */
 enum {
@@ -138,7 +138,7 @@ OLIPRANJ_MUST_USE olipranj_answer olipranj_step(olipranj_store *store, uint32_t 
 /* The check of all store rules alone: DONE or BADSTORE. Every other call on a store makes it too. */
 OLIPRANJ_MUST_USE olipranj_answer olipranj_good(const olipranj_store *store);
 
-/* Looks for a key, a whole search at once: DONE, a what was found (NEVER_ENTERED, WITHDRAWN, RESULT), b the value, c the stamp, d the nodes
+/* Looks for a key, a whole search at once: DONE, a what was found (LOOK_NEVER, LOOK_WITHDRAWN, LOOK_RESULT), b the value, c the stamp, d the nodes
    visited; BADSTORE. */
 OLIPRANJ_MUST_USE olipranj_answer olipranj_look(const olipranj_store *store, uint32_t key);
 

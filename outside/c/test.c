@@ -225,12 +225,12 @@ static void by_name(void)
     answers("step", olipranj_step_search(&store, 0), OLIPRANJ_GOING, 1, 1, 0, 0);
     answers("enter again", olipranj_enter(&store, key, 210), OLIPRANJ_DONE, 2, 0, 0, 0);
     answers("carry again", olipranj_carry(&store, 0, 0), OLIPRANJ_DONE, 1, 1, 0, 0);
-    answers("step again", olipranj_step_search(&store, 0), OLIPRANJ_DONE, OLIPRANJ_RESULT, 210, 2, 2);
+    answers("step again", olipranj_step_search(&store, 0), OLIPRANJ_DONE, OLIPRANJ_LOOK_RESULT, 210, 2, 2);
     answers("cancel", olipranj_cancel(&store, 1), OLIPRANJ_DONE, 0, 0, 0, 0);
     answers("cancel again", olipranj_cancel(&store, 1), OLIPRANJ_IDLE, 0, 0, 0, 0);
     bytes("the store by names", &store, &wanted, sizeof store);
     answers("withdraw", olipranj_withdraw(&store, key), OLIPRANJ_DONE, 3, 0, 0, 0);
-    answers("look for it", olipranj_look(&store, key), OLIPRANJ_DONE, OLIPRANJ_WITHDRAWN, 0, 3, 1);
+    answers("look for it", olipranj_look(&store, key), OLIPRANJ_DONE, OLIPRANJ_LOOK_WITHDRAWN, 0, 3, 1);
 }
 
 /* The layout number, names, keys, no bytes. */
