@@ -5,7 +5,7 @@
 #include <string.h>
 #include "olipranj.h"
 
-enum { FRESH, STEP, LOOK, SAVE, LOAD, PAGE, SERVE, PUT };
+enum { FRESH, STEP, LOOK, SAVE, LOAD, PAGE, SERVE, PUT, GOOD };
 enum { GUARD = 16, WORDS = sizeof(olipranj_store) / sizeof(uint32_t) };
 
 static FILE *file;
@@ -53,6 +53,8 @@ static olipranj_answer call(uint32_t code, const uint32_t *x, uint8_t *buffer, s
     case SERVE:
         shown.a = olipranj_serve(&store, x[0], buffer, length);
         return shown;
+    case GOOD:
+        return olipranj_good(&store);
     }
     fail("no such call", code);
     return shown;

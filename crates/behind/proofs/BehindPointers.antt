@@ -1,7 +1,7 @@
 -- What stands behind the pointer after a sequence of calls of the C interface is what the public calls in their places leave: by the promises
 -- of crate `export` alone.
 use mathlib.Core.Path.{_≡_, refl, sym, ap, _∙_}
-use mathlib.Core.Bool.{true, false}
+use mathlib.Core.Bool.{true, false, cond}
 use mathlib.Core.Logic.{_⊎_, inl, inr}
 use mathlib.Core.List.{List, [], _∷_, map}
 use Prim.Native.Nat.{ℕ}
@@ -24,8 +24,8 @@ use Rattle.calls.specs.PublicCalls.{Call, accepted, replaced, storeAfter, retur
 use Rattle.calls.specs.PublicCalls.Call.{fresh, load}
 use Rattle.calls.specs.PublicCalls.Returned.{gave, answered, wrote, counted}
 use Rattle.calls.proofs.Allowing.{both}
-use Rattle.behind.specs.Behind.{CallBehind, MeetsPromise, AllMeet, orFresh, publicCall, itself, returnedBehind}
-use Rattle.behind.specs.Behind.CallBehind.{freshens, steps, looks, saves, loads, pages, serves}
+use Rattle.behind.specs.Behind.{CallBehind, ByASpare, MeetsPromise, AllMeet, orFresh, publicCall, GaveBehind, ReturnsAs}
+use Rattle.behind.specs.Behind.CallBehind.{freshens, freshensLive, steps, checks, looks, saves, loads, loadsLive, pages, serves}
 
 -- A refused fresh or load gives a fresh store of plan 1,
 fresh-refused : (plan : ℕ) → accepted (freshOutcome plan .answer) ≡ false → freshOutcome plan .store ≡ freshStore 1
@@ -70,6 +70,12 @@ parts o r leaves given =
     ap (λ (a : Answer). gave (record { answer = a; store = leaves })) (given .0)
     ∙ ap (λ (y : Store). gave (record { answer = o .answer; store = y })) (given .1)
 
+-- By a spare store the live one is replaced as "the store before it goes on" says.
+by-a-spare : (o : Outcome) (r : Answer) (z leaves : Store) → ByASpare (Gives o) r z leaves → leaves ≡ replaced o z
+by-a-spare o r z leaves does =
+    does .2 ∙ ap (λ (a : Answer). cond (accepted a) (does .0) z) (does .1 .0)
+    ∙ ap (λ (s : Store). cond (accepted (o .answer)) s z) (does .1 .1)
+
 -- After every call the store behind the pointer is what the call in its place leaves,
 pub call-behind : (c : CallBehind) (z leaves : Store) → MeetsPromise c z leaves → leaves ≡ storeAfter (publicCall c) z
 unfolding publicCall storeAfter runOutcome
@@ -77,7 +83,10 @@ call-behind (freshens plan r) z leaves does =
     taken-or-fresh (freshOutcome plan) (fresh plan) (λ y. refl) (fresh-refused plan) r z leaves does
 call-behind (loads bytes r) z leaves does =
     taken-or-fresh (loadOutcome bytes) (load bytes) (λ y. refl) (load-refused bytes) r z leaves does
+call-behind (freshensLive plan r) z leaves does = by-a-spare (freshOutcome plan) r z leaves does
+call-behind (loadsLive bytes r) z leaves does = by-a-spare (loadOutcome bytes) r z leaves does
 call-behind (steps number x y r) z leaves does = does .1
+call-behind (checks r) z leaves does = does .1
 call-behind (looks k r) z leaves does = does .1
 call-behind (saves before r after) z leaves does = does .1
 call-behind (pages sample before r after) z leaves does = does .1
@@ -90,12 +99,15 @@ calls-behind [] z leaves all = all
 calls-behind (c ∷ cs) z leaves all =
     calls-behind cs (all .0) leaves (all .2) ∙ ap (storeAfterAll (map publicCall cs)) (call-behind c z (all .0) (all .1))
 
--- What each call gives is what the public call gives on the store that it found, refused or not.
-pub call-returns : (c : CallBehind) (z leaves : Store) → MeetsPromise c z leaves → returnedBehind c leaves ≡ returned (itself c) z
-unfolding returned itself runOutcome
+-- What each call gives is what the public call itself returns on the store that it found, refused or not.
+pub call-returns : (c : CallBehind) (z leaves : Store) → MeetsPromise c z leaves → ReturnsAs c z leaves
+unfolding returned runOutcome
 call-returns (freshens plan r) z leaves does = parts (freshOutcome plan) r leaves does
+call-returns (freshensLive plan r) z leaves does = (does .0, parts (freshOutcome plan) r (does .0) (does .1))
 call-returns (loads bytes r) z leaves does = parts (loadOutcome bytes) r leaves does
+call-returns (loadsLive bytes r) z leaves does = (does .0, parts (loadOutcome bytes) r (does .0) (does .1))
 call-returns (steps number x y r) z leaves does = parts (recordOutcome z (stepRecord number x y) 0) r leaves does
+call-returns (checks r) z leaves does = ap answered (does .0)
 call-returns (looks k r) z leaves does = ap answered (does .0)
 call-returns (saves before r after) z leaves does = ap wrote (both (does .0))
 call-returns (pages sample before r after) z leaves does = ap wrote (both (does .0))

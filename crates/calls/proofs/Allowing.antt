@@ -24,6 +24,7 @@ use Rattle.calls.specs.Allowed.Allowed.{
   steps,
   cancels,
   runs,
+  checks,
   looks,
   saves,
   pages,
@@ -55,6 +56,7 @@ allowed-is z c r (starts key o e) = ap gave e
 allowed-is z c r (steps slot o e) = ap gave e
 allowed-is z c r (cancels slot o e) = ap gave e
 allowed-is z c r (runs list place o e) = ap gave e
+allowed-is z c r (checks a e) = ap answered e
 allowed-is z c r (looks key a e) = ap answered e
 allowed-is z c r (saves before a after e) = ap wrote (both e)
 allowed-is z c r (pages sample before a after e) = ap wrote (both e)

@@ -6,7 +6,7 @@ use Rattle.store.specs.declared.Answer.{Answer}
 use Rattle.store.specs.declared.Outcome.{Outcome}
 use Rattle.store.specs.declared.Store.{Store}
 use Rattle.store.specs.Copies.Kind.{withdrawn, result}
-use Rattle.store.specs.Promises.{Freshens}
+use Rattle.store.specs.Promises.{Freshens, Checks}
 use Rattle.steps.specs.Promises.{Enters, Withdraws, Carries, Starts, Steps, Cancels, Looks}
 use Rattle.image.specs.Promises.{Saves, Loads}
 use Rattle.page.specs.Promises.{Pages, Serves, ServesLength}
@@ -14,7 +14,7 @@ use Rattle.schedule.specs.declared.Step.{Step}
 use Rattle.schedule.specs.Promises.{Decodes, Runs}
 use Rattle.calls.specs.PublicCalls.{Call, Returned, storeAfter}
 use Rattle.calls.specs.PublicCalls.Call.{fresh, load, enter, carry, start, step, cancel, reads, run}
-use Rattle.calls.specs.PublicCalls.ReadOnly.{look, save, page, serve, serveLength, decode}
+use Rattle.calls.specs.PublicCalls.ReadOnly.{check, look, save, page, serve, serveLength, decode}
 use Rattle.calls.specs.PublicCalls.Returned.{gave, answered, wrote, listed, handedBack, counted}
 
 -- A call on a store returns what its own promise allows.
@@ -28,6 +28,7 @@ pub data Allowed (z : Store) : Call → Returned → Type 0 where
   steps : (slot : ℕ) (o : Outcome) → Steps z slot o → Allowed z (step slot) (gave o)
   cancels : (slot : ℕ) (o : Outcome) → Cancels z slot o → Allowed z (cancel slot) (gave o)
   runs : (list : List Step) (place : ℕ) (o : Outcome) → Runs z list place o → Allowed z (run list place) (gave o)
+  checks : (a : Answer) → Checks z a → Allowed z (reads check) (answered a)
   looks : (key : ℕ) (a : Answer) → Looks z key a → Allowed z (reads (look key)) (answered a)
   saves : (before : List ℕ) (a : Answer) (after : List ℕ) → Saves z before a after → Allowed z (reads (save before)) (wrote (a, after))
   pages : (sample : ℕ) (before : List ℕ) (a : Answer) (after : List ℕ) → Pages z sample before a after

@@ -12,7 +12,7 @@ use Rattle.store.specs.declared.Outcome.{Outcome}
 use Rattle.store.specs.declared.Store.{Store}
 use Rattle.store.specs.Answers.{DONE}
 use Rattle.store.specs.Copies.{Kind}
-use Rattle.store.specs.Promises.{freshOutcome}
+use Rattle.store.specs.Promises.{freshOutcome, checkOutcome}
 use Rattle.steps.specs.Promises.{entryOutcome, carryOutcome, startOutcome, stepOutcome, cancelOutcome, lookOutcome}
 use Rattle.image_loading.specs.Loading.{loadOutcome}
 use Rattle.image.specs.Promises.{saveOutcome}
@@ -23,6 +23,7 @@ use Rattle.schedule.specs.Promises.{decodeOutcome}
 
 -- The public calls that leave the store alone, with their arguments; of a lent buffer or list what it holds at entry.
 pub data ReadOnly : Type 0 where
+  check : ReadOnly
   look : (key : ℕ) → ReadOnly
   save : (buffer : List ℕ) → ReadOnly
   page : (sample : ℕ) (buffer : List ℕ) → ReadOnly
@@ -74,6 +75,7 @@ pub data Returned : Type 0 where
 
 -- What a call returns that leaves the store alone.
 abbrev pub readReturned : ReadOnly → Store → Returned
+readReturned check z = answered (checkOutcome z)
 readReturned (look key) z = answered (lookOutcome z key)
 readReturned (save buffer) z = wrote (saveOutcome z buffer)
 readReturned (page sample buffer) z = wrote (pageOutcome z sample buffer)

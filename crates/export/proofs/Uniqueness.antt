@@ -6,6 +6,7 @@ use Prim.Native.Nat.{ℕ}
 use Rattle.store.specs.declared.Answer.{Answer}
 use Rattle.store.specs.declared.Outcome.{Outcome}
 use Rattle.store.specs.declared.Store.{Store}
+use Rattle.store.specs.Promises.{Checks}
 use Rattle.page.specs.Promises.{ServesLength}
 use Rattle.export.specs.Promises.{Gives, FreshensBehind, StepsBehind, LoadsBehind}
 
@@ -27,3 +28,6 @@ load-behind-once bytes = gives-once _
 pub serve-length-once : (store : Store) (sample : ℕ) (kept : List ℕ) (r q : ℕ) → ServesLength store sample kept r
     → ServesLength store sample kept q → r ≡ q
 serve-length-once store sample kept r q a b = a ∙ sym b
+
+pub good-once : (store : Store) (r q : Answer) → Checks store r → Checks store q → r ≡ q
+good-once store r q a b = a ∙ sym b

@@ -1,5 +1,5 @@
 -- The promises of the calls that write the store behind a pointer: each fixes the answer and the store at exit. Of the others the promises
--- are those of the calls themselves: Looks, Saves, Pages and ServesLength.
+-- are those of the calls themselves: Checks, Looks, Saves, Pages and ServesLength.
 use mathlib.Core.Path.{_≡_}
 use mathlib.Core.List.{List}
 use Prim.Native.Nat.{ℕ}
@@ -10,6 +10,10 @@ use Rattle.store.specs.Promises.{freshOutcome}
 use Rattle.image_loading.specs.Loading.{loadOutcome}
 use Rattle.schedule.specs.Schedule.{stepRecord}
 use Rattle.schedule.specs.Running.{recordOutcome}
+
+-- The number of the layout in which a store and an answer lie for C: one more with each change of a field.
+abbrev pub layoutNumber : ℕ
+layoutNumber = 1
 
 -- An outcome in two parts: its answer is returned, its store stands behind the pointer.
 abbrev pub Gives : Outcome → Answer → Store → Type 0

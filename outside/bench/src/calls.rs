@@ -122,14 +122,9 @@ fn rows(plan: u32, store: &model::Store) -> Vec<Row> {
     rows
 }
 
-/// The check of all store rules alone. The archive for x86-64 has no such function, see `outside/library`.
-#[cfg(not(target_arch = "x86_64"))]
+/// The check of all store rules alone.
 fn print_check(plan: u32, stores: &[model::Store; 3]) {
-    extern "C" {
-        fn olipranj_good_here(store: *const olipranj::Raw) -> bool;
-    }
-    // The pointer is to a store that lives through the call, and the function only reads it.
-    let good = |store: &olipranj::Store| unsafe { olipranj_good_here(store.raw()) };
+    let good = |store: &olipranj::Store| store.raw().good().is_done();
     let cells = stores.each_ref().map(|store| {
         assert!(good(&raw(store)) && model::good(store));
         let (ours, plain) = both(
@@ -139,11 +134,6 @@ fn print_check(plan: u32, stores: &[model::Store; 3]) {
         format!("{ours:.0} / {plain:.0} = {:.1}", ours / plain)
     });
     println!("| {plan} | the check alone | {} |", cells.join(" | "));
-}
-
-#[cfg(target_arch = "x86_64")]
-fn print_check(plan: u32, _: &[model::Store; 3]) {
-    println!("| {plan} | the check alone, not in the archive for x86-64 | | | |");
 }
 
 /// One line for each call on the plan's three stores.

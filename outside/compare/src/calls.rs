@@ -10,6 +10,7 @@ const GUARD: usize = 16;
 pub enum Call {
     Fresh(u32),
     Step(u32, u32, u32),
+    Good,
     Look(u32),
     Save(Vec<u8>),
     Load(Vec<u8>),
@@ -114,6 +115,7 @@ impl Pair {
                 let record = model::Step { number: *number, x: *x, y: *y };
                 lend(&[], |_| to_answer(model::run(store, &[record], 0)))
             }
+            Call::Good => lend(&[], |_| to_answer(checked(store))),
             Call::Look(key) => lend(&[], |_| to_answer(model::look(store, *key))),
             Call::Save(bytes) => lend(bytes, |buffer| to_answer(model::save(store, buffer))),
             Call::Load(bytes) => lend(bytes, |image| to_answer(model::load(store, image))),
@@ -127,6 +129,7 @@ impl Pair {
         match call {
             Call::Fresh(plan) => lend(&[], |_| store.fresh_over(*plan)),
             Call::Step(number, x, y) => lend(&[], |_| by_name(store, *number, *x, *y)),
+            Call::Good => lend(&[], |_| store.raw().good()),
             Call::Look(key) => lend(&[], |_| store.look(*key)),
             Call::Save(bytes) => lend(bytes, |buffer| store.save(buffer)),
             Call::Load(bytes) => lend(bytes, |image| store.load_over(image)),
@@ -175,6 +178,11 @@ impl Pair {
         what += &format!("  store before: {}", crate::stores::describe(before));
         Difference::new(what)
     }
+}
+
+/// The check alone, as the model answers it.
+fn checked(store: &model::Store) -> model::Answer {
+    model::Answer::bare(if model::good(store) { model::Number::Done } else { model::Number::BadStore })
 }
 
 /// The wrapper's call for a step's number.

@@ -1,9 +1,9 @@
 //! Calls and their results written to a file, for `replay.c` to make and check once more.
 //!
 //! The file is a run of little-endian 32-bit words and bytes. A call: its code (0 fresh, 1 step, 2 look, 3 save,
-//! 4 load, 5 page, 6 serve, 7 lay down a store), three numbers, the buffer's length, its bytes before and after, the
-//! answer (number, then a to d as two words each, the lower first), and the store after: how many words changed, and
-//! for each its place and its new value.
+//! 4 load, 5 page, 6 serve, 7 lay down a store, 8 good), three numbers, the buffer's length, its bytes before and
+//! after, the answer (number, then a to d as two words each, the lower first), and the store after: how many words
+//! changed, and for each its place and its new value.
 
 use std::fs::File;
 use std::io::{BufWriter, Write};
@@ -36,6 +36,7 @@ impl Record {
         let (head, before) = match call {
             Call::Fresh(plan) => ([0, *plan, 0, 0], &empty),
             Call::Step(number, x, y) => ([1, *number, *x, *y], &empty),
+            Call::Good => ([8, 0, 0, 0], &empty),
             Call::Look(key) => ([2, *key, 0, 0], &empty),
             Call::Save(bytes) => ([3, 0, 0, 0], bytes),
             Call::Load(bytes) => ([4, 0, 0, 0], bytes),

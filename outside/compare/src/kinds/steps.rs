@@ -22,7 +22,8 @@ fn call(random: &mut Random, keys: &[u32], carries: usize) -> Call {
         0 => Call::Fresh(if random.once_in(2) { no_plan(random) } else { a_plan(random) }),
         1 => Call::Page(sample(random, keys), buffer(random, 60)),
         2 => Call::Save(buffer(random, 300)),
-        3..10 => Call::Look(key(random, keys)),
+        3 => Call::Good,
+        4..10 => Call::Look(key(random, keys)),
         _ => step(random, keys, carries),
     }
 }

@@ -78,6 +78,7 @@ fn calls(random: &mut Random, keys: &[u32]) -> Vec<Call> {
         Call::Step(5, random.small(10), 0),
         Call::Step(6, random.small(10), 0),
         Call::Step(random.pick(&[0, 7, u32::MAX]), key, 0),
+        Call::Good,
         Call::Look(key),
         Call::Save(random.bytes(2000)),
         Call::Save(Vec::new()),
