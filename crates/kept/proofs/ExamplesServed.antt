@@ -48,7 +48,7 @@ use Rattle.trips.proofs.RoundTrips.{fresh-idle}
 use Rattle.page_lines.specs.PageLine.{pageLinesFrom}
 use Rattle.page.specs.PageBytes.{pageLineBytes, pageLinesBytes, pageBytes, begins}
 use Rattle.page.specs.Promises.{stillTrue, servedLength}
-use Rattle.calls.specs.PublicCalls.{Call, storeAfter, storeAfterAll}
+use Rattle.calls.specs.PublicCalls.{Call, storeAfter, answerTo, storeAfterAll}
 use Rattle.calls.specs.Following.{eventOf, onEvent}
 use Rattle.calls.specs.DeclaredNumbers.{DeclaredCall, DeclaredCalls}
 use Rattle.calls.proofs.Follows.{acts-as, entry-acts, calls-keep-good}
@@ -105,10 +105,10 @@ shown = refl
 
 done-once-more : EntryDone (entering 180) z result lineKey 180
 unfolding opened eventOf onEvent effect
-done-once-more = (
-  refl,
-  (onEvent (enters result lineKey 180) z .answer, acts-as (entering 180) (enters result lineKey 180) refl (entry-acts result lineKey 180) .answers z, refl),
-)
+done-once-more = (refl, (onEvent (enters result lineKey 180) z .answer, says, refl))
+  where
+    says : answerTo (entering 180) z ≡ some (onEvent (enters result lineKey 180) z .answer)
+    says = acts-as (entering 180) (enters result lineKey 180) refl (entry-acts result lineKey 180) .answers z
 
 -- So whatever is called after it, the page of 180 is never served again.
 pub same-value-never-again : (later : List Call) → DeclaredCalls (entering 180 ∷ later)
