@@ -17,11 +17,14 @@ use Rattle.store.specs.StoreRules.{planNumberTest}
 use Rattle.store.specs.Promises.{freshOutcome}
 use Rattle.image_loading.specs.Loading.{loadOutcome}
 use Rattle.image_loading.proofs.LoadWays.{LoadWay, stops, trails, breaks, accepts, load-way}
-use Rattle.schedule.specs.Running.{runOutcome}
+use Rattle.schedule.specs.Schedule.{stepRecord}
+use Rattle.schedule.specs.Running.{recordOutcome, runOutcome}
 use Rattle.export.specs.Promises.{Gives}
-use Rattle.calls.specs.PublicCalls.{Call, accepted, replaced, storeAfter, storeAfterAll}
+use Rattle.calls.specs.PublicCalls.{Call, accepted, replaced, storeAfter, returned, storeAfterAll}
 use Rattle.calls.specs.PublicCalls.Call.{fresh, load}
-use Rattle.behind.specs.Behind.{CallBehind, MeetsPromise, AllMeet, orFresh, publicCall}
+use Rattle.calls.specs.PublicCalls.Returned.{gave, answered, wrote, counted}
+use Rattle.calls.proofs.Allowing.{both}
+use Rattle.behind.specs.Behind.{CallBehind, MeetsPromise, AllMeet, orFresh, publicCall, itself, returnedBehind}
 use Rattle.behind.specs.Behind.CallBehind.{freshens, steps, looks, saves, loads, pages, serves}
 
 -- A refused fresh or load gives a fresh store of plan 1,
@@ -61,6 +64,12 @@ taken-or-fresh o c gives refused r z leaves given = go (bool? (accepted r))
     go (inl t) = rw t (given .1 ∙ sym (gives z ∙ rw (sym same ∙ t)))
     go (inr f) = rw f (given .1 ∙ refused (sym same ∙ f) ∙ sym (fresh-one z))
 
+-- Such an outcome is put together again.
+parts : (o : Outcome) (r : Answer) (leaves : Store) → Gives o r leaves → gave (record { answer = r; store = leaves }) ≡ gave o
+parts o r leaves given =
+    ap (λ (a : Answer). gave (record { answer = a; store = leaves })) (given .0)
+    ∙ ap (λ (y : Store). gave (record { answer = o .answer; store = y })) (given .1)
+
 -- After every call the store behind the pointer is what the call in its place leaves,
 pub call-behind : (c : CallBehind) (z leaves : Store) → MeetsPromise c z leaves → leaves ≡ storeAfter (publicCall c) z
 unfolding publicCall storeAfter runOutcome
@@ -80,3 +89,14 @@ unfolding storeAfterAll
 calls-behind [] z leaves all = all
 calls-behind (c ∷ cs) z leaves all =
     calls-behind cs (all .0) leaves (all .2) ∙ ap (storeAfterAll (map publicCall cs)) (call-behind c z (all .0) (all .1))
+
+-- What each call gives is what the public call gives on the store that it found, refused or not.
+pub call-returns : (c : CallBehind) (z leaves : Store) → MeetsPromise c z leaves → returnedBehind c leaves ≡ returned (itself c) z
+unfolding returned itself runOutcome
+call-returns (freshens plan r) z leaves does = parts (freshOutcome plan) r leaves does
+call-returns (loads bytes r) z leaves does = parts (loadOutcome bytes) r leaves does
+call-returns (steps number x y r) z leaves does = parts (recordOutcome z (stepRecord number x y) 0) r leaves does
+call-returns (looks k r) z leaves does = ap answered (does .0)
+call-returns (saves before r after) z leaves does = ap wrote (both (does .0))
+call-returns (pages sample before r after) z leaves does = ap wrote (both (does .0))
+call-returns (serves sample kept n) z leaves does = ap counted (does .0)

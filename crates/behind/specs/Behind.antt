@@ -10,9 +10,10 @@ use Rattle.image.specs.Promises.{Saves}
 use Rattle.page.specs.Promises.{Pages, ServesLength}
 use Rattle.schedule.specs.Schedule.{stepRecord}
 use Rattle.export.specs.Promises.{FreshensBehind, StepsBehind, LoadsBehind}
-use Rattle.calls.specs.PublicCalls.{Call, accepted}
+use Rattle.calls.specs.PublicCalls.{Call, Returned, accepted}
 use Rattle.calls.specs.PublicCalls.Call.{fresh, load, reads, run}
-use Rattle.calls.specs.PublicCalls.Reading.{look, save, page, serveLength}
+use Rattle.calls.specs.PublicCalls.ReadOnly.{look, save, page, serveLength}
+use Rattle.calls.specs.PublicCalls.Returned.{gave, answered, wrote, counted}
 
 -- The calls of the C interface, each with its arguments and its answer (a serve's is a length); of a lent buffer the bytes at entry and at exit.
 pub data CallBehind : Type 0 where
@@ -54,3 +55,23 @@ publicCall (saves before r after) = reads (save before)
 publicCall (loads bytes r) = orFresh r (load bytes)
 publicCall (pages sample before r after) = reads (page sample before)
 publicCall (serves sample kept n) = reads (serveLength sample kept)
+
+-- The call itself as a public call, refused or not.
+unfoldable pub itself : CallBehind → Call
+itself (freshens plan r) = fresh plan
+itself (steps number x y r) = run (stepRecord number x y ∷ []) 0
+itself (looks k r) = reads (look k)
+itself (saves before r after) = reads (save before)
+itself (loads bytes r) = load bytes
+itself (pages sample before r after) = reads (page sample before)
+itself (serves sample kept n) = reads (serveLength sample kept)
+
+-- What a call gave; of a call that writes the store, with the store that it left.
+abbrev pub returnedBehind : CallBehind → Store → Returned
+returnedBehind (freshens plan r) leaves = gave (record { answer = r; store = leaves })
+returnedBehind (steps number x y r) leaves = gave (record { answer = r; store = leaves })
+returnedBehind (looks k r) leaves = answered r
+returnedBehind (saves before r after) leaves = wrote (r, after)
+returnedBehind (loads bytes r) leaves = gave (record { answer = r; store = leaves })
+returnedBehind (pages sample before r after) leaves = wrote (r, after)
+returnedBehind (serves sample kept n) leaves = counted n

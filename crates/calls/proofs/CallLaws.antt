@@ -28,9 +28,9 @@ use Rattle.theory.specs.Events.{effect, after, answerOf}
 use Rattle.theory.specs.Events.Event.{carries, starts, steps}
 use Rattle.theory.proofs.Invariants.{reach-increases-all}
 use Rattle.theory.proofs.Looks.{VisitsUntil, look-answer}
-use Rattle.calls.specs.PublicCalls.{Call, storeAfter, gives, answerTo, storeAfterAll}
+use Rattle.calls.specs.PublicCalls.{Call, storeAfter, returned, answerTo, storeAfterAll}
 use Rattle.calls.specs.PublicCalls.Call.{step, reads}
-use Rattle.calls.specs.PublicCalls.Reading.{look}
+use Rattle.calls.specs.PublicCalls.ReadOnly.{look}
 use Rattle.calls.specs.Following.{eventOf, eventsOf, sameStore}
 use Rattle.calls.specs.Recent.{currentIn, reachStamp}
 use Rattle.calls.specs.Counts.{CarryCounts}
@@ -58,7 +58,7 @@ calls-increase cs z good stays n k h =
 
 module _ (z : Store) (good : goodStore z ≡ true) (k : ℕ) where
   look-is : answerTo (reads (look k)) z ≡ some (lookAnswer k (planOf z) (stateOf z))
-  unfolding gives answerTo
+  unfolding returned answerTo
   look-is = ap some (of-good (lookAnswer k) z good)
 
   -- A look says the line's current result, after as many visits as there are path nodes down to the first that has a copy, or all.

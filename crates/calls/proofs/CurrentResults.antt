@@ -26,6 +26,7 @@ use Rattle.calls.specs.PublicCalls.{Call, replaced, storeAfter, answerTo
 use Rattle.calls.specs.Following.{eventOf, onEvent, replacement, enteredBy}
 use Rattle.calls.specs.Recent.{currentIn}
 use Rattle.calls.proofs.Follows.{
+  by-effect,
   asks-nothing,
   OwnOutcome,
   OnEvent,
@@ -44,12 +45,12 @@ use Rattle.calls.proofs.Histories.{entered-same}
 
 module _ (e : Event) (z : Store) where
   event-refused : 2 ≤ onEvent e z .answer .number → onEvent e z .store ≡ z
-  unfolding onEvent
   event-refused h = go (bool? (goodStore z))
     where
       go : (goodStore z ≡ true) ⊎ (goodStore z ≡ false) → onEvent e z .store ≡ z
       go (inl good) =
-          store-stays (λ p s. effect p e s) z
+          ap (λ (o : Outcome). o .store) (by-effect e z)
+          ∙ store-stays (λ p s. effect p e s) z
           (refused-stays (planOf z) (plan-good z good) (stateOf z) (state-good z good) e
           (rw (event-answer e z good) at h))
       go (inr bad) = event-on-bad e z bad

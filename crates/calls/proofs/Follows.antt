@@ -14,10 +14,12 @@ use Rattle.plan_table.specs.PlanTable.{plans}
 use Rattle.plan_table.proofs.TableLaws.{first-plan}
 use Rattle.store.specs.declared.Outcome.{Outcome}
 use Rattle.store.specs.declared.Store.{Store}
+use Rattle.store.specs.Answers.{DONE, bare}
 use Rattle.store.specs.Copies.{Kind, isSome}
 use Rattle.store.specs.Copies.Kind.{withdrawn, result}
 use Rattle.store.specs.Layout.{planOf, stateOf, freshStore}
 use Rattle.store.specs.StoreRules.{planNumberTest, goodStore}
+use Rattle.store.specs.Calls.{onStore}
 use Rattle.store.specs.Promises.{freshOutcome}
 use Rattle.store.proofs.Lifting.{Keeps, on-bad, on-good, number-stays, plan-stays, store-stays, on-keeps, state-agrees, fresh-good}
 use Rattle.schedule.specs.declared.Step.{Step}
@@ -30,7 +32,7 @@ use Rattle.theory.specs.Events.{Event, effect, after, answerOf, stateAfterAll}
 use Rattle.theory.specs.Events.Event.{enters, carries, starts, steps, cancels, asks}
 use Rattle.theory.proofs.EventSteps.{event-keeps}
 use Rattle.trips.specs.Trips.{AllIdle}
-use Rattle.calls.specs.PublicCalls.{Call, accepted, replaced, storeAfter, gives, answerTo, storeAfterAll}
+use Rattle.calls.specs.PublicCalls.{Call, accepted, replaced, storeAfter, returned, answerTo, storeAfterAll}
 use Rattle.calls.specs.PublicCalls.Call.{fresh, load, enter, carry, start, step, cancel, reads, run}
 use Rattle.calls.specs.Following.{eventOfRecord, eventOf, eventsOf, onEvent, ownOutcome, storeIfAccepted, replacement, sameStore}
 use Rattle.calls.specs.DeclaredNumbers.{DeclaredCall}
@@ -63,21 +65,21 @@ by-tests false false false false false true z r place = inl refl
 by-tests false false false false false false z r place = inr (refl, store-stays (unknownStep place) z refl)
 
 pub asks-nothing : (z : Store) → onEvent asks z .store ≡ z
-unfolding onEvent effect
-asks-nothing z = store-stays (λ p s. effect p asks s) z refl
+unfolding onEvent
+asks-nothing z = store-stays (λ p s. record { answer = bare DONE; after = s }) z refl
 
 -- The runner gives the very outcome of the record's call; or its step is unknown, and the store stays.
-pub run-way : (z : Store) (list : List Step) (place : ℕ)
+pub run-as : (z : Store) (list : List Step) (place : ℕ)
     → (runOutcome z list place ≡ onEvent (eventOfRecord (getD list place noStep)) z)
     ⊎ ((eventOfRecord (getD list place noStep) ≡ asks) × (runOutcome z list place .store ≡ z))
-unfolding runOutcome recordOutcome eventOfRecord onEvent effect outcomeBy eventBy
-run-way z list place =
+unfolding runOutcome recordOutcome eventOfRecord onEvent outcomeBy eventBy
+run-as z list place =
     let r = getD list place noStep in
     by-tests (eqb (r .number) ENTER) (eqb (r .number) WITHDRAW) (eqb (r .number) CARRY) (eqb (r .number) START) (eqb (r .number) STEP)
     (eqb (r .number) CANCEL) z r place
 
 run-event : (z : Store) (list : List Step) (place : ℕ) → runOutcome z list place .store ≡ onEvent (eventOfRecord (getD list place noStep)) z .store
-run-event z list place = go (run-way z list place)
+run-event z list place = go (run-as z list place)
   where
     go : (runOutcome z list place ≡ onEvent (eventOfRecord (getD list place noStep)) z)
         ⊎ ((eventOfRecord (getD list place noStep) ≡ asks) × (runOutcome z list place .store ≡ z))
@@ -113,7 +115,7 @@ pub record OnEvent (c : Call) : Type 0 where
 run-answer : (z : Store) (list : List Step) (place : ℕ)
     → (some (runOutcome z list place .answer) ≡ some (onEvent (eventOfRecord (getD list place noStep)) z .answer))
     ⊎ (eventOfRecord (getD list place noStep) ≡ asks)
-run-answer z list place = go (run-way z list place)
+run-answer z list place = go (run-as z list place)
   where
     go : (runOutcome z list place ≡ onEvent (eventOfRecord (getD list place noStep)) z)
         ⊎ ((eventOfRecord (getD list place noStep) ≡ asks) × (runOutcome z list place .store ≡ z))
@@ -123,7 +125,7 @@ run-answer z list place = go (run-way z list place)
     go (inr w) = inr (w .0)
 
 pub call-way : (c : Call) → OnEvent c ⊎ OwnOutcome c
-unfolding storeAfter gives answerTo ownOutcome eventOf onEvent effect
+unfolding storeAfter returned answerTo ownOutcome eventOf onEvent
 call-way (fresh plan) =
     inr
     (record {
@@ -262,32 +264,40 @@ replaced-by c y e = go (call-way c)
 effect-keeps : (e : Event) → Keeps (λ p s. effect p e s)
 effect-keeps e p rules s good = event-keeps p rules e s good
 
+-- The outcome of an event is its effect on the state.
+pub by-effect : (e : Event) (z : Store) → onEvent e z ≡ onStore (λ p s. effect p e s) z
+unfolding onEvent effect
+by-effect (enters kind k v) z = refl
+by-effect (carries n i) z = refl
+by-effect (starts k) z = refl
+by-effect (steps i) z = refl
+by-effect (cancels i) z = refl
+by-effect asks z = refl
+
 module _ (e : Event) (z : Store) where
+  -- What holds of the effect's outcome holds of the event's.
+  told : {A : Type 0} {a : A} (f : Outcome → A) → f (onStore (λ p s. effect p e s) z) ≡ a → f (onEvent e z) ≡ a
+  told f h = ap f (by-effect e z) ∙ h
+
   event-keeps-number : onEvent e z .store .plan ≡ z .plan
-  unfolding onEvent
-  event-keeps-number = number-stays (λ p s. effect p e s) z
+  event-keeps-number = told (λ o. o .store .plan) (number-stays (λ p s. effect p e s) z)
 
   pub event-keeps-plan : planOf (onEvent e z .store) ≡ planOf z
-  unfolding onEvent
-  event-keeps-plan = plan-stays (λ p s. effect p e s) z
+  event-keeps-plan = told (λ o. planOf (o .store)) (plan-stays (λ p s. effect p e s) z)
 
   pub event-on-bad : goodStore z ≡ false → onEvent e z .store ≡ z
-  unfolding onEvent
-  event-on-bad bad = ap (λ (o : Outcome). o .store) (on-bad (λ p s. effect p e s) z bad)
+  event-on-bad bad = told (λ o. o .store) (ap (λ (o : Outcome). o .store) (on-bad (λ p s. effect p e s) z bad))
 
   module _ (good : goodStore z ≡ true) where
     pub event-keeps-good : goodStore (onEvent e z .store) ≡ true
-    unfolding onEvent
-    event-keeps-good = on-keeps (λ p s. effect p e s) z (effect-keeps e) good
+    event-keeps-good = told (λ o. goodStore (o .store)) (on-keeps (λ p s. effect p e s) z (effect-keeps e) good)
 
     -- The state follows the event, and the answer is the event's.
     pub event-state : stateOf (onEvent e z .store) ≡ after (planOf z) e (stateOf z)
-    unfolding onEvent
-    event-state = state-agrees (λ p s. effect p e s) z (effect-keeps e) good
+    event-state = told (λ o. stateOf (o .store)) (state-agrees (λ p s. effect p e s) z (effect-keeps e) good)
 
     pub event-answer : onEvent e z .answer ≡ answerOf (planOf z) e (stateOf z)
-    unfolding onEvent
-    event-answer = ap (λ (o : Outcome). o .answer) (on-good (λ p s. effect p e s) z good)
+    event-answer = told (λ o. o .answer) (ap (λ (o : Outcome). o .answer) (on-good (λ p s. effect p e s) z good))
 
 -- Every public call keeps a good store good,
 pub call-keeps-good : (c : Call) (z : Store) → goodStore z ≡ true → goodStore (storeAfter c z) ≡ true

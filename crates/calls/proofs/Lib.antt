@@ -9,3 +9,4 @@ pub mod Recalls
 pub mod Slots
 pub mod Finishes
 pub mod Uniqueness
+pub mod Allowing

@@ -9,22 +9,24 @@ use lib.ListN.{getD}
 use Rattle.store.specs.declared.Copy.{Copy}
 use Rattle.store.specs.declared.Outcome.{Outcome}
 use Rattle.store.specs.declared.Store.{Store}
+use Rattle.store.specs.Answers.{DONE, bare}
 use Rattle.store.specs.Copies.{kindNumber, valueHeld, copy, isSome}
 use Rattle.store.specs.Copies.Kind.{withdrawn, result}
 use Rattle.store.specs.State.{line}
 use Rattle.store.specs.Layout.{planOf, stateOf, freshStore}
 use Rattle.store.specs.Calls.{onStore}
 use Rattle.store.specs.Promises.{freshOutcome}
+use Rattle.steps.specs.Promises.{entryOutcome, carryOutcome, startOutcome, stepOutcome, cancelOutcome}
 use Rattle.steps.specs.Carries.{bit}
 use Rattle.image_loading.specs.Loading.{loadOutcome}
 use Rattle.schedule.specs.declared.Step.{Step}
 use Rattle.schedule.specs.Schedule.{ENTER, WITHDRAW, CARRY, START, STEP, CANCEL}
 use Rattle.schedule.specs.Running.{noStep}
-use Rattle.theory.specs.Events.{Event, effect, optionList, held, rounds}
+use Rattle.theory.specs.Events.{Event, optionList, held, rounds}
 use Rattle.theory.specs.Events.Event.{enters, carries, starts, steps, cancels, asks}
 use Rattle.calls.specs.PublicCalls.{Call, accepted, storeAfter}
 use Rattle.calls.specs.PublicCalls.Call.{fresh, load, enter, carry, start, step, cancel, reads, run}
-use Rattle.calls.specs.PublicCalls.Reading.{save}
+use Rattle.calls.specs.PublicCalls.ReadOnly.{save}
 
 -- The event of a step record; an unknown step does nothing.
 unfoldable pub eventOfRecord : Step → Event
@@ -53,9 +55,14 @@ unfoldable pub eventsOf : List Call → List Event
 eventsOf [] = []
 eventsOf (c ∷ cs) = eventOf c ∷ eventsOf cs
 
--- An event as a call.
+-- An event as a call: its outcome. Where nothing is done, a good store is answered DONE.
 unfoldable pub onEvent : Event → Store → Outcome
-onEvent e z = onStore (λ p s. effect p e s) z
+onEvent (enters kind k v) z = entryOutcome kind z k v
+onEvent (carries n i) z = carryOutcome z n i
+onEvent (starts k) z = startOutcome z k
+onEvent (steps i) z = stepOutcome z i
+onEvent (cancels i) z = cancelOutcome z i
+onEvent asks z = onStore (λ p s. record { answer = bare DONE; after = s }) z
 
 -- The outcome of a fresh or load, which is given no store; no other call has one of its own.
 unfoldable pub ownOutcome : Call → Option Outcome

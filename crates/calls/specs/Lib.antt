@@ -3,3 +3,4 @@ pub mod Following
 pub mod Recent
 pub mod DeclaredNumbers
 pub mod Counts
+pub mod Allowed

@@ -22,13 +22,13 @@ use Rattle.schedule.specs.Running.{runOutcome}
 use Rattle.schedule.specs.Promises.{decodeOutcome}
 
 -- The public calls that leave the store alone, with their arguments; of a lent buffer or list what it holds at entry.
-pub data Reading : Type 0 where
-  look : (key : ℕ) → Reading
-  save : (buffer : List ℕ) → Reading
-  page : (sample : ℕ) (buffer : List ℕ) → Reading
-  serve : (sample : ℕ) (kept notice : RefT (List ℕ)) → Reading
-  serveLength : (sample : ℕ) (kept : List ℕ) → Reading
-  decode : (bytes : List ℕ) (list : List Step) → Reading
+pub data ReadOnly : Type 0 where
+  look : (key : ℕ) → ReadOnly
+  save : (buffer : List ℕ) → ReadOnly
+  page : (sample : ℕ) (buffer : List ℕ) → ReadOnly
+  serve : (sample : ℕ) (kept notice : RefT (List ℕ)) → ReadOnly
+  serveLength : (sample : ℕ) (kept : List ℕ) → ReadOnly
+  decode : (bytes : List ℕ) (list : List Step) → ReadOnly
 
 -- The public calls, with their arguments. Enter and withdraw are an entry with its kind; of a withdrawal the value is not read.
 pub data Call : Type 0 where
@@ -39,7 +39,7 @@ pub data Call : Type 0 where
   start : ℕ → Call
   step : ℕ → Call
   cancel : ℕ → Call
-  reads : Reading → Call
+  reads : ReadOnly → Call
   run : List Step → ℕ → Call
 
 -- An accepted answer is DONE.
@@ -62,37 +62,40 @@ storeAfter (cancel i) z = cancelOutcome z i .store
 storeAfter (reads r) z = z
 storeAfter (run list place) z = runOutcome z list place .store
 
--- What a call gives beside the store: an answer, with the buffer or the list at exit; whose bytes are handed back, and which; or how many.
-pub data Given : Type 0 where
-  answered : Answer → Given
-  wrote : Answer × List ℕ → Given
-  listed : Answer × List Step → Given
-  handedBack : Handed → Given
-  counted : ℕ → Given
+-- What a call returns: an outcome, its answer and its store; an answer alone, or with the buffer or the list at exit; whose bytes are handed
+-- back, and which; or how many.
+pub data Returned : Type 0 where
+  gave : Outcome → Returned
+  answered : Answer → Returned
+  wrote : Answer × List ℕ → Returned
+  listed : Answer × List Step → Returned
+  handedBack : Handed → Returned
+  counted : ℕ → Returned
 
--- What a call gives that leaves the store alone.
-abbrev pub readGives : Reading → Store → Given
-readGives (look key) z = answered (lookOutcome z key)
-readGives (save buffer) z = wrote (saveOutcome z buffer)
-readGives (page sample buffer) z = wrote (pageOutcome z sample buffer)
-readGives (serve sample kept notice) z = handedBack (served z sample kept notice)
-readGives (serveLength sample kept) z = counted (servedLength z sample kept)
-readGives (decode bytes list) z = listed (decodeOutcome bytes list)
+-- What a call returns that leaves the store alone.
+abbrev pub readReturned : ReadOnly → Store → Returned
+readReturned (look key) z = answered (lookOutcome z key)
+readReturned (save buffer) z = wrote (saveOutcome z buffer)
+readReturned (page sample buffer) z = wrote (pageOutcome z sample buffer)
+readReturned (serve sample kept notice) z = handedBack (served z sample kept notice)
+readReturned (serveLength sample kept) z = counted (servedLength z sample kept)
+readReturned (decode bytes list) z = listed (decodeOutcome bytes list)
 
--- What a call gives.
-unfoldable pub gives : Call → Store → Given
-gives (fresh plan) z = answered (freshOutcome plan .answer)
-gives (load bytes) z = answered (loadOutcome bytes .answer)
-gives (enter kind k v) z = answered (entryOutcome kind z k v .answer)
-gives (carry n i) z = answered (carryOutcome z n i .answer)
-gives (start k) z = answered (startOutcome z k .answer)
-gives (step i) z = answered (stepOutcome z i .answer)
-gives (cancel i) z = answered (cancelOutcome z i .answer)
-gives (reads r) z = readGives r z
-gives (run list place) z = answered (runOutcome z list place .answer)
+-- What a call returns.
+unfoldable pub returned : Call → Store → Returned
+returned (fresh plan) z = gave (freshOutcome plan)
+returned (load bytes) z = gave (loadOutcome bytes)
+returned (enter kind k v) z = gave (entryOutcome kind z k v)
+returned (carry n i) z = gave (carryOutcome z n i)
+returned (start k) z = gave (startOutcome z k)
+returned (step i) z = gave (stepOutcome z i)
+returned (cancel i) z = gave (cancelOutcome z i)
+returned (reads r) z = readReturned r z
+returned (run list place) z = gave (runOutcome z list place)
 
--- The answer in what a call gives; a serve has none.
-abbrev pub answerIn : Given → Option Answer
+-- The answer in what a call returns; a serve has none.
+abbrev pub answerIn : Returned → Option Answer
+answerIn (gave o) = some (o .answer)
 answerIn (answered a) = some a
 answerIn (wrote w) = some (w .0)
 answerIn (listed w) = some (w .0)
@@ -101,7 +104,7 @@ answerIn (counted n) = none
 
 -- The answer of a call.
 unfoldable pub answerTo : Call → Store → Option Answer
-answerTo c z = answerIn (gives c z)
+answerTo c z = answerIn (returned c z)
 
 -- A call answers DONE.
 abbrev pub Done : Call → Store → Type 0
@@ -112,7 +115,7 @@ unfoldable pub storeAfterAll : List Call → Store → Store
 storeAfterAll [] z = z
 storeAfterAll (c ∷ cs) z = storeAfterAll cs (storeAfter c z)
 
--- What the calls of a sequence give, one after another.
-unfoldable pub allGiven : List Call → Store → List Given
-allGiven [] z = []
-allGiven (c ∷ cs) z = gives c z ∷ allGiven cs (storeAfter c z)
+-- What the calls of a sequence return, one after another.
+unfoldable pub allReturned : List Call → Store → List Returned
+allReturned [] z = []
+allReturned (c ∷ cs) z = returned c z ∷ allReturned cs (storeAfter c z)

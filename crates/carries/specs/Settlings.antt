@@ -15,10 +15,8 @@ use Rattle.store.specs.declared.Store.{Store}
 use Rattle.store.specs.Answers.{bare}
 use Rattle.store.specs.Layout.{planOf, width}
 use Rattle.store.specs.StoreRules.{goodStore}
-use Rattle.store.specs.Calls.{onStore}
 use Rattle.store.specs.Workers.{storeAtEntry, storeAtExit}
-use Rattle.steps.specs.Carries.{carryStep}
-use Rattle.steps.specs.Promises.{Carries}
+use Rattle.steps.specs.Promises.{carryOutcome, Carries}
 use Rattle.moves.specs.Writings.{Movable, carriedColumn}
 use Rattle.carries.specs.declared.settling.Settled.{Settled}
 
@@ -62,7 +60,7 @@ pub record Settles (z : Store) (n i : ℕ) (stay target : List ℕ) (r : Settled
   pub stays : (length stay ≡ width) × (r .kept ≤ width)
   pub gets : (length target ≡ width) × (r .got ≤ width)
   pub movable : Movable (take (r .kept) stay) (take (r .got) target) (r .from) (r .had) (r .start)
-  pub outcome : record { answer = r .answer; store = settledStore stay target r z } ≡ onStore (carryStep n i) z
+  pub outcome : record { answer = r .answer; store = settledStore stay target r z } ≡ carryOutcome z n i
 
 -- The same over lent columns.
 abbrev pub SettlesLent : ℕ → ℕ → LentList → LentList → LentList → LentList → LentList → List Slot → LentList → LentList → ℕ → ℕ → Settled → Type 0

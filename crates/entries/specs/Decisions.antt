@@ -10,13 +10,11 @@ use Rattle.store.specs.declared.Outcome.{Outcome}
 use Rattle.store.specs.declared.Slot.{Slot}
 use Rattle.store.specs.declared.Store.{Store}
 use Rattle.store.specs.Answers.{DONE, FULL, answer, bare}
-use Rattle.store.specs.Calls.{onStore}
 use Rattle.store.specs.Layout.{planOf, width}
 use Rattle.store.specs.State.{lastClock}
 use Rattle.store.specs.StoreRules.{goodStore}
 use Rattle.store.specs.Workers.{opened, storeAtEntry, storeAtExit}
-use Rattle.steps.specs.Entries.{entry}
-use Rattle.steps.specs.Promises.{Enters, Withdraws}
+use Rattle.steps.specs.Promises.{entryNumbered, Enters, Withdraws}
 use Rattle.entries.specs.declared.Entered.{Entered}
 use Rattle.entries.specs.declared.decision.Decision.{Decision}
 
@@ -48,8 +46,8 @@ acceptance d z kind key value =
 -- The decision for a key is right for a store: the entry is accepted at places of the root, or FULL, whatever its kind and its value.
 pub record DecidesFor (z : Store) (key : ℕ) (d : Decision) : Type 0 where
   pub in-root : (d .at ≤ d .end) × (d .end < width)
-  pub accepts : d .accepted ≡ true → (kind value : ℕ) → acceptance d z kind key value ≡ onStore (entry kind key value) z
-  pub refuses : d .accepted ≡ false → (kind value : ℕ) → record { answer = bare FULL; store = z } ≡ onStore (entry kind key value) z
+  pub accepts : d .accepted ≡ true → (kind value : ℕ) → acceptance d z kind key value ≡ entryNumbered kind z key value
+  pub refuses : d .accepted ≡ false → (kind value : ℕ) → record { answer = bare FULL; store = z } ≡ entryNumbered kind z key value
 
 -- It is right for every store that has these counts and keys.
 abbrev pub Decides : List ℕ → List ℕ → ℕ → ℕ → Decision → Type 0
@@ -59,7 +57,7 @@ Decides counts keys capacity key d = (z : Store) → Enterable counts keys capac
 abbrev pub EntryLent : ℕ → ℕ → LentList → LentList → LentList → LentList → LentList → List Slot → ℕ → ℕ → ℕ → Entered → Type 0
 EntryLent plan clock counts keys kinds values stamps slots kind key value r =
     record { answer = r .answer; store = storeAtExit plan (r .clock) counts keys kinds values stamps slots }
-    ≡ onStore (entry kind key value) (storeAtEntry plan clock counts keys kinds values stamps slots)
+    ≡ entryNumbered kind (storeAtEntry plan clock counts keys kinds values stamps slots) key value
 
 -- The promise of entering a result, over lent columns.
 abbrev pub EntersLent : ℕ → ℕ → LentList → LentList → LentList → LentList → LentList → List Slot → ℕ → ℕ → Entered → Type 0

@@ -1,9 +1,7 @@
 // Enter and withdraw. Document 01, "What each step does": "an entry either way".
 ghost use mathlib.Core.Path.{_≡_};
-ghost use Rattle.steps.specs.Entries.{entry};
-ghost use Rattle.steps.specs.Promises.{Enters, Withdraws};
+ghost use Rattle.steps.specs.Promises.{entryNumbered, Enters, Withdraws};
 ghost use Rattle.store.specs.Answers.{bare};
-ghost use Rattle.store.specs.Calls.{onStore};
 ghost use Rattle.store.specs.Workers.{LentSized};
 ghost use Rattle.entries.specs.Decisions.{EntryLent, EntersLent, WithdrawsLent};
 use decision::decide;
@@ -136,7 +134,7 @@ pub fn withdraw_lent<'a>(
 
 // The same by value: the columns are taken out of the store, lent, and put back.
 fn entry_by_value(store: Store, kind: u32, key: u32, value: u32) -> Outcome
-    ensures { λ r. ⌜ r ≡ onStore (entry kind key value) store ⌝ }
+    ensures { λ r. ⌜ r ≡ entryNumbered kind store key value ⌝ }
 {
     let slots = store.slots;
     let mut counts = store.counts;

@@ -21,7 +21,7 @@ fn not_read() {
 
 // PLAN, OP after a step that is not done, MANY after 256 steps and for more than 65,536 bytes.
 fn not_decoded() {
-    let plan = [4];
+    let plan = [0];
     print(&plan);
     let op = [1, 2, 33, 7];
     print(&op);

@@ -37,7 +37,6 @@ use Rattle.store.specs.Calls.{onStore}
 use Rattle.store.proofs.Lifting.{fresh-good}
 use Rattle.steps.specs.Entries.{put, room, entered, entry}
 use Rattle.steps.specs.Carries.{carries, merge, countHeld, mergeAlong, carriedTo, carriedOut, carryStep}
-use Rattle.theory.specs.Events.{effect}
 use Rattle.theory.specs.Events.Event.{enters}
 use Rattle.wire.specs.Reading.{bind, numbered, numberAt}
 use Rattle.copies.specs.CopyBytes.{valueBytes, copyBytes, readValue, readCopy}
@@ -107,7 +106,7 @@ unfolding opened
 shown = refl
 
 done-once-more : EntryDone (entering 180) z result lineKey 180
-unfolding opened eventOf onEvent effect
+unfolding opened eventOf onEvent
 done-once-more = (refl, (onEvent (enters result lineKey 180) z .answer, says, refl))
   where
     says : answerTo (entering 180) z ≡ some (onEvent (enters result lineKey 180) z .answer)

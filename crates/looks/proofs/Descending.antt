@@ -27,7 +27,7 @@ use Rattle.store.specs.Copies.{keyOf, find, foundOf}
 use Rattle.store.specs.State.{State, line, firstOn, inReach}
 use Rattle.store.specs.Layout.{planOf, nodeIn, stateIn, stateOf}
 use Rattle.store.specs.StoreRules.{goodStore}
-use Rattle.store.specs.Calls.{ofStore}
+use Rattle.steps.specs.Promises.{lookOutcome}
 use Rattle.store.proofs.Halving.{found-none, found-some}
 use Rattle.store.proofs.Laying.{parts-node}
 use Rattle.store.proofs.Lifting.{of-good, of-bad}
@@ -139,9 +139,9 @@ module _ {edges : List ℕ} {lows highs targets : Grid} {counts keys kinds value
 
 -- A look reads neither clock nor slots: its answer by the columns lent is the store's.
 pub look-lent : (z : Store) → goodStore z ≡ true → (k : ℕ) (a : Answer)
-    → a ≡ lookAnswer k (planOf z) (lookedIn (z .counts) (z .keys) (z .kinds) (z .values) (z .stamps) (planOf z)) → a ≡ ofStore (lookAnswer k) z
+    → a ≡ lookAnswer k (planOf z) (lookedIn (z .counts) (z .keys) (z .kinds) (z .values) (z .stamps) (planOf z)) → a ≡ lookOutcome z k
 unfolding lookAnswer inReach stateOf
 look-lent z good k a e = e ∙ sym (of-good (lookAnswer k) z good)
 
-pub look-refused : (z : Store) → goodStore z ≡ false → (k : ℕ) (a : Answer) → a ≡ bare BADSTORE → a ≡ ofStore (lookAnswer k) z
+pub look-refused : (z : Store) → goodStore z ≡ false → (k : ℕ) (a : Answer) → a ≡ bare BADSTORE → a ≡ lookOutcome z k
 look-refused z bad k a e = e ∙ sym (of-bad (lookAnswer k) z bad)

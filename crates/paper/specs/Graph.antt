@@ -1,4 +1,4 @@
--- The paper's graph (source document 004, sections 3 and 7): edges, ways, insets, and its invariants 5, 6 and 7.
+-- The paper's graph (sections 3 and 7): edges, ways, insets, and its invariants 5, 6 and 7.
 use mathlib.Core.Path.{_≡_}
 use mathlib.Core.Logic.{_≢_}
 use mathlib.Core.Bool.{cond}

@@ -1,4 +1,4 @@
--- The paper's template-level specifications (source document 004, section 3.3): the structure MCS(r, t, H), (3) of upsert and (4) of search;
+-- The paper's template-level specifications (section 3.3): the structure MCS(r, t, H), (3) of upsert and (4) of search;
 -- and what is said of a search that already runs.
 use mathlib.Core.Path.{_≡_}
 use mathlib.Core.Logic.{_≢_, _⊎_}

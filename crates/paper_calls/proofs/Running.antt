@@ -25,7 +25,7 @@ use Rattle.theory.specs.Paper.{History, InHistory}
 use Rattle.theory.proofs.Looks.{look-answer}
 use Rattle.paper.specs.Specifications.{RunningSearch}
 use Rattle.paper.proofs.Searches.{running-slot, running-search, running-ends}
-use Rattle.calls.specs.PublicCalls.{Call, gives, answerTo, Done, storeAfterAll}
+use Rattle.calls.specs.PublicCalls.{Call, returned, answerTo, Done, storeAfterAll}
 use Rattle.calls.specs.Following.{eventOf, eventsOf, sameStore}
 use Rattle.calls.specs.Recent.{currentIn, EndsByCall}
 use Rattle.calls.proofs.Follows.{acts-as, step-acts, event-answer, calls-keep-good, follows-events}
@@ -87,7 +87,7 @@ running-ends-by-call z good k n visits i at cs stays alive enough =
 
 -- A look of a good store makes at least one visit.
 pub look-visits : (z : Store) → goodStore z ≡ true → (k : ℕ) → VisitsSome z k
-unfolding gives answerTo
+unfolding returned answerTo
 look-visits z good k r e =
     let a = look-answer (planOf z) (plan-good z good) k (stateOf z) in
     let is : lookAnswer k (planOf z) (stateOf z) ≡ r = sym (of-good (lookAnswer k) z good) ∙ one-some refl e in

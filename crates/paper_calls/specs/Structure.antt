@@ -1,4 +1,4 @@
--- The paper's structure and specifications (source document 004) for the declared store and public calls: MCS(r, t, H), (3) of an entry, (4)
+-- The paper's structure and specifications for the declared store and public calls: MCS(r, t, H), (3) of an entry, (4)
 -- of a search; and what is said of a search that already runs in a store at hand.
 use mathlib.Core.Path.{_≡_}
 use mathlib.Core.Bool.{true}
@@ -21,7 +21,7 @@ use Rattle.theory.specs.Paper.{Contents, CopySet, withCopies, InHistory, upsert
 use Rattle.paper.specs.Specifications.{MCS}
 use Rattle.calls.specs.PublicCalls.{Call, storeAfter, answerTo, storeAfterAll}
 use Rattle.calls.specs.PublicCalls.Call.{reads}
-use Rattle.calls.specs.PublicCalls.Reading.{look}
+use Rattle.calls.specs.PublicCalls.ReadOnly.{look}
 use Rattle.calls.specs.Following.{eventsOf, sameStore, history}
 use Rattle.calls.specs.Recent.{currentIn, reachStamp, atEnd, StoreRecency}
 

@@ -15,7 +15,7 @@ use Rattle.store.specs.State.{State, slotCount, idle, idleMark}
 use Rattle.store.specs.StateRules.{OnPath}
 use Rattle.store.specs.Layout.{planOf, stateOf, storeOf}
 use Rattle.store.specs.StoreRules.{goodStore}
-use Rattle.store.specs.Calls.{Effect}
+use Rattle.store.specs.Calls.{Effect, onStore}
 use Rattle.store.proofs.Lifting.{plan-good, state-good, good-ordered, good-back, on-bad, on-way}
 use Rattle.steps.specs.Searches.{stepStep}
 use Rattle.steps.proofs.LineSteps.{Still, step-still}
@@ -29,7 +29,7 @@ use Rattle.searches.specs.Workers.{withSlots, Moves}
 -- A change, done, is what the call does, of any store.
 pub record Changes (f : Plan → State → Effect) (z : Store) (r : Change) : Type 0 where
   pub at-slot : r .at < slotCount
-  pub moves : Moves f z (changedBy (z .slots) r)
+  pub moves : Moves (onStore f z) z (changedBy (z .slots) r)
 
 module _ (z : Store) (good : goodStore z ≡ true) where
   -- A running search stands on its key's path, so at a node of the plan,
@@ -66,7 +66,7 @@ module _ (z : Store) (good : goodStore z ≡ true) where
 
   -- A step that leaves nodes and clock: its answer and slots give the call's outcome.
   moved-out : (f : Plan → State → Effect) → Still (stateOf z) (f (planOf z) (stateOf z) .after)
-      → (m : Moved) → m ≡ movedBy (f (planOf z) (stateOf z)) → Moves f z m
+      → (m : Moved) → m ≡ movedBy (f (planOf z) (stateOf z)) → Moves (onStore f z) z m
   moved-out f still m e =
       let w = f (planOf z) (stateOf z) in
       ap (λ (n : Moved). record { answer = n .answer; store = withSlots (n .slots) z }) e
@@ -109,5 +109,5 @@ module _ (z : Store) (checked : Bool) (check : checked ≡ goodStore z) (r : Cha
       })
 
 -- What was decided, done.
-pub change-done : (z : Store) (f : Plan → State → Effect) (r : Change) → Changes f z r → (m : Moved) → m ≡ changedBy (z .slots) r → Moves f z m
+pub change-done : (z : Store) (f : Plan → State → Effect) (r : Change) → Changes f z r → (m : Moved) → m ≡ changedBy (z .slots) r → Moves (onStore f z) z m
 change-done z f r w m e = ap (λ (n : Moved). record { answer = n .answer; store = withSlots (n .slots) z }) e ∙ w .moves

@@ -2,12 +2,10 @@
 use mathlib.Core.Path.{_≡_}
 use mathlib.Core.List.{List}
 use Prim.Native.Nat.{ℕ}
-use Rattle.plan.specs.Plan.{Plan}
+use Rattle.store.specs.declared.Outcome.{Outcome}
 use Rattle.store.specs.declared.Slot.{Slot}
 use Rattle.store.specs.declared.Store.{Store}
-use Rattle.store.specs.State.{State}
-use Rattle.store.specs.Calls.{Effect, onStore}
-use Rattle.steps.specs.Searches.{startStep, stepStep, cancelStep}
+use Rattle.steps.specs.Promises.{startOutcome, stepOutcome, cancelOutcome}
 use Rattle.slots.specs.declared.Moved.{Moved}
 
 -- The store with other slots.
@@ -25,15 +23,15 @@ withSlots slots z =
     }
 
 -- What a call does with a store's slots, of any store: with its answer, the store with these slots is the call's outcome.
-abbrev pub Moves : (Plan → State → Effect) → Store → Moved → Type 0
-Moves f z r = record { answer = r .answer; store = withSlots (r .slots) z } ≡ onStore f z
+abbrev pub Moves : Outcome → Store → Moved → Type 0
+Moves o z r = record { answer = r .answer; store = withSlots (r .slots) z } ≡ o
 
 -- What start, step and cancel do with them.
 abbrev pub StartMoves : Store → ℕ → Moved → Type 0
-StartMoves store key r = Moves (startStep key) store r
+StartMoves store key r = Moves (startOutcome store key) store r
 
 abbrev pub StepMoves : Store → ℕ → Moved → Type 0
-StepMoves store slot r = Moves (stepStep slot) store r
+StepMoves store slot r = Moves (stepOutcome store slot) store r
 
 abbrev pub CancelMoves : Store → ℕ → Moved → Type 0
-CancelMoves store slot r = Moves (cancelStep slot) store r
+CancelMoves store slot r = Moves (cancelOutcome store slot) store r

@@ -4,16 +4,20 @@ use Prim.Native.Nat.{ℕ}
 use Rattle.store.specs.declared.Answer.{Answer}
 use Rattle.store.specs.declared.Outcome.{Outcome}
 use Rattle.store.specs.declared.Store.{Store}
-use Rattle.store.specs.Copies.{Kind}
+use Rattle.store.specs.Copies.{Kind, kindNumber, valueHeld}
 use Rattle.store.specs.Copies.Kind.{withdrawn, result}
 use Rattle.store.specs.Calls.{onStore, ofStore}
-use Rattle.steps.specs.Entries.{entryStep}
+use Rattle.steps.specs.Entries.{entry}
 use Rattle.steps.specs.Carries.{carryStep}
 use Rattle.steps.specs.Searches.{startStep, stepStep, cancelStep, lookAnswer}
 
+-- An entry by its kind's number, with the value that its copy holds.
+abbrev pub entryNumbered : ℕ → Store → ℕ → ℕ → Outcome
+entryNumbered kind store key value = onStore (entry kind key value) store
+
 -- "An entry either way": of a withdrawal the value is not read.
 abbrev pub entryOutcome : Kind → Store → ℕ → ℕ → Outcome
-entryOutcome kind store key value = onStore (entryStep kind key value) store
+entryOutcome kind store key value = entryNumbered (kindNumber kind) store key (valueHeld kind value)
 
 -- An entry of a result.
 abbrev pub enterOutcome : Store → ℕ → ℕ → Outcome

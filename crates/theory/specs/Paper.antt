@@ -1,4 +1,4 @@
--- The paper's words (source document 004, sections 3 and 6) for a store's state: contents, edgesets, the upsert history and the
+-- The paper's words (sections 3 and 6) for a store's state: contents, edgesets, the upsert history and the
 -- logical contents.
 use mathlib.Core.Path.{_≡_}
 use mathlib.Core.Bool.{true, cond}

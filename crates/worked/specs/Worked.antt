@@ -10,8 +10,8 @@ use Rattle.store.specs.declared.Outcome.{Outcome}
 use Rattle.store.specs.declared.Store.{Store}
 use Rattle.store.specs.Answers.{DONE, CLOCK, FULL, SLOT, IDLE, SAMPLE, CUT, answer, bare}
 use Rattle.store.specs.State.{slotCount, idle}
-use Rattle.store.specs.Layout.{storeOf, freshStore, refusedStore}
-use Rattle.store.specs.Promises.{freshOutcome}
+use Rattle.store.specs.Layout.{storeOf, refusedStore}
+use Rattle.store.specs.Promises.{freshOutcome, Freshens}
 use Rattle.steps.specs.Promises.{Enters, Withdraws, Carries, Steps, Cancels, Looks}
 use Rattle.image.specs.Promises.{Saves, Loads}
 use Rattle.page.specs.Promises.{Pages}
@@ -52,9 +52,9 @@ eightKeys =
     stepRecord ENTER 10 1 ∷ stepRecord ENTER 80 1 ∷ stepRecord ENTER 20 1 ∷ stepRecord ENTER 70 1 ∷ stepRecord ENTER 30 1
     ∷ stepRecord ENTER 60 1 ∷ stepRecord ENTER 40 1 ∷ stepRecord ENTER 50 1 ∷ []
 
--- A fresh store of plan 1 with these in its root.
-unfoldable pub storeOfEight : Store
-storeOfEight = storeAfterSteps eightKeys (freshStore 1) 0 (length eightKeys)
+-- A store after these.
+unfoldable pub withEight : Store → Store
+withEight z = storeAfterSteps eightKeys z 0 (length eightKeys)
 
 -- A store with nothing held and the clock one below its last value.
 abbrev pub lateStore : Store
@@ -67,6 +67,10 @@ done a = answer DONE a 0 0 0
 -- Each outcome that a promise allows has this answer.
 abbrev pub Answers : (Outcome → Type 0) → Answer → Type 0
 Answers Allowed a = (r : Outcome) → Allowed r → r .answer ≡ a
+
+-- So of a fresh store of a plan, as each outcome that the promise of fresh allows has it.
+abbrev pub OfFresh : ℕ → (Store → Type 0) → Type 0
+OfFresh plan Holds = (f : Outcome) → Freshens plan f → Holds (f .store)
 
 -- P1 to P10.
 pub record Worked : Type 0 where
@@ -81,17 +85,18 @@ pub record Worked : Type 0 where
   -- "(P4) Empty image: CUT, a 0."
   pub p4 : Loads [] (record { answer = answer CUT 0 0 0 0; store = refusedStore })
   -- "(P5) Eight keys in a fresh root, a ninth: FULL; one of the eight again: DONE, stamp 9."
-  pub p5 : Answers (Enters storeOfEight 90 1) (bare FULL) × Answers (Enters storeOfEight 30 2) (done 9)
+  pub p5 : OfFresh 1 (λ z. Answers (Enters (withEight z) 90 1) (bare FULL) × Answers (Enters (withEight z) 30 2) (done 9))
   -- "(P6) Clock 4294967294: entry done; the next: CLOCK."
   pub p6 : (r : Outcome) → Enters lateStore 33 180 r → (r .answer ≡ done 4294967294) × Answers (Enters (r .store) 33 180) (bare CLOCK)
   -- "(P7) Fresh plan 1: enter, carry 0 0, withdraw one line: look gives 1, 0, 2, 1."
-  pub p7 : (a b c : Outcome) → Enters (freshStore 1) 33 180 a → Carries (a .store) 0 0 b → Withdraws (b .store) 33 c
-      → Looks (c .store) 33 (answer DONE 1 0 2 1)
+  pub p7 :
+      OfFresh 1 (λ z. (a b c : Outcome) → Enters z 33 180 a → Carries (a .store) 0 0 b → Withdraws (b .store) 33 c
+      → Looks (c .store) 33 (answer DONE 1 0 2 1))
   -- "(P8) Look in a fresh store of plan 2: 0, 0, 0, 2."
-  pub p8 : Looks (freshStore 2) 33 (answer DONE 0 0 0 2)
+  pub p8 : OfFresh 2 (λ z. Looks z 33 (answer DONE 0 0 0 2))
   -- "(P9) Slot 7 idle: IDLE; slot 8: SLOT." Of step, and of cancel.
   pub p9 :
-      Answers (Steps (freshStore 1) 7) (bare IDLE) × Answers (Steps (freshStore 1) 8) (bare SLOT)
-      × Answers (Cancels (freshStore 1) 7) (bare IDLE) × Answers (Cancels (freshStore 1) 8) (bare SLOT)
+      OfFresh 1 (λ z. Answers (Steps z 7) (bare IDLE) × Answers (Steps z 8) (bare SLOT) × Answers (Cancels z 7) (bare IDLE)
+      × Answers (Cancels z 8) (bare SLOT))
   -- "(P10) Sample 134217728: SAMPLE."
-  pub p10 : (buffer : List ℕ) → Pages (freshStore 1) 134217728 buffer (bare SAMPLE) buffer
+  pub p10 : OfFresh 1 (λ z. (buffer : List ℕ) → Pages z 134217728 buffer (bare SAMPLE) buffer)
