@@ -2,6 +2,7 @@
 use mathlib.Core.Path.{_≡_, refl, sym, ap, _∙_, subst}
 use mathlib.Core.List.{List, [], _∷_, map, List·Memᴰ, List·Memᴰ·head, List·Memᴰ·tail, List·Memᴰ·not-nil, List·Memᴰ·cases-cons}
 use mathlib.Core.Logic.{_⊎_, inl, inr}
+use mathlib.Core.Option.{some}
 use Prim.Native.Nat.{ℕ}
 use Rattle.lists.proofs.Options.{one-some}
 use Rattle.store.specs.declared.Answer.{Answer}
@@ -10,16 +11,22 @@ use Rattle.store.specs.Answers.{DONE}
 use Rattle.store.specs.Copies.{Kind}
 use Rattle.theory.specs.Events.{Event}
 use Rattle.page_lines.specs.PageLine.{keyFor}
-use Rattle.calls.specs.PublicCalls.{Call, accepted, storeAfterAll}
+use Rattle.calls.specs.PublicCalls.{Call, accepted, answerIn, answerTo, storeAfterAll}
 use Rattle.calls.specs.PublicCalls.Call.{fresh, load}
 use Rattle.calls.specs.Following.{eventOf}
 use Rattle.calls.proofs.Follows.{entry-acts}
-use Rattle.behind.specs.Behind.{CallBehind, MeetsPromise, AllMeet, publicCall}
+use Rattle.behind.specs.Behind.{CallBehind, MeetsPromise, AllMeet, publicCall, itself}
 use Rattle.behind.specs.Behind.CallBehind.{freshens, steps, looks, saves, loads, pages, serves}
-use Rattle.behind.proofs.BehindPointers.{call-behind}
+use Rattle.behind.proofs.BehindPointers.{call-behind, call-returns}
 use Rattle.kept.specs.Amended.{EntryDone, EntersLine, SampleUntouched}
 use Rattle.kept.specs.EntriesBehind.{stepNumber, EntersBehind, UntouchedBehind}
-use Rattle.kept.proofs.StepEntries.{entry-event, Names, event-names, or-fresh-asks, step-answer}
+use Rattle.kept.proofs.StepEntries.{stepRun, entry-event, Names, event-names, or-fresh-asks}
+
+-- What a step gave is the answer of the call in its place.
+step-answer : (number x y : ℕ) (r : Answer) (z leaves : Store) → MeetsPromise (steps number x y r) z leaves
+    → answerTo (stepRun number x y) z ≡ some r
+unfolding answerTo itself
+step-answer number x y r z leaves does = sym (ap answerIn (call-returns (steps number x y r) z leaves does))
 
 -- An entry's step among the calls that answered DONE is an entry among the public calls that answers DONE;
 pub enters-behind : (cs : List CallBehind) (z y : Store) → AllMeet cs z y → (kind : Kind) (k v : ℕ) → EntersBehind cs kind k v
@@ -38,7 +45,7 @@ enters-behind (c ∷ cs) z y all kind k v e =
     go (inl q) again =
         let event = entry-event kind k v in
         let meets : MeetsPromise its z (all .0) = subst (λ (d : CallBehind). MeetsPromise d z (all .0)) (sym q) (all .1) in
-        let says = step-answer (stepNumber kind) k v (e .answer) z (all .0) meets kind k (event .0) (event .1) in (
+        let says = step-answer (stepNumber kind) k v (e .answer) z (all .0) meets in (
           event .0,
           record {
             before = [];
@@ -75,7 +82,7 @@ entry-behind (steps number x y r) z next does cs kind k v e = (y, record { answe
     same = ap (λ (n : ℕ). steps n k y r) (sym (names .0)) ∙ ap (λ (n : ℕ). steps number n y r) (sym (names .1))
 
     said : r .number ≡ DONE
-    said = ap (λ (a : Answer). a .number) (one-some (step-answer number x y r z next does kind k v (e .0)) (e .1 .1)) ∙ e .1 .2
+    said = ap (λ (a : Answer). a .number) (one-some (step-answer number x y r z next does) (e .1 .1)) ∙ e .1 .2
 entry-behind (freshens plan r) z next does cs kind k v e =
     absurd (entry-acts kind k v (sym (e .0) ∙ or-fresh-asks (accepted r) (fresh plan) refl))
 entry-behind (loads bytes r) z next does cs kind k v e =

@@ -1,7 +1,8 @@
 -- The examples, by computing.
 use mathlib.Core.Path.{_≡_, refl, sym, subst}
 use mathlib.Core.Bool.{Bool, true}
-use mathlib.Core.List.{List, [], _∷_, List·Memᴰ·eq-of-singleton}
+use mathlib.Core.List.{List, [], _∷_, List·Memᴰ, List·Memᴰ·cases-cons, List·Memᴰ·eq-of-singleton}
+use mathlib.Core.Logic.{_⊎_, inl, inr}
 use mathlib.Core.Option.{some}
 use Prim.Native.Nat.{ℕ}
 use native.Mathlib.Omega.{arith}
@@ -36,7 +37,6 @@ use Rattle.store.specs.Calls.{onStore}
 use Rattle.store.proofs.Lifting.{fresh-good}
 use Rattle.steps.specs.Entries.{put, room, entered, entry}
 use Rattle.steps.specs.Carries.{carries, merge, countHeld, mergeAlong, carriedTo, carriedOut, carryStep}
-use Rattle.theory.specs.Events.{effect}
 use Rattle.theory.specs.Events.Event.{enters}
 use Rattle.wire.specs.Reading.{bind, numbered, numberAt}
 use Rattle.copies.specs.CopyBytes.{valueBytes, copyBytes, readValue, readCopy}
@@ -48,16 +48,18 @@ use Rattle.trips.proofs.RoundTrips.{fresh-idle}
 use Rattle.page_lines.specs.PageLine.{pageLinesFrom}
 use Rattle.page.specs.PageBytes.{pageLineBytes, pageLinesBytes, pageBytes, begins}
 use Rattle.page.specs.Promises.{stillTrue, servedLength}
-use Rattle.calls.specs.PublicCalls.{Call, storeAfter, storeAfterAll}
-use Rattle.calls.specs.Following.{eventOf, onEvent}
+use Rattle.calls.specs.PublicCalls.{Call, storeAfter, answerTo, storeAfterAll}
+use Rattle.calls.specs.PublicCalls.Call.{carry, start}
+use Rattle.calls.specs.Following.{eventOf, onEvent, ownOutcome, replacement}
 use Rattle.calls.specs.DeclaredNumbers.{DeclaredCall, DeclaredCalls}
 use Rattle.calls.proofs.Follows.{acts-as, entry-acts, calls-keep-good}
 use Rattle.calls.proofs.KeepsDeclared.{calls-keep-declared}
 use Rattle.kept.specs.Shows.{shows}
 use Rattle.kept.specs.Kept.{KeptFrom}
-use Rattle.kept.specs.Amended.{StoreGoesOn, EntryDone, PageNotServed}
-use Rattle.kept.specs.Examples.{lineKey, entering, afterFresh, Examples}
-use Rattle.kept.proofs.AmendedPages.{never-again}
+use Rattle.kept.specs.Amended.{StoreGoesOn, EntryDone, PageServed, PageNotServed}
+use Rattle.kept.specs.Examples.{lineKey, entering, enteringOther, afterFresh, Examples}
+use Rattle.kept.proofs.LeavesSamples.{what-leaves-sample}
+use Rattle.kept.proofs.AmendedPages.{served-while-untouched, never-again}
 
 -- Whoever unfolds this unfolds all definitions that the examples are about.
 unfoldable pub opened : Bool
@@ -105,10 +107,10 @@ shown = refl
 
 done-once-more : EntryDone (entering 180) z result lineKey 180
 unfolding opened eventOf onEvent
-done-once-more = (
-  refl,
-  (onEvent (enters result lineKey 180) z .answer, acts-as (entering 180) (enters result lineKey 180) refl (entry-acts result lineKey 180) .answers z, refl),
-)
+done-once-more = (refl, (onEvent (enters result lineKey 180) z .answer, says, refl))
+  where
+    says : answerTo (entering 180) z ≡ some (onEvent (enters result lineKey 180) z .answer)
+    says = acts-as (entering 180) (enters result lineKey 180) refl (entry-acts result lineKey 180) .answers z
 
 -- So whatever is called after it, the page of 180 is never served again.
 pub same-value-never-again : (later : List Call) → DeclaredCalls (entering 180 ∷ later)
@@ -118,3 +120,30 @@ pub same-value-never-again : (later : List Call) → DeclaredCalls (entering 180
 same-value-never-again later ds on kept notice begun =
     never-again z good declared (entering 180 ∷ later) ds on 1 (lit≤ tt) kept notice begun 1 (lit≤ tt) (180, 1) shown result 180
     (record { before = []; call = entering 180; later = later; parts = refl; entry = unfold storeAfterAll in done-once-more })
+
+-- A carry, an entry of sample 2 and the start of a search leave sample 1 alone, whatever they answer: so the page of 180 is served after them.
+pub served-after-others : (kept notice : RefT (List ℕ)) → KeptFrom (afterFresh 1 (entering 180 ∷ [])) 1 (kept .now)
+    → PageServed (afterFresh 1 (entering 180 ∷ [])) (afterFresh 1 (entering 180 ∷ carry 0 0 ∷ enteringOther ∷ start lineKey ∷ [])) 1 kept notice
+unfolding hasValue storeAfterAll eventOf replacement ownOutcome
+served-after-others kept notice begun =
+    served-while-untouched z good declared calls typed (inl refl, (inl refl, (inl refl, tt))) 1 (lit≤ tt) kept notice begun (
+      what-leaves-sample 1 (carry 0 0) z .carries-leave 0 0 refl,
+      (
+        what-leaves-sample 1 enteringOther (storeAfter (carry 0 0) z) .other-samples result 2 1 7 (lit≤ tt) (λ e. omega (arith, e)) refl,
+        (what-leaves-sample 1 (start lineKey) (storeAfter enteringOther (storeAfter (carry 0 0) z)) .starts-leave lineKey refl, tt),
+      ),
+    )
+  where
+    calls : List Call
+    calls = carry 0 0 ∷ enteringOther ∷ start lineKey ∷ []
+
+    typed : DeclaredCalls calls
+    typed c m = go (List·Memᴰ·cases-cons m)
+      where
+        last : (c ≡ enteringOther) ⊎ List·Memᴰ c (start lineKey ∷ []) → DeclaredCall c
+        last (inl e) = subst DeclaredCall (sym e) (lit≤ tt, lit≤ tt)
+        last (inr m) = subst DeclaredCall (sym (List·Memᴰ·eq-of-singleton m)) tt
+
+        go : (c ≡ carry 0 0) ⊎ List·Memᴰ c (enteringOther ∷ start lineKey ∷ []) → DeclaredCall c
+        go (inl e) = subst DeclaredCall (sym e) tt
+        go (inr m) = last (List·Memᴰ·cases-cons m)

@@ -1,26 +1,18 @@
--- The steps of the C interface that are entries, by their numbers and answers.
-use mathlib.Core.Path.{_≡_, refl, sym, ap, _∙_}
+-- The steps of the C interface that are entries, by their numbers.
+use mathlib.Core.Path.{_≡_, refl}
 use mathlib.Core.Bool.{Bool, true, false, cond}
 use mathlib.Core.List.{[], _∷_}
-use mathlib.Core.Logic.{_⊎_, inl, inr}
-use mathlib.Core.Option.{some}
 use Prim.Native.Nat.{ℕ}
 use lib.Dec.{eqb}
 use borrow.Author.Tests.{eqb-true}
-use Rattle.store.specs.declared.Answer.{Answer}
-use Rattle.store.specs.declared.Outcome.{Outcome}
-use Rattle.store.specs.declared.Store.{Store}
 use Rattle.store.specs.Copies.{Kind}
 use Rattle.store.specs.Copies.Kind.{withdrawn, result}
 use Rattle.theory.specs.Events.{Event}
 use Rattle.theory.specs.Events.Event.{enters, carries, starts, steps, cancels, asks}
 use Rattle.schedule.specs.Schedule.{ENTER, WITHDRAW, CARRY, START, STEP, CANCEL, stepRecord}
-use Rattle.schedule.specs.Running.{runOutcome}
-use Rattle.export.specs.Promises.{StepsBehind}
-use Rattle.calls.specs.PublicCalls.{Call, answerTo}
+use Rattle.calls.specs.PublicCalls.{Call}
 use Rattle.calls.specs.PublicCalls.Call.{fresh, run}
-use Rattle.calls.specs.Following.{eventOfRecord, eventOf, onEvent}
-use Rattle.calls.proofs.Follows.{run-as, acts-as, entry-acts}
+use Rattle.calls.specs.Following.{eventOfRecord, eventOf}
 use Rattle.kept.specs.EntriesBehind.{stepNumber}
 
 -- The public call in the place of a step.
@@ -65,17 +57,3 @@ pub or-fresh-asks : (b : Bool) (c : Call) → eventOf c ≡ asks → eventOf (co
 unfolding eventOf
 or-fresh-asks true c is = is
 or-fresh-asks false c is = refl
-
--- What an entry's step gave is the answer of the call in its place.
-pub step-answer : (number x y : ℕ) (r : Answer) (z leaves : Store) → StepsBehind z number x y r leaves → (kind : Kind) (k v : ℕ)
-    → eventOf (stepRun number x y) ≡ enters kind k v → answerTo (stepRun number x y) z ≡ some r
-unfolding runOutcome eventOf
-step-answer number x y r z leaves does kind k v is =
-    acts-as (stepRun number x y) (enters kind k v) is (entry-acts kind k v) .answers z
-    ∙ ap some (sym (does .0 ∙ go (run-as z (stepRecord number x y ∷ []) 0)))
-  where
-    go : (runOutcome z (stepRecord number x y ∷ []) 0 ≡ onEvent (eventOf (stepRun number x y)) z)
-        ⊎ ((eventOf (stepRun number x y) ≡ asks) × (runOutcome z (stepRecord number x y ∷ []) 0 .store ≡ z))
-        → runOutcome z (stepRecord number x y ∷ []) 0 .answer ≡ onEvent (enters kind k v) z .answer
-    go (inl e) = ap (λ (o : Outcome). o .answer) (e ∙ ap (λ (d : Event). onEvent d z) is)
-    go (inr w) = absurd (entry-acts kind k v (sym is ∙ w .0))
