@@ -7,7 +7,7 @@ use native.Mathlib.Omega.{arith}
 use lib.ListN.{length, set}
 use lib.Seq.{getD-set-same, getD-set-other}
 use Rattle.lists.proofs.Truths.{bool?}
-use Rattle.lists.proofs.Options.{not-none-and-some}
+use Rattle.lists.proofs.Options.{not-none-and-some, one-some}
 use Rattle.plan.specs.Plan.{Plan}
 use Rattle.plan_table.specs.PlanTable.{planNumbered}
 use Rattle.store.specs.declared.Answer.{Answer}
@@ -166,8 +166,21 @@ module _ (z : Store) (slot : ℕ) {r : Outcome} (e : Steps z slot r) where
 
       go : {w : Effect} → Visit slot (planOf z) (stateOf z) w → r .answer ≡ w .answer → r .store ≡ storeOf (z .plan) (w .after) → EndedSearch z slot r
       go (finds x f) says leaves =
-          record { answered = rw f says; last = λ g. absurd (not-none-and-some g f); stored = only-slot z (v .good) slot idle (v .inside) leaves }
-      go (never f g) says leaves = record { answered = rw f says; last = λ _. g; stored = only-slot z (v .good) slot idle (v .inside) leaves }
+          record {
+            found = λ y g. rw (one-some g f) says;
+            never = λ g. absurd (not-none-and-some g f);
+            last = λ g. absurd (not-none-and-some g f);
+            answered = rw f says;
+            stored = only-slot z (v .good) slot idle (v .inside) leaves;
+          }
+      go (never f g) says leaves =
+          record {
+            found = λ x k. absurd (not-none-and-some f k);
+            never = λ _. says;
+            last = λ _. g;
+            answered = rw f says;
+            stored = only-slot z (v .good) slot idle (v .inside) leaves;
+          }
       go (goes f t g) says leaves = absurd (omega (arith, ap (λ (x : Answer). x .number) says))
 
 pub cancel-accepted : (z : Store) (slot : ℕ) {r : Outcome} → Cancels z slot r → r .answer .number ≡ DONE → Cancelled z slot r

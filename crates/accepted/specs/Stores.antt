@@ -2,11 +2,12 @@
 use mathlib.Core.Path.{_≡_}
 use mathlib.Core.List.{[]}
 use mathlib.Core.Logic.{_≢_}
-use mathlib.Core.Option.{none}
+use mathlib.Core.Option.{none, some}
 use Prim.Native.Nat.{ℕ, suc, _<_}
 use lib.ListN.{getD, set}
 use Rattle.plan.specs.declared.Hop.the-variants.{To, Ends}
 use Rattle.plan.specs.Plan.{next}
+use Rattle.store.specs.declared.Copy.{Copy}
 use Rattle.store.specs.declared.Outcome.{Outcome}
 use Rattle.store.specs.declared.Slot.{Slot}
 use Rattle.store.specs.declared.Store.{Store}
@@ -54,10 +55,14 @@ pub record WentOn (z : Store) (slot : ℕ) (r : Outcome) : Type 0 where
   pub answered : r .answer ≡ answer GOING node visits 0 0
   pub stored : OnlySlot z slot (running (slotOf z slot .key) node visits) (r .store)
 
--- A step that ends its search: the node's copy of the key and the visits are told; without a copy it is the path's last node. The slot is idle.
+-- A step that ends its search: "0 never, 1 withdrawn or 2 result, then value, stamp, visits" of the node's copy of the key; never only at the end of
+-- the key's path. The slot is idle.
 pub record EndedSearch (z : Store) (slot : ℕ) (r : Outcome) : Type 0 where
-  pub answered : r .answer ≡ ended (line (stateOf z) (slotOf z slot .key) (slotOf z slot .node)) (suc (slotOf z slot .visits))
+  pub found : (x : Copy) → line (stateOf z) (slotOf z slot .key) (slotOf z slot .node) ≡ some x
+      → r .answer ≡ answer DONE (suc (x .kind)) (x .value) (x .stamp) (suc (slotOf z slot .visits))
+  pub never : line (stateOf z) (slotOf z slot .key) (slotOf z slot .node) ≡ none → r .answer ≡ answer DONE 0 0 0 (suc (slotOf z slot .visits))
   pub last : line (stateOf z) (slotOf z slot .key) (slotOf z slot .node) ≡ none → next (planOf z) (slotOf z slot .node) (slotOf z slot .key) ≡ Ends
+  pub answered : r .answer ≡ ended (line (stateOf z) (slotOf z slot .key) (slotOf z slot .node)) (suc (slotOf z slot .visits))
   pub stored : OnlySlot z slot idle (r .store)
 
 -- A cancelled search: DONE with zeros, and the slot is idle.
