@@ -1,10 +1,11 @@
 -- The bytes of a schedule are read back as just its plan and the records of its steps. Assumes nothing.
-use mathlib.Core.Path.{_≡_, refl, sym, ap, _∙_}
+use mathlib.Core.Path.{_≡_, refl, sym, ap, ap₂, _∙_}
 use mathlib.Core.Bool.{Bool, true, false, cond}
-use mathlib.Core.List.{List, [], _∷_, _++_, List·Memᴰ, List·Memᴰ·head, List·Memᴰ·tail}
+use mathlib.Core.List.{List, [], _∷_, _++_, map, List·Memᴰ, List·Memᴰ·head, List·Memᴰ·tail}
 use mathlib.Core.Logic.{_⊎_, inl, inr}
 use Prim.Native.Nat.{ℕ, zero, suc, _<_, _≤_}
 use native.Mathlib.Omega.{arith}
+use lib.Dec.{eqb}
 use lib.ListN.{length, getD, length-append}
 use borrow.Author.Tests.{lt-leb, le-leb}
 use Rattle.lists.specs.Stands.{Stands}
@@ -20,7 +21,8 @@ use Rattle.wire.specs.Reading.{got, numberAt}
 use Rattle.wire.proofs.Chains.{bind-got, check-holds, number-back}
 use Rattle.copies.proofs.CopyTrips.{nothing-stands}
 use Rattle.schedule.specs.declared.Step.{Step}
-use Rattle.schedule.specs.Schedule.{mostSteps, Schedule, knownStep, hasTwo, secondAt, stepAt, stepsAt, scheduleAt}
+use Rattle.schedule.specs.Schedule.{ENTER, WITHDRAW, CARRY, START, STEP, mostSteps, Schedule}
+use Rattle.schedule.specs.Schedule.{knownStep, hasTwo, secondAt, stepAt, stepsAt, scheduleAt}
 use Rattle.schedule.proofs.ScheduleLaws.{known-between, Written}
 use Rattle.refusals.proofs.Fresh.{plan-test}
 use Rattle.accepted.specs.Schedules.{NamedStep, stepNumbers, namedRecord, namedRecords, numbersBytes, stepsBytes, scheduleBytes}
@@ -136,12 +138,34 @@ schedule-back plan steps w =
     ∙ check-holds (planNumberTest plan) PLAN 0 _ (plan-test plan .1 p)
     ∙ bind-got _ _ (steps-back steps mostSteps (w .few) (w .fit) (stands-right (form plan) (stepsBytes steps) h))
 
+-- A step is told by its record,
+toldBy : Step → NamedStep
+toldBy r =
+    cond (eqb (r .number) ENTER) (enter (r .x) (r .y))
+    (cond (eqb (r .number) WITHDRAW) (withdraw (r .x))
+    (cond (eqb (r .number) CARRY) (carry (r .x) (r .y))
+    (cond (eqb (r .number) START) (start (r .x)) (cond (eqb (r .number) STEP) (step (r .x)) (cancel (r .x))))))
+
+told : (x : NamedStep) → toldBy (namedRecord x) ≡ x
+unfolding toldBy
+told (enter key value) = refl
+told (withdraw key) = refl
+told (carry node edge) = refl
+told (start key) = refl
+told (step slot) = refl
+told (cancel slot) = refl
+
+-- and steps are by theirs.
+all-told : (xs : List NamedStep) → map toldBy (namedRecords xs) ≡ xs
+all-told [] = refl
+all-told (x ∷ xs) = ap₂ (λ (y : NamedStep) (ys : List NamedStep). y ∷ ys) (told x) (all-told xs)
+
 -- Two schedules with the same bytes are one.
 pub schedules-apart : (plan other : ℕ) (steps others : List NamedStep) → IsSchedule plan steps → IsSchedule other others
-    → scheduleBytes plan steps ≡ scheduleBytes other others → (plan ≡ other) × (namedRecords steps ≡ namedRecords others)
+    → scheduleBytes plan steps ≡ scheduleBytes other others → (plan ≡ other) × (steps ≡ others)
 schedules-apart plan other steps others w v e =
     let a = schedule-back plan steps w in
     let b = schedule-back other others v in
     let c : scheduleAt (scheduleBytes plan steps) ≡ scheduleAt (scheduleBytes other others) = ap scheduleAt e in
     let d : _≡_ {A = Schedule} (record { plan = plan; steps = namedRecords steps }) (record { plan = other; steps = namedRecords others }) = cc in
-    (ap (λ (x : Schedule). x .plan) d, ap (λ (x : Schedule). x .steps) d)
+    (ap (λ (x : Schedule). x .plan) d, sym (all-told steps) ∙ ap (λ (x : Schedule). map toldBy (x .steps)) d ∙ all-told others)
