@@ -1,4 +1,4 @@
--- The check alone: DONE exactly when all store rules hold, and else BADSTORE. Assumes nothing.
+-- The check alone: DONE exactly when all store rules hold, and else BADSTORE.
 use mathlib.Core.Path.{_≡_, ap, _∙_}
 use mathlib.Core.Bool.{true, false}
 use mathlib.Core.Logic.{_⊎_, inl, inr, _↔_}

@@ -1,4 +1,4 @@
--- An image is at most 1931 bytes long, of whichever good store. Assumes nothing.
+-- An image is at most 1931 bytes long, of whichever good store.
 use mathlib.Core.Path.{_≡_, refl}
 use mathlib.Core.Bool.{true}
 use mathlib.Core.List.{List, [], _∷_}

@@ -1,4 +1,4 @@
--- A good store with an image of 1931 bytes: a full one of plan 1. By computing. Assumes nothing.
+-- A good store with an image of 1931 bytes: a full one of plan 1. By computing.
 use mathlib.Core.Path.{_≡_, refl}
 use mathlib.Core.Bool.{true}
 use mathlib.Core.List.{List, [], _∷_}

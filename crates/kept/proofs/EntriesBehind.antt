@@ -15,8 +15,8 @@ use Rattle.calls.specs.PublicCalls.{Call, accepted, answerIn, answerTo, storeAf
 use Rattle.calls.specs.PublicCalls.Call.{fresh, load}
 use Rattle.calls.specs.Following.{eventOf}
 use Rattle.calls.proofs.Follows.{entry-acts}
-use Rattle.behind.specs.Behind.{CallBehind, MeetsPromise, AllMeet, publicCall, itself}
-use Rattle.behind.specs.Behind.CallBehind.{freshens, steps, looks, saves, loads, pages, serves}
+use Rattle.behind.specs.Behind.{CallBehind, MeetsPromise, AllMeet, publicCall}
+use Rattle.behind.specs.Behind.CallBehind.{freshens, freshensLive, steps, checks, looks, saves, loads, loadsLive, pages, serves}
 use Rattle.behind.proofs.BehindPointers.{call-behind, call-returns}
 use Rattle.kept.specs.Amended.{EntryDone, EntersLine, SampleUntouched}
 use Rattle.kept.specs.EntriesBehind.{stepNumber, EntersBehind, UntouchedBehind}
@@ -25,7 +25,7 @@ use Rattle.kept.proofs.StepEntries.{stepRun, entry-event, Names, event-
 -- What a step gave is the answer of the call in its place.
 step-answer : (number x y : ℕ) (r : Answer) (z leaves : Store) → MeetsPromise (steps number x y r) z leaves
     → answerTo (stepRun number x y) z ≡ some r
-unfolding answerTo itself
+unfolding answerTo
 step-answer number x y r z leaves does = sym (ap answerIn (call-returns (steps number x y r) z leaves does))
 
 -- An entry's step among the calls that answered DONE is an entry among the public calls that answers DONE;
@@ -87,6 +87,9 @@ entry-behind (freshens plan r) z next does cs kind k v e =
     absurd (entry-acts kind k v (sym (e .0) ∙ or-fresh-asks (accepted r) (fresh plan) refl))
 entry-behind (loads bytes r) z next does cs kind k v e =
     absurd (entry-acts kind k v (sym (e .0) ∙ or-fresh-asks (accepted r) (load bytes) refl))
+entry-behind (freshensLive plan r) z next does cs kind k v e = absurd (entry-acts kind k v (sym (e .0)))
+entry-behind (loadsLive bytes r) z next does cs kind k v e = absurd (entry-acts kind k v (sym (e .0)))
+entry-behind (checks r) z next does cs kind k v e = absurd (entry-acts kind k v (sym (e .0)))
 entry-behind (looks key r) z next does cs kind k v e = absurd (entry-acts kind k v (sym (e .0)))
 entry-behind (saves before r after) z next does cs kind k v e = absurd (entry-acts kind k v (sym (e .0)))
 entry-behind (pages sample before r after) z next does cs kind k v e = absurd (entry-acts kind k v (sym (e .0)))

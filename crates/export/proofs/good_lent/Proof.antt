@@ -1,4 +1,4 @@
--- `export::good_lent` meets its contract. Assumes nothing.
+-- `export::good_lent` meets its contract.
 use mathlib.Core.Path.{_≡_, sym, _∙_}
 use mathlib.Core.Bool.{true, false}
 use borrow.Author.Needs.{needs}

@@ -1,5 +1,5 @@
 -- `export::olipranj_good` meets its promise: a walk of its MIR by the laws of lending and calling (`Lending.antt`);
--- `good_lent` answers. Assumes nothing.
+-- `good_lent` answers.
 use mathlib.Core.Path.{refl, subst}
 use Prim.Native.Nat.{ℕ}
 use mathlib.Core.List.{[], _∷_, List}

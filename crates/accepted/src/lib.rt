@@ -1,0 +1,1 @@
+// What an accepted call gives: theorems, no code.
