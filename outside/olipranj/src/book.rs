@@ -78,6 +78,7 @@ impl Book {
     }
 
     /// Tries once more what is pending, and gives how many entries still are.
+    #[must_use = "entries may still be pending"]
     pub fn retry(&mut self) -> usize {
         for Pending { line, entry, .. } in self.pending.clone() {
             let _: Taken = self.take(line, entry);

@@ -142,3 +142,29 @@ fn the_capacities_are_the_plans() {
     assert_eq!([0, 4, u32::MAX].map(most_copies), [0; 3]);
     assert_eq!(model::PLANS.len(), 3);
 }
+
+#[test]
+fn no_number_makes_a_call_panic() {
+    let ends = [0, 1, 2, 3, 7, 8, 31, 32, LAST_SAMPLE, LAST_SAMPLE + 1, 1 << 31, u32::MAX - 1, u32::MAX];
+    let numbers = || ends.into_iter().flat_map(|x| ends.map(|y| (x, y)));
+    for (plan, clock) in numbers() {
+        let mut raw = Store::fresh(plan).map_or(Raw::ZERO, |store| store.raw().clone());
+        (raw.plan, raw.clock, raw.counts[0]) = (plan, clock, plan);
+        for (x, y) in numbers() {
+            let _ = (Line::new(x, y), raw.numbered(x, y, x), raw.look(x), raw.page(x, &mut []));
+        }
+        let Ok(mut store) = Store::from_raw(raw) else { continue };
+        for (x, y) in numbers() {
+            let line = Line::of_key(x);
+            let _ = (store.enter(line, y), store.carry(x, y), store.carry(0, 0), store.start(line));
+            let _ = (store.step(x), store.cancel(y), store.look(line), store.page(y));
+            let _ = (store.still_true(x, &[]), store.lines(), store.copies(), store.save_to_vec());
+        }
+        let mut book = Book::new(store);
+        for (x, y) in numbers() {
+            let _ =
+                (book.enter(Line::of_key(x), y), book.withdraw(Line::of_key(y)), book.retry(), book.anew(x));
+            let _ = (book.look(Line::of_key(y)), book.page(x), book.still_true(y, &[1]));
+        }
+    }
+}
