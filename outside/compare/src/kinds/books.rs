@@ -46,6 +46,7 @@ pub fn case(random: &mut Random, pair: &mut Pair) -> Result<(), Difference> {
     }
     same("entries still pending", &mirror.pending.len(), &book.retry())?;
     overnight(random, &mirror, &book)?;
+    elsewhere(random, &mirror, &book)?;
     anew(a_plan(random), &mirror, &book)
 }
 
@@ -62,6 +63,28 @@ fn overnight(random: &mut Random, mirror: &Mirror, book: &Book) -> Result<(), Di
         Ok(book) => morning.holds(&book),
         Err(refusal) => same("a damaged image", &answer.number, &refusal.answer().number),
     }
+}
+
+/// What is pending goes on beside a fresh store, where there is room for some of it.
+fn elsewhere(random: &mut Random, mirror: &Mirror, book: &Book) -> Result<(), Difference> {
+    let plan = a_plan(random);
+    let pending = mirror.pending.clone();
+    let mut other =
+        Mirror { store: model::Store::empty(plan), wanted: pending.clone(), pending: pending.clone() };
+    let image = Store::fresh(plan).and_then(|store| store.save_to_vec()).map_err(refused)?;
+    let mut book = Book::load(&Saved { image, pending: book.pending().to_vec() }).map_err(refused)?;
+    for &key in pending.keys().take(random.below(9)) {
+        let entry = entry(random);
+        let answer = other.take(key, entry);
+        other.took(answer, book.take(Line::of_key(key), entry))?;
+        other.holds(&book)?;
+        other.look(key, &book)?;
+    }
+    for pending in book.pending() {
+        other.take(pending.line.key(), pending.entry);
+    }
+    same("still pending elsewhere", &other.pending.len(), &book.retry())?;
+    other.holds(&book)
 }
 
 /// Entered anew, each line has its last entry, held or pending; pending only if there is no room.
