@@ -16,6 +16,7 @@ struct Both {
     shelf: Shelf,
     mirrors: BTreeMap<u32, Mirror>,
     plan: u32,
+    samples: NonZeroU32,
     kept: BTreeMap<u32, Vec<u8>>,
 }
 
@@ -23,7 +24,7 @@ pub fn case(random: &mut Random, pair: &mut Pair) -> Result<(), Difference> {
     let plan = a_plan(random);
     let samples = NonZeroU32::new(random.pick(&[1, 2, 4, 7, 1000])).expect("not 0");
     let shelf = Shelf::new(plan, samples).map_err(refused)?;
-    let mut both = Both { shelf, mirrors: BTreeMap::new(), plan, kept: BTreeMap::new() };
+    let mut both = Both { shelf, mirrors: BTreeMap::new(), plan, samples, kept: BTreeMap::new() };
     let first = random.pick(&[0, 67_108_860, 134_217_700]);
     let (spread, analytes) = (random.pick(&[1, 6, 28]), random.pick(&[2, 32]));
     late(random, &mut both, first)?;
@@ -42,7 +43,7 @@ fn late(random: &mut Random, both: &mut Both, sample: u32) -> Result<(), Differe
     if random.once_in(3) {
         let mut store = model::Store::empty(both.plan);
         store.clock = model::LAST_CLOCK - random.small(6);
-        let number = both.shelf.number(sample);
+        let number = sample / both.samples;
         let book = Book::new(Store::from_raw(to_raw(&store)).map_err(refused)?);
         both.shelf.put(number, book).map_err(refused)?;
         both.mirrors.insert(number, Mirror::new(store));
@@ -53,7 +54,7 @@ fn late(random: &mut Random, both: &mut Both, sample: u32) -> Result<(), Differe
 impl Both {
     fn mirror(&self, sample: u32) -> Mirror {
         let fresh = || Mirror::new(model::Store::empty(self.plan));
-        self.mirrors.get(&self.shelf.number(sample)).cloned().unwrap_or_else(fresh)
+        self.mirrors.get(&(sample / self.samples)).cloned().unwrap_or_else(fresh)
     }
 
     /// Takes an entry on both sides and gives the answer's number.
@@ -64,7 +65,7 @@ impl Both {
         mirror.took(answer, self.shelf.take(Line::of_key(key), entry))?;
         mirror.holds(self.shelf.book(key / 32))?;
         mirror.look(key, &self.shelf)?;
-        self.mirrors.insert(self.shelf.number(key / 32), mirror);
+        self.mirrors.insert(key / 32 / self.samples, mirror);
         self.shown(key / 32)?;
         Ok(answer.number)
     }
