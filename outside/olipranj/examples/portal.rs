@@ -4,7 +4,7 @@
 use std::error::Error;
 use std::num::NonZeroU32;
 
-use olipranj::{Book, Line, NoPage, Shelf, Taken};
+use olipranj::{Book, Line, NoPage, Saved, Shelf, Taken};
 
 const HARDNESS: u32 = 1;
 const IRON: u32 = 2;
@@ -30,9 +30,9 @@ fn main() -> Result<(), Box<dyn Error>> {
         println!("page of sample 7, anew:   line {} is {}, stamp {}", line.line, line.value, line.stamp);
     }
 
-    let evening = book.save()?;
-    println!("saved in {} bytes, {} entries pending", evening.image.len(), evening.pending.len());
-    let morning = Book::load(&evening)?;
+    let evening = book.save()?.to_bytes();
+    println!("saved in {} bytes, {} entries pending", evening.len(), book.pending().len());
+    let morning = Book::load(&Saved::read(&evening)?)?;
     assert_eq!(morning.serve(7, page.bytes(), NOTICE), page.bytes());
     refused(morning)?;
     shelf()

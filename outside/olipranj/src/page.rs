@@ -3,6 +3,7 @@
 use std::error::Error;
 use std::fmt;
 
+use crate::number::{self, Unread};
 use crate::{Line, Stamp, ANALYTES, LAST_SAMPLE};
 
 /// A sample's page, as the store made it: bytes to keep.
@@ -109,7 +110,11 @@ impl<'a> PageLines<'a> {
     /// The next number, if it is not above a bound.
     fn number(&mut self, most: u32, fault: fn(usize) -> PageFault) -> Result<u32, PageFault> {
         let begin = self.at;
-        let (number, length) = read_number(self.bytes.get(begin..).unwrap_or(&[]), begin)?;
+        let (number, length) =
+            number::read(self.bytes.get(begin..).unwrap_or(&[])).map_err(|unread| match unread {
+                Unread::Cut => PageFault::Cut(begin),
+                Unread::Number => PageFault::Number(begin),
+            })?;
         self.at += length;
         if number > most {
             return Err(fault(begin));
@@ -154,19 +159,4 @@ impl Iterator for PageLines<'_> {
         }
         Some(line)
     }
-}
-
-/// Reads the number that bytes begin with: the number, and how many bytes it takes. The offset is for faults.
-fn read_number(bytes: &[u8], offset: usize) -> Result<(u32, usize), PageFault> {
-    let mut number = 0;
-    for (at, &byte) in bytes.iter().take(5).enumerate() {
-        if at == 4 && byte > 0x0f || at > 0 && byte == 0 {
-            return Err(PageFault::Number(offset));
-        }
-        number |= u32::from(byte & 0x7f) << (7 * at);
-        if byte < 0x80 {
-            return Ok((number, at + 1));
-        }
-    }
-    Err(PageFault::Cut(offset))
 }

@@ -34,15 +34,6 @@ pub enum Current {
     Pending(Entry),
 }
 
-/// What is to be kept overnight: a store's image, and what is pending.
-#[must_use]
-#[derive(Clone, Debug, PartialEq, Eq)]
-#[allow(missing_docs)]
-pub struct Saved {
-    pub image: Vec<u8>,
-    pub pending: Vec<Pending>,
-}
-
 /// Why there is no page.
 #[derive(Clone, Copy, Debug, PartialEq, Eq)]
 pub enum NoPage {

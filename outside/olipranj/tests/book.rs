@@ -122,6 +122,23 @@ fn what_is_pending_outlives_the_night() {
 }
 
 #[test]
+fn what_is_saved_has_bytes_and_each_fault_its_offset() {
+    let mut book = late(1, 0);
+    refusal(book.enter(line(1, 1), 180));
+    refusal(book.withdraw(line(7, 1)));
+    let saved = book.save().expect("a good store");
+    let bytes = saved.to_bytes();
+    assert_eq!(bytes[..10], [1, 33, 0xB4, 1, 4, 2, 0xE1, 1, 4, 0]);
+    assert_eq!(Saved::read(&bytes), Ok(saved));
+    (0..10).for_each(|end| assert!(matches!(Saved::read(&bytes[..end]), Err(SavedFault::Cut(_)))));
+    assert!(Saved::read(&bytes[..11]).is_ok_and(|cut| Book::load(&cut).is_err()));
+    assert_eq!(Saved::read(&[3]), Err(SavedFault::Step(0)));
+    assert_eq!(Saved::read(&[1, 0x80, 0]), Err(SavedFault::Number(1)));
+    assert_eq!(Saved::read(&[2, 9, 1]), Err(SavedFault::Refusal(2)));
+    assert_eq!(SavedFault::Refusal(2).to_string(), "offset 2: no refusal has this number");
+}
+
+#[test]
 fn an_accepted_entry_ends_what_was_pending_for_its_line() {
     let mut book = full(1);
     let wanted = book.pending()[0].line;

@@ -53,6 +53,7 @@ pub fn case(random: &mut Random, pair: &mut Pair) -> Result<(), Difference> {
 /// What is saved is loaded as it was, without searches; an image that is refused is refused by both.
 fn overnight(random: &mut Random, mirror: &Mirror, book: &Book) -> Result<(), Difference> {
     let saved = book.save().map_err(refused)?;
+    same("what is saved, by its bytes", &Ok(saved.clone()), &Saved::read(&saved.to_bytes()))?;
     let mut morning = mirror.clone();
     same("the image loads", &true, &model::load(&mut morning.store, &saved.image).is_done())?;
     morning.holds(&Book::load(&saved).map_err(refused)?)?;
