@@ -5,7 +5,7 @@ use std::hint::black_box;
 use crate::measure::both;
 use crate::stores::{line, make, Fill, FILLS};
 
-type OnLibrary = Box<dyn FnMut(&mut olipranj::Store) -> olipranj::Answer>;
+type OnLibrary = Box<dyn FnMut(&mut olipranj::Raw) -> olipranj::Answer>;
 type OnModel = Box<dyn FnMut(&mut model::Store) -> model::Answer>;
 
 /// A call to measure, on both sides.
@@ -17,21 +17,21 @@ struct Row {
 
 fn row(
     name: &'static str,
-    library: impl FnMut(&mut olipranj::Store) -> olipranj::Answer + 'static,
+    library: impl FnMut(&mut olipranj::Raw) -> olipranj::Answer + 'static,
     model: impl FnMut(&mut model::Store) -> model::Answer + 'static,
 ) -> Row {
     Row { name, library: Box::new(library), model: Box::new(model) }
 }
 
 /// The same store on the library's side.
-pub fn raw(store: &model::Store) -> olipranj::Store {
+pub fn raw(store: &model::Store) -> olipranj::Raw {
     let slot = |slot: model::Slot| olipranj::Slot {
         running: slot.running,
         key: slot.key,
         node: slot.node,
         visits: slot.visits,
     };
-    olipranj::Store::from_raw(olipranj::Raw {
+    olipranj::Raw {
         plan: store.plan,
         clock: store.clock,
         counts: store.counts,
@@ -40,7 +40,7 @@ pub fn raw(store: &model::Store) -> olipranj::Store {
         values: store.values,
         stamps: store.stamps,
         slots: store.slots.map(slot),
-    })
+    }
 }
 
 /// Steps, looks and a fresh store.
@@ -49,7 +49,7 @@ fn steps(plan: u32) -> Vec<Row> {
     let deep = line(9);
     let new = line(100_000);
     vec![
-        row("fresh", move |s| s.fresh_over(plan), move |s| model::fresh(s, plan)),
+        row("fresh", move |s| s.fresh_here(plan), move |s| model::fresh(s, plan)),
         row("enter, a held line", move |s| s.enter(held, 7), move |s| model::enter(s, held, 7)),
         row("enter, a new line", move |s| s.enter(new, 7), move |s| model::enter(s, new, 7)),
         row("withdraw", move |s| s.withdraw(held), move |s| model::withdraw(s, held)),
@@ -79,7 +79,7 @@ fn bytes(store: &model::Store) -> Vec<Row> {
     let [mut a, mut b, mut c, mut d] = [[0; 2000]; 4];
     vec![
         row("save", move |s| s.save(&mut a), move |s| model::save(s, &mut b)),
-        row("load", move |s| s.load_over(&image), move |s| model::load(s, &image_too)),
+        row("load", move |s| s.load_here(&image), move |s| model::load(s, &image_too)),
         row("page", move |s| s.page(0, &mut c), move |s| model::page(s, 0, &mut d)),
         row(
             "serve, a true page",
@@ -96,7 +96,7 @@ fn answer(row: &mut Row, store: &model::Store) -> olipranj::Number {
     let model = (row.model)(&mut store.clone());
     let same = [model.a, model.b, model.c, model.d] == [library.a, library.b, library.c, library.d];
     assert!(same && model.number == library.number, "{}: {model:?} {library:?}", row.name);
-    library.name()
+    library.name().expect("an answer number")
 }
 
 /// Both times, their ratio, and the answer if it is not DONE.
@@ -124,7 +124,7 @@ fn rows(plan: u32, store: &model::Store) -> Vec<Row> {
 
 /// The check of all store rules alone.
 fn print_check(plan: u32, stores: &[model::Store; 3]) {
-    let good = |store: &olipranj::Store| store.raw().good().is_done();
+    let good = |store: &olipranj::Raw| store.good().is_done();
     let cells = stores.each_ref().map(|store| {
         assert!(good(&raw(store)) && model::good(store));
         let (ours, plain) = both(

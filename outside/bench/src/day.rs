@@ -61,7 +61,7 @@ fn day(portal: &mut dyn Portal) -> Day {
 type Open = fn() -> Option<Box<dyn Portal>>;
 
 const PORTALS: [(&str, Open); 4] = [
-    ("library", || Some(Box::new(olipranj::Store::fresh(1).ok()?))),
+    ("library", || Some(Box::new(olipranj::Store::fresh(1).ok()?.raw().clone()))),
     ("model", || Some(Box::new(model::Store::empty(1)))),
     ("SQLite", || Some(Box::new(Sqlite::open()?))),
     ("LevelDB", || Some(Box::new(LevelDb::open()?))),

@@ -23,7 +23,7 @@ fn batch<S: Clone>(base: &S, call: &mut dyn FnMut(&mut S)) -> f64 {
 
 /// The best batch of each side.
 pub fn both(
-    library: (&olipranj::Store, &mut dyn FnMut(&mut olipranj::Store)),
+    library: (&olipranj::Raw, &mut dyn FnMut(&mut olipranj::Raw)),
     model: (&model::Store, &mut dyn FnMut(&mut model::Store)),
 ) -> (f64, f64) {
     let mut best = (f64::MAX, f64::MAX);

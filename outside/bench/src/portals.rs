@@ -12,22 +12,22 @@ pub trait Portal {
     fn serve(&mut self, sample: u32, kept: &[u8]) -> usize;
 }
 
-impl Portal for olipranj::Store {
+impl Portal for olipranj::Raw {
     fn enter(&mut self, key: u32, value: u32) {
-        if !olipranj::Store::enter(self, key, value).is_done() {
+        if !olipranj::Raw::enter(self, key, value).is_done() {
             for node in [2, 1, 0] {
-                self.carry(node, 0);
+                assert!(self.carry(node, 0).is_done());
             }
-            assert!(olipranj::Store::enter(self, key, value).is_done());
+            assert!(olipranj::Raw::enter(self, key, value).is_done());
         }
     }
 
     fn look(&mut self, key: u32) -> Option<u32> {
-        olipranj::Store::look(self, key).result().map(|(value, _)| value as u32)
+        olipranj::Raw::look(self, key).result().map(|(value, _)| value as u32)
     }
 
     fn page(&mut self, sample: u32, buffer: &mut [u8]) -> usize {
-        olipranj::Store::page(self, sample, buffer).a as usize
+        olipranj::Raw::page(self, sample, buffer).a as usize
     }
 
     fn serve(&mut self, sample: u32, kept: &[u8]) -> usize {

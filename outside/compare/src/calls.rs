@@ -21,7 +21,7 @@ pub enum Call {
 /// The same store on both sides.
 pub struct Pair {
     pub model: model::Store,
-    pub library: olipranj::Store,
+    pub library: olipranj::Raw,
     /// How often each answer number was given.
     pub tally: [u64; 20],
     pub record: Option<Record>,
@@ -66,7 +66,7 @@ pub fn to_raw(store: &model::Store) -> olipranj::Raw {
     }
 }
 
-fn to_answer(answer: model::Answer) -> olipranj::Answer {
+pub fn to_answer(answer: model::Answer) -> olipranj::Answer {
     let model::Answer { number, a, b, c, d } = answer;
     olipranj::Answer { number, a, b, c, d }
 }
@@ -92,15 +92,14 @@ fn lend(bytes: &[u8], call: impl FnOnce(&mut [u8]) -> olipranj::Answer) -> Outco
 
 impl Pair {
     pub fn new(store: model::Store, record: Option<Record>) -> Pair {
-        let mut pair =
-            Pair { library: olipranj::Store::from_raw(to_raw(&store)), model: store, tally: [0; 20], record };
+        let mut pair = Pair { library: to_raw(&store), model: store, tally: [0; 20], record };
         pair.put(pair.model.clone());
         pair
     }
 
     /// Lays the same store down on both sides.
     pub fn put(&mut self, store: model::Store) {
-        self.library = olipranj::Store::from_raw(to_raw(&store));
+        self.library = to_raw(&store);
         self.model = store;
         if let Some(record) = &mut self.record {
             record.put(&self.model);
@@ -127,12 +126,12 @@ impl Pair {
     fn on_library(&mut self, call: &Call) -> Outcome {
         let store = &mut self.library;
         match call {
-            Call::Fresh(plan) => lend(&[], |_| store.fresh_over(*plan)),
+            Call::Fresh(plan) => lend(&[], |_| store.fresh_here(*plan)),
             Call::Step(number, x, y) => lend(&[], |_| by_name(store, *number, *x, *y)),
-            Call::Good => lend(&[], |_| store.raw().good()),
+            Call::Good => lend(&[], |_| store.good()),
             Call::Look(key) => lend(&[], |_| store.look(*key)),
             Call::Save(bytes) => lend(bytes, |buffer| store.save(buffer)),
-            Call::Load(bytes) => lend(bytes, |image| store.load_over(image)),
+            Call::Load(bytes) => lend(bytes, |image| store.load_here(image)),
             Call::Page(sample, bytes) => lend(bytes, |buffer| store.page(*sample, buffer)),
             Call::Serve(sample, bytes) => lend(bytes, |kept| shown(store.true_bytes(*sample, kept))),
         }
@@ -146,12 +145,17 @@ impl Pair {
         if let Some(record) = &mut self.record {
             record.call(&call, &model.answer, &model.bytes[GUARD..model.bytes.len() - GUARD], &self.model);
         }
-        let same = model == library && to_raw(&self.model) == *self.library.raw();
+        let same = model == library && to_raw(&self.model) == self.library;
         if same {
             self.tally[model.answer.number as usize] += 1;
             return Ok(model.answer);
         }
         Err(self.difference(&before, &call, &model, &library))
+    }
+
+    /// The same where the answer does not matter.
+    pub fn same(&mut self, call: Call) -> Result<(), Difference> {
+        self.call(call).map(|_| ())
     }
 
     fn difference(
@@ -169,7 +173,7 @@ impl Pair {
             );
         }
         let ours = words(&to_raw(&self.model));
-        let theirs = words(self.library.raw());
+        let theirs = words(&self.library);
         for (at, (one, other)) in
             ours.iter().zip(&theirs).enumerate().filter(|(_, (one, other))| one != other)
         {
@@ -186,7 +190,7 @@ fn checked(store: &model::Store) -> model::Answer {
 }
 
 /// The wrapper's call for a step's number.
-fn by_name(store: &mut olipranj::Store, number: u32, x: u32, y: u32) -> olipranj::Answer {
+fn by_name(store: &mut olipranj::Raw, number: u32, x: u32, y: u32) -> olipranj::Answer {
     match number {
         1 => store.enter(x, y),
         2 if y == 0 => store.withdraw(x),

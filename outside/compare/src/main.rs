@@ -2,7 +2,8 @@
 //!
 //!     compare [--seed N] [--count N] [--kind KIND] [--case N] [--program PATH] [--write FILE]
 //!
-//! Kinds: steps, images, pages, serve, stores, schedules; without one, all of them, schedules only with a program.
+//! Kinds: steps, images, pages, serve, stores, books, shelves, schedules; without one, all of them, schedules only
+//! with a program.
 //! Each case has random numbers of its own, so a case that differs is run again by its seed, kind and number.
 
 #![forbid(unsafe_code)]
@@ -23,7 +24,10 @@ use calls::{Difference, Pair};
 use random::Random;
 use record::Record;
 
-const KINDS: [&str; 6] = ["steps", "images", "pages", "serve", "stores", "schedules"];
+const KINDS: [&str; 8] = ["steps", "images", "pages", "serve", "stores", "books", "shelves", "schedules"];
+
+/// Kinds with long cases: one for eight of the others.
+const LONG: [&str; 2] = ["books", "shelves"];
 
 struct Options {
     seed: u64,
@@ -70,6 +74,8 @@ fn case(
         ("pages", _) => kinds::pages::case(random, pair),
         ("serve", _) => kinds::serve::case(random, pair),
         ("stores", _) => kinds::stores::case(random, pair, turn),
+        ("books", _) => kinds::books::case(random, pair),
+        ("shelves", _) => kinds::shelves::case(random, pair),
         (_, Some(program)) => kinds::schedules::case(random, pair, program),
         (_, None) => Ok(()),
     }
@@ -80,7 +86,8 @@ fn run(options: &Options, kind: &'static str, pair: &mut Pair) -> Result<(), (u6
     let begun = Instant::now();
     let mut said = begun;
     pair.tally = [0; 20];
-    let cases = options.case.map_or(0..options.count, |case| case..case + 1);
+    let count = options.count.div_ceil(if LONG.contains(&kind) { 8 } else { 1 });
+    let cases = options.case.map_or(0..count, |case| case..case + 1);
     let total = cases.end - cases.start;
     for turn in cases.clone() {
         let mut random = Random::of_case(options.seed, kind, turn);

@@ -1,61 +1,82 @@
-//! A portal's day: results come in, a page is made and kept, a result is amended, and the kept page is shown no more.
+//! A portal's day: results come in, pages are made and kept, a result is amended, and the kept page is shown no more,
+//! not even when the amendment is refused. Then the same with a shelf, for many samples.
 
-use olipranj::{line, Number, Store, LONGEST_IMAGE, LONGEST_PAGE};
+use std::error::Error;
+use std::num::NonZeroU32;
+
+use olipranj::{Book, Line, NoPage, Saved, Shelf, Taken};
 
 const HARDNESS: u32 = 1;
 const IRON: u32 = 2;
 const NOTICE: &[u8] = b"This page is being made anew.";
 
-/// Enters a result. When the top node is full, what it holds is carried down first, from the lowest nodes on.
-fn enter(store: &mut Store, key: u32, value: u32) -> Result<u64, Number> {
-    let mut answer = store.enter(key, value);
-    if answer.name() == Number::Full {
-        for node in [2, 1, 0] {
-            store.carry(node, 0);
-        }
-        answer = store.enter(key, value);
-    }
-    if answer.is_done() {
-        Ok(answer.a)
-    } else {
-        Err(answer.name())
-    }
-}
-
-/// The sample's page as it is now, for the portal to keep.
-fn make_page(store: &Store, sample: u32) -> Vec<u8> {
-    let mut buffer = [0; LONGEST_PAGE];
-    let answer = store.page(sample, &mut buffer);
-    assert!(answer.is_done(), "{:?}", answer.name());
-    buffer[..answer.a as usize].to_vec()
-}
-
-fn main() {
-    let mut store = Store::fresh(1).expect("plan 1 exists");
+fn main() -> Result<(), Box<dyn Error>> {
+    let mut book = Book::fresh(1)?;
     for sample in 1..=20 {
-        enter(&mut store, line(sample, HARDNESS), 100 + sample).expect("room for a day's results");
-        enter(&mut store, line(sample, IRON), sample).expect("room for a day's results");
+        entered(book.enter(Line::new(sample, HARDNESS)?, 100 + sample));
+        entered(book.enter(Line::new(sample, IRON)?, sample));
     }
-    let kept = make_page(&store, 7);
+    let kept = book.page(7)?.into_bytes();
     println!("page of sample 7, kept:   {kept:02X?}");
-    assert_eq!(store.serve(7, &kept, NOTICE), kept);
+    assert_eq!(book.serve(7, &kept, NOTICE), kept);
 
-    let stamp = enter(&mut store, line(7, HARDNESS), 210).expect("an amendment");
-    println!("hardness amended, stamp {stamp}");
-    let shown = store.serve(7, &kept, NOTICE);
-    println!("shown for the kept page:  {}", String::from_utf8_lossy(shown));
+    entered(book.enter(Line::new(7, HARDNESS)?, 210));
+    let shown = book.serve(7, &kept, NOTICE);
+    println!("amended; shown for it:    {}", String::from_utf8_lossy(shown));
     assert_eq!(shown, NOTICE);
-    let kept = make_page(&store, 7);
-    println!("page of sample 7, anew:   {kept:02X?}");
+    let page = book.page(7)?;
+    for line in page.lines()? {
+        let line = line?;
+        println!("page of sample 7, anew:   line {} is {}, stamp {}", line.line, line.value, line.stamp);
+    }
 
-    let mut image = [0; LONGEST_IMAGE];
-    let saved = store.save(&mut image);
-    let evening = &image[..saved.a as usize];
-    let morning = Store::load(evening).expect("a saved store loads");
-    assert_eq!(morning.serve(7, &kept, NOTICE), kept);
-    println!(
-        "saved in {} bytes and loaded; hardness of sample 7: {:?}",
-        saved.a,
-        morning.look(line(7, HARDNESS)).result()
-    );
+    let evening = book.save()?.to_bytes();
+    println!("saved in {} bytes, {} entries pending", evening.len(), book.pending().len());
+    let morning = Book::load(&Saved::read(&evening)?)?;
+    assert_eq!(morning.serve(7, page.bytes(), NOTICE), page.bytes());
+    refused(morning)?;
+    shelf()
+}
+
+/// Says so if an entry is pending. What is pending is kept in the book, and saved with it.
+fn entered(taken: Taken) -> bool {
+    match taken {
+        Taken::Entered(_) => true,
+        Taken::Pending(refusal) => {
+            println!("an entry is pending: {refusal}");
+            false
+        }
+    }
+}
+
+/// Enters new lines until the store is full. An amendment is refused then: its sample shows the notice.
+fn refused(mut book: Book) -> Result<(), Box<dyn Error>> {
+    let mut sample = 100;
+    while entered(book.enter(Line::new(sample, HARDNESS)?, 1)) {
+        sample += 1;
+    }
+    let kept = book.page(7)?.into_bytes();
+    entered(book.enter(Line::new(7, HARDNESS)?, 250));
+    assert_eq!(book.page(7), Err(NoPage::Pending(Line::new(7, HARDNESS)?)));
+    assert_eq!(book.serve(7, &kept, NOTICE), NOTICE);
+    println!("{} copies held, {} pending: the notice", book.store().copies(), book.pending().len());
+    Ok(())
+}
+
+/// Five thousand samples, ten to a book. Each book has an image of its own.
+fn shelf() -> Result<(), Box<dyn Error>> {
+    let mut shelf = Shelf::new(1, NonZeroU32::new(10).ok_or("no samples")?)?;
+    for sample in 0..5000 {
+        assert!(entered(shelf.enter(Line::new(sample, HARDNESS)?, 100 + sample % 100)));
+        assert!(entered(shelf.enter(Line::new(sample, IRON)?, sample % 7)));
+    }
+    let kept = shelf.page(4321)?.into_bytes();
+    let evening = shelf.save()?;
+    let mut morning = Shelf::new(1, NonZeroU32::new(10).ok_or("no samples")?)?;
+    for (number, saved) in &evening {
+        morning.load(*number, saved)?;
+    }
+    assert_eq!(morning.serve(4321, &kept, NOTICE), kept);
+    println!("a shelf of {} books saved and loaded", evening.len());
+    Ok(())
 }

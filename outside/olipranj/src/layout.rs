@@ -1,5 +1,7 @@
 //! The store's data as the header `olipranj.h` declares it.
 
+use std::fmt;
+
 /// The nodes that a store has room for.
 pub const NODES: usize = 8;
 /// The places for copies of each node,
@@ -21,8 +23,11 @@ pub struct Slot {
 }
 
 /// The store's numbers: node n has the places from `NODE_PLACES * n` on, and uses the first, as many as its count says.
+///
+/// Any numbers at all: every call answers BADSTORE if they break a store rule. The plain numbered calls are here; a
+/// [`Store`](crate::Store) has the same calls by type, and only those that keep the store before when refused.
 #[repr(C)]
-#[derive(Clone, Debug, PartialEq, Eq)]
+#[derive(Clone, PartialEq, Eq)]
 #[allow(missing_docs)]
 pub struct Raw {
     pub plan: u32,
@@ -47,4 +52,17 @@ impl Raw {
         stamps: [0; PLACES],
         slots: [Slot { running: 0, key: 0, node: 0, visits: 0 }; SLOTS],
     };
+}
+
+/// Plan, clock, counts and how many searches run; not all 2090 numbers.
+impl fmt::Debug for Raw {
+    fn fmt(&self, f: &mut fmt::Formatter<'_>) -> fmt::Result {
+        let searches = self.slots.iter().filter(|slot| slot.running != 0).count();
+        f.debug_struct("Store")
+            .field("plan", &self.plan)
+            .field("clock", &self.clock)
+            .field("counts", &self.counts)
+            .field("searches", &searches)
+            .finish()
+    }
 }

@@ -10,32 +10,32 @@ pub fn case(random: &mut Random, pair: &mut Pair) -> Result<(), Difference> {
     pair.put(good(random, &keys));
     let needed = pair.call(Call::Save(Vec::new()))?.a as usize;
     for _ in 0..3 {
-        pair.call(Call::Save(buffer(random, needed)))?;
+        pair.same(Call::Save(buffer(random, needed)))?;
     }
     let image = saved(random, pair, needed)?;
-    pair.call(Call::Load(image.clone()))?;
+    pair.same(Call::Load(image.clone()))?;
     if saved(random, pair, needed)? != image {
         return Err(Difference::new("a loaded image saves as other bytes"));
     }
     for _ in 0..6 {
-        pair.call(Call::Load(damaged(random, &image)))?;
+        pair.same(Call::Load(damaged(random, &image)))?;
     }
     for _ in 0..4 {
-        pair.call(Call::Load(renumbered(random, &image)))?;
+        pair.same(Call::Load(renumbered(random, &image)))?;
     }
     if image.len() < 80 {
         for end in 0..image.len() {
-            pair.call(Call::Load(image[..end].to_vec()))?;
+            pair.same(Call::Load(image[..end].to_vec()))?;
         }
     }
-    pair.call(Call::Load(loose(random)))?;
+    pair.same(Call::Load(loose(random)))?;
     Ok(())
 }
 
 /// The image's bytes, from a buffer of exactly their length.
 fn saved(random: &mut Random, pair: &mut Pair, needed: usize) -> Result<Vec<u8>, Difference> {
     let before = random.bytes(needed);
-    pair.call(Call::Save(before))?;
+    pair.same(Call::Save(before))?;
     let mut image = vec![0; needed];
     model::save(&pair.model, &mut image);
     Ok(image)

@@ -1,9 +1,12 @@
 //! The kinds of cases.
 
+pub mod books;
 pub mod images;
+pub mod mirror;
 pub mod pages;
 pub mod schedules;
 pub mod serve;
+pub mod shelves;
 pub mod steps;
 pub mod stores;
 
@@ -29,7 +32,7 @@ pub fn begin(random: &mut Random, pair: &mut Pair, keys: &[u32]) -> Result<(), D
         return Ok(());
     }
     let plan = a_plan(random);
-    pair.call(Call::Fresh(plan)).map(|_| ())
+    pair.same(Call::Fresh(plan))
 }
 
 /// A buffer's bytes before a call: random, of the length needed, near it, or any.

@@ -10,14 +10,14 @@ pub fn case(random: &mut Random, pair: &mut Pair) -> Result<(), Difference> {
     begin(random, pair, &keys)?;
     for _ in 0..random.pick(&[0, 5, 60]) {
         let step = super::steps::step(random, &keys, 4);
-        pair.call(step)?;
+        pair.same(step)?;
     }
     for _ in 0..10 {
         let sample = sample(random, &keys);
         let needed = pair.call(Call::Page(sample, Vec::new()))?.a as usize;
-        pair.call(Call::Page(sample, buffer(random, needed)))?;
-        pair.call(Call::Page(sample, random.bytes(needed)))?;
-        pair.call(Call::Page(sample, random.bytes(model::LONGEST_PAGE)))?;
+        pair.same(Call::Page(sample, buffer(random, needed)))?;
+        pair.same(Call::Page(sample, random.bytes(needed)))?;
+        pair.same(Call::Page(sample, random.bytes(model::LONGEST_PAGE)))?;
     }
     Ok(())
 }

@@ -12,7 +12,7 @@ pub fn case(random: &mut Random, pair: &mut Pair) -> Result<(), Difference> {
     let mut kept: Vec<(u32, Vec<u8>)> = Vec::new();
     for _ in 0..random.pick(&[4, 20, 60]) {
         let step = super::steps::step(random, &keys, 3);
-        pair.call(step)?;
+        pair.same(step)?;
         let sample = sample(random, &keys);
         if random.once_in(2) {
             kept.push((sample, page(pair, sample)?));
@@ -21,7 +21,7 @@ pub fn case(random: &mut Random, pair: &mut Pair) -> Result<(), Difference> {
             serve(random, pair, &kept)?;
         }
     }
-    pair.call(Call::Serve(random.number(), Vec::new())).map(|_| ())
+    pair.same(Call::Serve(random.number(), Vec::new()))
 }
 
 /// The page as it is now; nothing for a sample too large.
@@ -46,5 +46,5 @@ fn serve(random: &mut Random, pair: &mut Pair, kept: &[(u32, Vec<u8>)]) -> Resul
         3 => sample = random.pick(&[sample.wrapping_add(1), 0, u32::MAX, 134_217_728]),
         _ => (),
     }
-    pair.call(Call::Serve(sample, bytes)).map(|_| ())
+    pair.same(Call::Serve(sample, bytes))
 }

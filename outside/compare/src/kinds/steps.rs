@@ -12,7 +12,7 @@ pub fn case(random: &mut Random, pair: &mut Pair) -> Result<(), Difference> {
     let carries = random.pick(&[1, 3, 8]);
     for _ in 0..length {
         let call = call(random, &keys, carries);
-        pair.call(call)?;
+        pair.same(call)?;
     }
     Ok(())
 }
