@@ -5,24 +5,25 @@ use std::io::ErrorKind;
 use std::path::PathBuf;
 
 use evening::{before, framed, image_in, keep, kept};
-use olipranj::{Store, LONGEST_IMAGE};
+use olipranj::Store;
 
 /// The image of a store with results and withdrawn lines in three nodes, small and large numbers.
 fn image() -> Vec<u8> {
-    let mut store = Store::fresh(1).expect("plan 1 exists");
+    let mut store = model::Store::empty(1);
     for number in 0..40 {
-        if store.raw().counts[0] == 8 {
-            for node in [1, 0] {
-                assert_eq!(store.numbered(3, node, 0).number, 0);
-            }
+        if store.counts[0] == 8 {
+            assert!([1, 0].iter().all(|&node| model::carry(&mut store, node, 0).is_done()));
         }
-        let step = if number % 5 == 0 { 2 } else { 1 };
-        assert_eq!(store.numbered(step, number * 33_000_001, number * 50_000_000).number, 0);
+        let (key, value) = (number * 33_000_001, number * 50_000_000);
+        let withdrawn = number % 5 == 0;
+        let entered =
+            if withdrawn { model::withdraw(&mut store, key) } else { model::enter(&mut store, key, value) };
+        assert!(entered.is_done());
     }
-    let mut buffer = [0; LONGEST_IMAGE];
-    let answer = store.save(&mut buffer);
-    assert_eq!(answer.number, 0);
-    buffer[..answer.a as usize].to_vec()
+    let mut buffer = [0; olipranj::LONGEST_IMAGE];
+    let saved = model::save(&store, &mut buffer);
+    assert!(saved.is_done());
+    buffer[..saved.a as usize].to_vec()
 }
 
 /// Each way to flip one bit of the bytes.
@@ -45,6 +46,7 @@ fn folder(name: &str) -> PathBuf {
 #[test]
 fn an_image_alone_cannot_tell() {
     let image = image();
+    assert!(Store::load(&image).is_ok());
     let taken = flipped(&image).filter(|other| Store::load(other).is_ok()).count();
     println!("of {} one-bit faults in an image {taken} load", 8 * image.len());
     assert!(taken > 0);
