@@ -11,9 +11,10 @@ pub struct Picture {
 }
 
 impl Picture {
-    /// A fresh store of the plan; none if there is no such plan.
-    pub fn fresh(plan: u32) -> Option<Picture> {
-        Store::fresh(plan).ok().map(|store| Picture { store })
+    /// A fresh store of the plan.
+    pub fn fresh(plan: u32) -> Result<Picture, String> {
+        let refused = |answer| format!("the library answers {answer:?} to plan {plan}");
+        Store::fresh(plan).map(|store| Picture { store }).map_err(refused)
     }
 
     /// Does a step, and draws the store. The library's answer must be the program's.

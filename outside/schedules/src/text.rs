@@ -102,7 +102,7 @@ impl Reading {
         }
         let Some(place) = FORMS.iter().position(|form| form.name == name) else {
             let names = FORMS.map(|form| form.name).join(", ");
-            return self.wrong(format!("there is no step {name}: steps are {names}"));
+            return self.wrong(format!("there is no step {}: steps are {names}", name.escape_debug()));
         };
         let form = &FORMS[place];
         if words.len() != form.parts.len() {
@@ -147,7 +147,7 @@ fn key(word: &str) -> Result<u32, String> {
 /// A number of 32 bits: digits alone, and no 0 before others.
 fn number(word: &str) -> Result<u32, String> {
     if word.is_empty() || !word.bytes().all(|byte| byte.is_ascii_digit()) {
-        return Err(format!("'{word}' is no number"));
+        return Err(format!("'{}' is no number", word.escape_debug()));
     }
     if word.len() > 1 && word.starts_with('0') {
         return Err(format!("{word} begins with 0"));

@@ -93,5 +93,7 @@ fn one_step_too_many() {
 
 #[test]
 fn bytes_that_are_no_text() {
+    let names = "steps are enter, withdraw, carry, start, step, cancel";
+    assert_eq!(mistakes(b"plan 1\n\x01!")[0], format!("line 2: there is no step \\u{{1}}!: {names}"));
     assert_eq!(mistakes(b"plan 1\nstep \xff\nstep 0"), ["line 2: this is no text: its bytes are not UTF-8"]);
 }

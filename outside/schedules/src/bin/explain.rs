@@ -22,8 +22,9 @@ fn work(schedule: &str, lines: &str, picture: bool) -> Result<(), Failure> {
     let bytes = read(Some(schedule))?;
     let lines = read(Some(lines))?;
     let (plan, told) = explain(&bytes, &String::from_utf8_lossy(&lines)).map_err(Failure::unable)?;
-    let text = told_text(&told, if picture { Picture::fresh(plan) } else { None })?;
-    put(text.as_bytes())
+    let drawn = picture && plan != 0;
+    let picture = drawn.then(|| Picture::fresh(plan)).transpose().map_err(Failure::unable)?;
+    put(told_text(&told, picture)?.as_bytes())
 }
 
 /// The words, and after each step the picture where one is wanted.
