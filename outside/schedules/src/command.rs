@@ -43,9 +43,13 @@ pub fn read(file: Option<&str>) -> Result<Vec<u8>, Failure> {
     read.map(|_| bytes).map_err(|error| Failure::unable(format!("{name} could not be read: {error}")))
 }
 
-/// Writes standard output.
+/// Writes standard output. A reader that has enough, and closes it, is no failure.
 pub fn put(bytes: &[u8]) -> Result<(), Failure> {
     let mut out = io::stdout();
-    let written = out.write_all(bytes).and_then(|()| out.flush());
-    written.map_err(|error| Failure::unable(format!("standard output could not be written: {error}")))
+    match out.write_all(bytes).and_then(|()| out.flush()) {
+        Err(error) if error.kind() != io::ErrorKind::BrokenPipe => {
+            Err(Failure::unable(format!("standard output could not be written: {error}")))
+        }
+        _ => Ok(()),
+    }
 }
