@@ -66,6 +66,7 @@ static size_t read_all(const char *name, uint8_t *bytes, size_t room)
 
 static void write_all(const char *name, const uint8_t *bytes, size_t count)
 {
+    remove(name);
     FILE *file = fopen(name, "wb");
     must(file != NULL && fwrite(bytes, 1, count, file) == count && fclose(file) == 0, "a file is written");
 }

@@ -72,6 +72,7 @@ fn no_damaged_file_is_taken_for_good() {
     for other in flipped(&file).chain((0..file.len()).map(|length| file[..length].to_vec())) {
         fs::write(&name, other).expect("a file");
         assert!(damaged());
+        fs::remove_file(&name).expect("the file goes");
     }
 }
 
