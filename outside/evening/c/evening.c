@@ -105,17 +105,32 @@ static int sync_folder(const char *name)
     return close(file) == 0 && synced ? EVENING_DONE : EVENING_FAILED;
 }
 
-/* Gives the file its second name, while it has the first still. Where both were of one file already, a rename leaves both. */
-static int keep_before(const char *name)
+/* Gives the file a second name, while it has the first still. Where both were of one file already, a rename leaves both. */
+static int second_name(const char *name, const char *tail)
 {
-    char second[PATH_ROOM], before[PATH_ROOM];
+    char second[PATH_ROOM], kept[PATH_ROOM];
     snprintf(second, sizeof second, "%s.second", name);
-    snprintf(before, sizeof before, "%s.before", name);
+    snprintf(kept, sizeof kept, "%s%s", name, tail);
     if (unlink(second) != 0 && errno != ENOENT)
         return EVENING_FAILED;
-    if (link(name, second) != 0 || rename(second, before) != 0)
+    if (link(name, second) != 0 || rename(second, kept) != 0)
         return EVENING_FAILED;
     return unlink(second) == 0 || errno == ENOENT ? EVENING_DONE : EVENING_FAILED;
+}
+
+/* Keeps the file that has the name, if there is one, by whether it is good. */
+static int keep_old(const char *name)
+{
+    uint8_t image[EVENING_IMAGE];
+    size_t length;
+    switch (evening_kept(name, image, sizeof image, &length)) {
+    case EVENING_DONE:
+        return second_name(name, ".before");
+    case EVENING_FAILED:
+        return errno == ENOENT ? EVENING_DONE : EVENING_FAILED;
+    default:
+        return second_name(name, ".damaged");
+    }
 }
 
 int evening_keep(const char *name, const uint8_t *image, size_t length)
@@ -127,11 +142,7 @@ int evening_keep(const char *name, const uint8_t *image, size_t length)
     snprintf(beside, sizeof beside, "%s.new", name);
     if (write_file(beside, bytes, frame(bytes, image, length)) != EVENING_DONE)
         return EVENING_FAILED;
-    uint8_t old[EVENING_IMAGE];
-    size_t old_length;
-    if (evening_kept(name, old, sizeof old, &old_length) == EVENING_DONE && keep_before(name) != EVENING_DONE)
-        return EVENING_FAILED;
-    if (rename(beside, name) != 0)
+    if (keep_old(name) != EVENING_DONE || rename(beside, name) != 0)
         return EVENING_FAILED;
     return sync_folder(name);
 }

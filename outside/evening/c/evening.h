@@ -19,7 +19,8 @@ enum {
 };
 
 /* Keeps an image under the name: writes beside, brings it to the disk, renames. If this fails, the old file or the new one has the name, whole.
-   When it ends well, the new one has it, on the disk, and the one before it, if it was good, has the name with ".before" behind it. */
+   When it ends well, the new one has it, on the disk, and the one that had it is kept: its name has ".before" behind it, or ".damaged" if it
+   was no good evening file. */
 int evening_keep(const char *name, const uint8_t *image, size_t length);
 
 /* Gives the image that was kept under the name, and its length. Nothing here goes back to the file before by itself: it holds older figures,

@@ -99,7 +99,7 @@ static void damage(const char *name)
     must(morning(copy) == EVENING_DONE, "the file itself is good");
 }
 
-static void before_is_kept(const char *name)
+static void old_files_are_kept(const char *name)
 {
     uint8_t first[EVENING_IMAGE], again[EVENING_IMAGE];
     char before[EVENING_NAME];
@@ -110,6 +110,12 @@ static void before_is_kept(const char *name)
     must(evening(name) == EVENING_DONE, "kept again");
     must(evening_kept(before, again, sizeof again, &length_again) == EVENING_DONE, "the file before is kept");
     must(length == length_again && memcmp(first, again, length) == 0, "the file before is the one before");
+    write_all(name, first, length);
+    must(evening(name) == EVENING_DONE, "kept over a damaged file");
+    must(evening_kept(before, again, sizeof again, &length_again) == EVENING_DONE, "the file before stays");
+    must(length == length_again && memcmp(first, again, length) == 0, "the file before is the last good one before");
+    snprintf(before, sizeof before, "%s.damaged", name);
+    must(read_all(before, again, sizeof again) == length && memcmp(first, again, length) == 0, "the damaged file is kept too");
     must(evening_kept(name, again, 3, &length_again) == EVENING_LONG, "too little room is said");
     must(evening_keep(name, first, EVENING_IMAGE + 1) == EVENING_LONG, "an image too long is said");
 }
@@ -122,6 +128,6 @@ int main(int count, char **words)
     a_day();
     must(evening(words[2]) == EVENING_DONE, "kept");
     damage(words[2]);
-    before_is_kept(words[2]);
+    old_files_are_kept(words[2]);
     return 0;
 }

@@ -6,8 +6,9 @@
 //! all that. A file of another length is refused, whatever it holds; a changed bit is found by the checksum.
 //!
 //! The file is written beside the old one, brought to the disk and then renamed ([`keep`]), so that at each moment a
-//! whole file has the name. The file before it is kept under another name ([`before`]). No call here goes back to it by
-//! itself: it holds older figures, and with them pages that were amended since would be served again.
+//! whole file has the name. The file before it is kept under another name ([`before`]), and so is a damaged one
+//! ([`damaged`]). No call here goes back to the file before by itself: it holds older figures, and with them pages that
+//! were amended since would be served again.
 
 #![forbid(unsafe_code)]
 #![warn(missing_docs)]
@@ -17,5 +18,5 @@ mod file;
 mod frame;
 
 pub use checksum::checksum;
-pub use file::{before, keep, kept};
+pub use file::{before, damaged, keep, kept};
 pub use frame::{framed, image_in};

@@ -4,7 +4,7 @@ use std::fs;
 use std::io::ErrorKind;
 use std::path::PathBuf;
 
-use evening::{before, framed, image_in, keep, kept};
+use evening::{before, damaged, framed, image_in, keep, kept};
 use olipranj::Store;
 
 /// The image of a store with results and withdrawn lines in three nodes, small and large numbers.
@@ -67,11 +67,11 @@ fn no_damage_is_taken_for_good() {
 #[test]
 fn no_damaged_file_is_taken_for_good() {
     let name = folder("damaged").join("evening");
-    let damaged = || kept(&name).is_err_and(|error| error.kind() == ErrorKind::InvalidData);
+    let found = || kept(&name).is_err_and(|error| error.kind() == ErrorKind::InvalidData);
     let file = framed(&image());
     for other in flipped(&file).chain((0..file.len()).map(|length| file[..length].to_vec())) {
         fs::write(&name, other).expect("a file");
-        assert!(damaged());
+        assert!(found());
         fs::remove_file(&name).expect("the file goes");
     }
 }
@@ -90,12 +90,13 @@ fn a_file_is_kept_with_the_one_before() {
     keep(&name, b"thursday").expect("kept");
     assert_eq!(kept(&name).expect("the last"), b"thursday");
     assert_eq!(kept(&before(&name)).expect("the last good one before"), b"tuesday");
+    assert_eq!(fs::read(damaged(&name)).expect("the damaged one"), b"damage");
     let mut names: Vec<_> = fs::read_dir(name.parent().expect("a folder"))
         .expect("the folder")
         .map(|entry| entry.expect("a file").file_name())
         .collect();
     names.sort();
-    assert_eq!(names, ["evening", "evening.before"]);
+    assert_eq!(names, ["evening", "evening.before", "evening.damaged"]);
 }
 
 #[test]
@@ -116,6 +117,10 @@ fn what_cannot_be_written_leaves_the_old_file() {
     let name = folder("refused").join("evening");
     keep(&name, b"monday").expect("kept");
     fs::create_dir(beside(&name, ".new")).expect("a folder in the way");
+    assert!(keep(&name, b"tuesday").is_err());
+    assert_eq!(kept(&name).expect("the old file"), b"monday");
+    fs::remove_dir(beside(&name, ".new")).expect("the folder goes");
+    fs::create_dir(before(&name)).expect("a folder in the way");
     assert!(keep(&name, b"tuesday").is_err());
     assert_eq!(kept(&name).expect("the old file"), b"monday");
 }
