@@ -3,7 +3,5 @@ pub mod Values
 pub mod Columns
 pub mod Lending
 pub mod AtOnce
-pub mod LongestImage
-pub mod LongestReached
 pub mod GoodExactly
 pub mod Uniqueness

@@ -29,7 +29,7 @@ use Rattle.store.specs.StoreRules.{
 }
 use Rattle.copies.specs.CopyBytes.{lastValue, valueBytes, copyBytes}
 use Rattle.image_writing.specs.Image.{copiesBytes, nodeBytes, nodesBytes, imageOf, image}
-use Rattle.export.specs.Limits.{mostImageBytes}
+use Rattle.trips.specs.Limits.{mostImageBytes}
 
 -- A full node: results with five-byte keys, values and stamps, from these numbers on.
 unfoldable pub longestNode : ℕ → ℕ → List Copy

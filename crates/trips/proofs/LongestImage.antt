@@ -28,7 +28,7 @@ use Rattle.copies.specs.CopyBytes.{copyBytes}
 use Rattle.copies.proofs.CopyLengths.{value-short, copy-length}
 use Rattle.image_writing.specs.Image.{formatNumber, copiesBytes, nodeBytes, nodesBytes, image}
 use Rattle.image_writing.proofs.ImageLengths.{no-copies, more-copies, node-length, no-nodes, more-nodes, image-length}
-use Rattle.export.specs.Limits.{mostImageBytes}
+use Rattle.trips.specs.Limits.{mostImageBytes}
 
 one-byte : (v : ℕ) → v < 128 → length (form v) ≤ 1
 one-byte v h = form-width v 1 (omega arith) (omega arith) .1 h
