@@ -10,7 +10,7 @@ use Rattle.store.specs.Answers.{DONE, BADSTORE, bare}
 use Rattle.store.specs.StoreRules.{StoreRules, goodStore}
 use Rattle.store.proofs.Lifting.{of-good, of-bad}
 use Rattle.store.proofs.Ruling.{good-rules, rules-good}
-use Rattle.export.specs.Promises.{Checks}
+use Rattle.store.specs.Promises.{Checks}
 
 module _ (z : Store) (r : Answer) (does : Checks z r) where
   done-if : goodStore z ≡ true → r .number ≡ DONE
