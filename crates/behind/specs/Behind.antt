@@ -58,7 +58,7 @@ abbrev pub orFresh : Answer → Call → Call
 orFresh r c = cond (accepted r) c (fresh 1)
 
 -- The public call in the place of a call of the C interface: a step of three numbers is the run of one record, a refused fresh or load at the
--- pointer itself lays down "a fresh store of plan 1", the check alone is a look whose end is not told, and every other call is itself.
+-- pointer itself lays down "a fresh store of plan 1", and every other call is itself.
 unfoldable pub publicCall : CallBehind → Call
 publicCall (freshens plan r) = orFresh r (fresh plan)
 publicCall (freshensLive plan r) = fresh plan

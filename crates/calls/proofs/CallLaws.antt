@@ -14,6 +14,7 @@ use Rattle.store.specs.declared.Store.{Store}
 use Rattle.store.specs.Answers.{DONE, answer}
 use Rattle.store.specs.Copies.{keyOf}
 use Rattle.store.specs.State.{State, nodeAt, line}
+use Rattle.store.specs.StateRules.{StateRules}
 use Rattle.store.specs.Layout.{planOf, countOf, nodeOf, stateOf}
 use Rattle.store.specs.StoreRules.{goodStore}
 use Rattle.store.proofs.Laying.{state-node, state-count}
@@ -21,7 +22,7 @@ use Rattle.store.proofs.Lifting.{of-good, plan-good, state-good}
 use Rattle.steps.specs.Carries.{countHeld}
 use Rattle.steps.specs.Searches.{ended, lookAnswer}
 use Rattle.steps.proofs.LineSteps.{afterCarry}
-use Rattle.steps.proofs.CarryLaws.{carry-after, carry-answer, node-falls, target-rises}
+use Rattle.steps.proofs.CarryLaws.{carry-after, carry-answer, node-falls, target-rises, carried-stands, not-carried, left-no-room}
 use Rattle.steps.proofs.SearchLaws.{SearchEnds, search-is-look}
 use Rattle.steps.proofs.SearchLaws.SearchEnds.{now, later}
 use Rattle.theory.specs.Events.{effect, after, answerOf}
@@ -34,7 +35,7 @@ use Rattle.calls.specs.PublicCalls.Call.{step, reads}
 use Rattle.calls.specs.PublicCalls.ReadOnly.{look}
 use Rattle.calls.specs.Following.{eventOf, eventsOf, sameStore}
 use Rattle.calls.specs.Recent.{currentIn, reachStamp}
-use Rattle.calls.specs.Counts.{CarryCounts}
+use Rattle.calls.specs.Counts.{CarryCounts, CarryMoves}
 use Rattle.calls.proofs.Follows.{
   Acts,
   acts-as,
@@ -106,7 +107,47 @@ look-is-search z good c k i is-start starting =
 
 -- ---- carries
 
--- A carry along an edge of the store's plan, by a record run too: its answer is of the counts before and after it.
+-- The state after a carry along an edge of the store's plan, by a record run too.
+carry-state : (c : Call) (n i : ℕ) → eventOf c ≡ carries n i → (z : Store) → goodStore z ≡ true → IsEdge (planOf z) n i
+    → stateOf (storeAfter c z) ≡ afterCarry (planOf z) n i (stateOf z)
+unfolding effect
+carry-state c n i is z good d =
+    ap stateOf (acts-as c (carries n i) is (carry-acts n i) .leaves z) ∙ event-state (carries n i) z good
+    ∙ carry-after (planOf z) (plan-good z good) (stateOf z) (state-good z good) n i d
+
+-- What it does to the lines.
+pub carry-moves : (c : Call) (n i : ℕ) → eventOf c ≡ carries n i → (z : Store) → goodStore z ≡ true → IsEdge (planOf z) n i
+    → CarryMoves c n i z
+carry-moves c n i is z good d =
+    record {
+      carried = λ k x had gone.
+          told (λ w. line w k t) ∙ carried-stands p rules s rest n i d k x (record { had = had; gone = sym (told (λ w. line w k n)) ∙ gone });
+      others = λ k none-of-it m.
+          told (λ w. line w k m) ∙ not-carried p rules s rest n i d k (λ x q. none-of-it x (q .had) (told (λ w. line w k n) ∙ q .gone)) m;
+      no-room = λ k x stays h.
+          let w = left-no-room p rules s rest n i d k x (sym (told (λ v. line v k n)) ∙ stays) h in
+          (w .0, told (λ v. line v k t) ∙ w .1, told (λ v. length (nodeAt v t)) ∙ w .2);
+    }
+  where
+    p : Plan
+    p = planOf z
+
+    s : State
+    s = stateOf z
+
+    t : ℕ
+    t = edgeOf p n i .target
+
+    rules : PlanRules p
+    rules = plan-good z good
+
+    rest : StateRules p s
+    rest = state-good z good
+
+    told : {A : Type 0} (f : State → A) → f (stateOf (storeAfter c z)) ≡ f (afterCarry p n i s)
+    told f = ap f (carry-state c n i is z good d)
+
+-- Its answer is of the counts before and after it.
 pub carry-counts : (c : Call) (n i : ℕ) → eventOf c ≡ carries n i → (z : Store) → goodStore z ≡ true → IsEdge (planOf z) n i
     → CarryCounts c n i z
 unfolding effect
@@ -142,7 +183,7 @@ carry-counts c n i is z good d =
     down = rules .target-greater-and-exists n i d
 
     state-y : stateOf y ≡ afterCarry p n i s
-    state-y = ap stateOf (a .leaves z) ∙ event-state (carries n i) z good ∙ carry-after p rules s (state-good z good) n i d
+    state-y = carry-state c n i is z good d
 
     plan-y : planOf y ≡ planOf z
     plan-y = ap (λ (x : Store). planOf x) (a .leaves z) ∙ event-keeps-plan (carries n i) z

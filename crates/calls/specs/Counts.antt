@@ -1,13 +1,16 @@
 -- What a carry's answer counts, by the store before it and the store after it; and the entries that the clock allows.
 use mathlib.Core.Path.{_≡_}
-use mathlib.Core.Option.{some}
+use mathlib.Core.Bool.{true}
+use mathlib.Core.Option.{none, some}
 use Prim.Native.Nat.{ℕ, _-_, _≤_}
-use Rattle.plan.specs.Plan.{edgeOf}
+use lib.ListN.{length}
+use Rattle.plan.specs.Plan.{capacityOf, edgeOf, holds}
+use Rattle.store.specs.declared.Copy.{Copy}
 use Rattle.store.specs.declared.Store.{Store}
 use Rattle.store.specs.Answers.{DONE, answer}
 use Rattle.store.specs.Copies.{keyOf}
-use Rattle.store.specs.State.{lastClock}
-use Rattle.store.specs.Layout.{planOf, countOf, nodeOf}
+use Rattle.store.specs.State.{lastClock, line, nodeAt}
+use Rattle.store.specs.Layout.{planOf, stateOf, countOf, nodeOf}
 use Rattle.steps.specs.Carries.{countHeld}
 use Rattle.calls.specs.PublicCalls.{Call, storeAfter, answerTo}
 
@@ -33,6 +36,21 @@ pub record CarryCounts (c : Call) (n i : ℕ) (z : Store) : Type 0 where
       ≡ some
       (answer DONE (fall z c n) (fall z c n - rise z c (targetOf z n i))
       (countHeld keyOf (edgeOf (planOf z) n i) (nodeOf (storeAfter c z) n)) 0)
+
+-- What a carry does to the lines: a line carried stands in the target with the copy that it had in the node;
+pub record CarryMoves (c : Call) (n i : ℕ) (z : Store) : Type 0 where
+  pub carried :
+      (k : ℕ) (x : Copy) → line (stateOf z) k n ≡ some x → line (stateOf (storeAfter c z)) k n ≡ none
+      → line (stateOf (storeAfter c z)) k (targetOf z n i) ≡ some x
+  -- every other line is as it was, in every node;
+  pub others :
+      (k : ℕ) → ((x : Copy) → line (stateOf z) k n ≡ some x → line (stateOf (storeAfter c z)) k n ≡ none → ⊥)
+      → (m : ℕ) → line (stateOf (storeAfter c z)) k m ≡ line (stateOf z) k m
+  -- and a copy of the edge's range that stays had no room: the target lacks its key, before and after, and is full.
+  pub no-room :
+      (k : ℕ) (x : Copy) → line (stateOf (storeAfter c z)) k n ≡ some x → holds (edgeOf (planOf z) n i) k ≡ true
+      → (line (stateOf z) k (targetOf z n i) ≡ none) × (line (stateOf (storeAfter c z)) k (targetOf z n i) ≡ none)
+      × (length (nodeAt (stateOf (storeAfter c z)) (targetOf z n i)) ≡ capacityOf (planOf z) (targetOf z n i))
 
 -- The clock goes from 1 to 4294967295, and each accepted entry takes one of its values below the last.
 abbrev pub mostEntries : ℕ

@@ -1,5 +1,5 @@
--- Sequences of public calls on a store, every one of them, refused ones too, with all their arguments and all that they give, by the outcomes
--- that the promises cite.
+-- Sequences of public calls, refused ones too, with all their arguments and all that they return, by the outcomes that the promises cite: every
+-- public call but the program's own `transcribe`, which has no part in a store.
 use mathlib.Core.Path.{_≡_}
 use mathlib.Core.Bool.{Bool, cond}
 use mathlib.Core.List.{List, [], _∷_}

@@ -67,6 +67,7 @@ pub shown : Shown
 unfolding opened
 shown =
     record {
+      lower-key-first = refl;
       three-entries = refl;
       one-held = refl;
       one-discarded = refl;

@@ -1,20 +1,20 @@
 -- Computed examples: why invariant 6 needs cut edgesets, the counts of conservation, a bound that is reached, why a search that already runs
--- is held to its own node, and that HInit can fail.
+-- is held to its own node, that HInit can fail, and in which order a carry takes the copies.
 use mathlib.Core.Path.{_≡_}
 use mathlib.Core.List.{List, [], _∷_}
 use mathlib.Core.Option.{some}
 use Prim.Native.Nat.{_-_, _*_}
-use lib.ListN.{length}
+use lib.ListN.{length, replicate}
 use Rattle.plan.specs.Plan.{Plan, size}
 use Rattle.plan.specs.PlanRules.{PlanRules}
-use Rattle.plan_table.specs.PlanTable.{planNumbered}
+use Rattle.plan_table.specs.PlanTable.{allKeysTo, node, planNumbered}
 use Rattle.store.specs.declared.Copy.{Copy}
 use Rattle.store.specs.Copies.{RESULT, copy}
 use Rattle.store.specs.Copies.Kind.{result}
-use Rattle.store.specs.State.{State, slotAt, fresh}
+use Rattle.store.specs.State.{State, slotCount, slotAt, idle, fresh}
 use Rattle.store.specs.StateRules.{StateRules}
 use Rattle.steps.specs.Searches.{running, ended}
-use Rattle.theory.specs.Events.{Event, answerOf, stateAfterAll, enteredCopies, heldOf, entries}
+use Rattle.theory.specs.Events.{Event, after, answerOf, stateAfterAll, enteredCopies, heldOf, entries}
 use Rattle.theory.specs.Events.Event.{enters, carries, starts, steps}
 use Rattle.theory.specs.Paper.{Contents, Edgeset, ContentsInReach, CopySet, withCopies, HInit}
 use Rattle.paper.specs.Graph.{Inset, UncutInReachInInset}
@@ -56,11 +56,20 @@ allTheWay = enters result 5 1 ∷ carries 0 0 ∷ carries 1 0 ∷ carries 2 0 �
 abbrev pub overtaken : State
 overtaken = stateAfterAll chain (enters result 5 1 ∷ carries 0 0 ∷ starts 5 ∷ steps 0 ∷ enters result 5 2 ∷ []) (fresh chain)
 
+-- A node with two copies, of keys 1 and 2, above one with a single free place.
+abbrev pub onePlace : Plan
+onePlace = node 2 (allKeysTo 1 ∷ []) ∷ node 1 [] ∷ []
+
+abbrev pub twoNew : State
+twoNew = record { clock = 3; nodes = (copy 1 RESULT 7 1 ∷ copy 2 RESULT 7 2 ∷ []) ∷ [] ∷ []; slots = replicate slotCount idle }
+
 -- A set with no copy and no never in it.
 abbrev pub EmptySet : CopySet
 EmptySet k a = ⊥
 
 pub record Shown : Type 0 where
+  -- "taken in rising key order": of two new lines for one free place the lower key is carried.
+  pub lower-key-first : after onePlace (carries 0 0) twoNew .nodes ≡ (copy 2 RESULT 7 2 ∷ []) ∷ (copy 1 RESULT 7 1 ∷ []) ∷ []
   -- 0 held + 3 entries = 1 held + 1 discarded + 1 replaced
   pub three-entries : entries chain 5 threeEntries (fresh chain) ≡ 3
   pub one-held : heldOf 5 (stateAfterAll chain threeEntries (fresh chain)) ≡ 1

@@ -1,8 +1,8 @@
 -- Each promise allows one outcome, and each refusal is given exactly when its line holds.
 use Rattle.refusals.proofs.OnStores.{rule-broken}
 use Rattle.refusals.proofs.Fresh.{fresh-plan}
-use Rattle.refusals.proofs.Entries.{entry-badstore, entry-clock, entry-full}
-use Rattle.refusals.proofs.Carry.{carry-badstore, carry-node, carry-edge}
+use Rattle.refusals.proofs.Entries.{entry-badstore, entry-clock, entry-full, entry-answers}
+use Rattle.refusals.proofs.Carry.{carry-badstore, carry-node, carry-edge, carry-answers}
 use Rattle.refusals.proofs.Searches.{
   start-badstore,
   start-slots,
@@ -13,14 +13,19 @@ use Rattle.refusals.proofs.Searches.{
   cancel-slot,
   cancel-idle,
   look-badstore,
+  start-answers,
+  step-answers,
+  cancel-answers,
+  look-answers,
 }
-use Rattle.refusals.proofs.Save.{save-badstore, save-small, save-needs}
-use Rattle.refusals.proofs.Load.{load-cut, load-number, load-format, load-plan, load-trail, load-rule}
-use Rattle.refusals.proofs.Page.{page-badstore, page-sample, page-small, page-needs}
+use Rattle.refusals.proofs.Save.{save-badstore, save-small, save-needs, save-answers}
+use Rattle.refusals.proofs.Load.{load-cut, load-number, load-format, load-plan, load-trail, load-rule, load-answers}
+use Rattle.refusals.proofs.Page.{page-badstore, page-sample, page-small, page-needs, page-answers}
 use Rattle.refusals.proofs.Decode.{decode-small, decode-needs, decode-plan, decode-op, decode-many, decode-cut, decode-number}
 use Rattle.refusals.proofs.Run.{run-badstore, run-op, run-op-place}
 use Rattle.transcript.proofs.Uniqueness.{transcribe-once}
-use Rattle.export.proofs.Uniqueness.{fresh-behind-once, step-behind-once, load-behind-once, serve-length-once}
+use Rattle.export.proofs.GoodExactly.{good-exactly, good-or-bad}
+use Rattle.export.proofs.Uniqueness.{fresh-behind-once, step-behind-once, load-behind-once, good-once, serve-length-once}
 use Rattle.calls.proofs.Uniqueness.{
   fresh-once,
   enter-once,
@@ -37,7 +42,7 @@ use Rattle.calls.proofs.Uniqueness.{
   decode-once,
   run-once,
 }
-use Rattle.story.specs.Refusing.{OneOutcome, EachRefusal}
+use Rattle.story.specs.Refusing.{OneOutcome, EachRefusal, NoOtherAnswer}
 
 pub one-outcome : OneOutcome
 one-outcome =
@@ -49,6 +54,7 @@ one-outcome =
       start = start-once;
       step = step-once;
       cancel = cancel-once;
+      check = good-once;
       look = look-once;
       load = load-once;
       run = run-once;
@@ -72,6 +78,7 @@ each-refusal =
       start-badstore = start-badstore;
       step-badstore = step-badstore;
       cancel-badstore = cancel-badstore;
+      check-done = good-exactly;
       look-badstore = look-badstore;
       save-badstore = save-badstore;
       page-badstore = page-badstore;
@@ -106,4 +113,19 @@ each-refusal =
       run-op = run-op;
       run-op-place = run-op-place;
       decode-many = decode-many;
+    }
+
+pub no-other-answer : NoOtherAnswer
+no-other-answer =
+    record {
+      entry = entry-answers;
+      carry = carry-answers;
+      start = start-answers;
+      step = step-answers;
+      cancel = cancel-answers;
+      check = good-or-bad;
+      look = look-answers;
+      save = save-answers;
+      load = load-answers;
+      page = page-answers;
     }

@@ -41,13 +41,13 @@ use Rattle.calls.specs.PublicCalls.ReadOnly.{look}
 use Rattle.calls.specs.Following.{eventOf, eventsOf, replacement, sameStore, enteredBy, history, carriesSince, roundCalls}
 use Rattle.calls.specs.Recent.{currentIn, reachStamp, atEnd, SearchRuns, Finished, EndsByCall}
 use Rattle.calls.specs.DeclaredNumbers.{DeclaredCalls}
-use Rattle.calls.specs.Counts.{CarryCounts, mostEntries}
+use Rattle.calls.specs.Counts.{CarryCounts, CarryMoves, mostEntries}
 use Rattle.paper.specs.Conserved.{AllKeys}
-use Rattle.paper_calls.specs.Structure.{StoreMCS, copiesSoFar, CallUpserts, CallSearch, RunsAtHand, RunningRecency, FinishedAtHand}
-use Rattle.paper_calls.specs.Sums.{LineConserved, AllCallsConserved, CallLineSums}
-use Rattle.behind.specs.Behind.{CallBehind, AllMeet, publicCall}
+use Rattle.paper_calls.specs.Structure.{StoreMCS, copiesSoFar, CallUpserts, CallSearch, RunsAtHand, RunningRecency, FinishedAtHand, VisitsSome}
+use Rattle.paper_calls.specs.Sums.{RiseWithinFall, LineConserved, AllCallsConserved, CallLineSums}
+use Rattle.behind.specs.Behind.{CallBehind, MeetsPromise, AllMeet, publicCall, ReturnsAs}
 use Rattle.kept.specs.Shows.{shows}
-use Rattle.kept.specs.Kept.{KeptFrom, KeptOf, ServedExactly, ServedIf, LengthIf}
+use Rattle.kept.specs.Kept.{KeptFrom, KeptOf, ServedExactly, LengthExactly, ServedIf, LengthIf}
 use Rattle.kept.specs.Amended.{
   StoreGoesOn,
   EntersLine,
@@ -58,12 +58,14 @@ use Rattle.kept.specs.Amended.{
   ServedAfterCalls,
   SavedAndLoaded,
 }
-use Rattle.story.specs.Refusing.{OneOutcome, EachRefusal}
+use Rattle.story.specs.Refusing.{OneOutcome, EachRefusal, NoOtherAnswer}
 
 -- Demand 1: every call, on every store, number and byte string.
 pub record Demand1 : Type 0 where
   -- "Bad input gets its numbered answer": each refusal exactly when its line of the table holds and none earlier does;
   pub numbered-answers : EachRefusal
+  -- no call gives any other number;
+  pub no-other-answer : NoOtherAnswer
   -- or the notice, where a kept page was offered: the page is handed back if the kept bytes are still true, else the whole notice.
   pub page-if-true :
       (z : Store) (sample : ℕ) (kept notice : RefT (List ℕ)) → StillTrue z sample (kept .now)
@@ -90,7 +92,9 @@ pub record Demand1 : Type 0 where
   -- Every call leaves a bad store as it is, or replaces it by a good one; a good store it keeps good.
   pub bad-store : (c : Call) (z : Store) → goodStore z ≡ false → (storeAfter c z ≡ z) ⊎ (goodStore (storeAfter c z) ≡ true)
   pub good-store : (c : Call) (z : Store) → goodStore z ≡ true → goodStore (storeAfter c z) ≡ true
-  -- From C: the store behind the pointer is what the public calls in their places leave, a fresh one of plan 1 for a refused fresh or load.
+  -- From C: what each call gives is what the public call returns on the store that it found, refused or not;
+  pub returns-behind : (c : CallBehind) (z leaves : Store) → MeetsPromise c z leaves → ReturnsAs c z leaves
+  -- the store behind the pointer is what the public calls in their places leave: `fresh 1` for a fresh or load at the pointer itself, if refused.
   pub behind-the-pointer :
       (cs : List CallBehind) (z leaves : Store) → AllMeet cs z leaves → leaves ≡ storeAfterAll (map publicCall cs) z
 
@@ -129,6 +133,14 @@ pub record Demand2 : Type 1 where
   pub carry-says :
       (c : Call) (n i : ℕ) → eventOf c ≡ carries n i → (z : Store) → goodStore z ≡ true → IsEdge (planOf z) n i
       → CarryCounts c n i z
+  -- It moves what it says, and what stays had no room;
+  pub carry-moves :
+      (c : Call) (n i : ℕ) → eventOf c ≡ carries n i → (z : Store) → goodStore z ≡ true → IsEdge (planOf z) n i
+      → CarryMoves c n i z
+  -- the target's count rises by no more than the node's falls.
+  pub rise-within-fall :
+      (c : Call) (n i : ℕ) → eventOf c ≡ carries n i → (z : Store) → goodStore z ≡ true → IsEdge (planOf z) n i
+      → RiseWithinFall c n i z
   -- No copy is lost and none invented: of a line, and of all.
   pub line-conserved : (cs : List Call) (z : Store) → goodStore z ≡ true → (k : ℕ) → LineConserved k cs z
   pub all-conserved : (cs : List Call) (z : Store) → goodStore z ≡ true → AllCallsConserved cs z
@@ -154,6 +166,8 @@ pub record Demand2 : Type 1 where
       (z : Store) → goodStore z ≡ true → (k : ℕ)
       → (visits : ℕ) × (answerTo (reads (look k)) z ≡ some (ended (currentIn z k) visits))
       × VisitsUntil (line (stateOf z) k) (path (planOf z) k) visits
+  -- it makes at least one visit;
+  pub look-visits : (z : Store) → goodStore z ≡ true → (k : ℕ) → VisitsSome z k
   -- it is a search with nothing in between.
   pub look-is-search :
       (z : Store) → goodStore z ≡ true → (c : Call) (k i : ℕ) → eventOf c ≡ starts k → answerTo c z ≡ some (answer DONE i 0 0 0)
@@ -173,6 +187,9 @@ pub record Demand2 : Type 1 where
   pub served-exactly :
       (z y : Store) → goodStore z ≡ true → Declared z → goodStore y ≡ true → Declared y → (sample : ℕ) → sample ≤ lastSample
       → (kept notice : RefT (List ℕ)) → KeptFrom z sample (kept .now) → ServedExactly z y sample kept notice
+  pub length-exactly :
+      (z y : Store) → goodStore z ≡ true → Declared z → goodStore y ≡ true → Declared y → (sample : ℕ) → sample ≤ lastSample
+      → (kept : List ℕ) → KeptFrom z sample kept → LengthExactly z y sample kept
   -- after calls on the store exactly if every line of the sample shows again what it showed;
   pub served-after-calls :
       (z : Store) → goodStore z ≡ true → Declared z → (cs : List Call) → DeclaredCalls cs → StoreGoesOn cs z

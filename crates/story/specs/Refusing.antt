@@ -2,7 +2,7 @@
 -- holds and none earlier does.
 use mathlib.Core.Path.{_≡_}
 use mathlib.Core.Bool.{true, false}
-use mathlib.Core.List.{List}
+use mathlib.Core.List.{List, [], _∷_}
 use mathlib.Core.Logic.{_≢_, _↔_, _⊎_}
 use Prim.Native.Nat.{ℕ, _<_, _≤_}
 use lib.ListN.{length, getD}
@@ -13,6 +13,7 @@ use Rattle.store.specs.declared.Answer.{Answer}
 use Rattle.store.specs.declared.Outcome.{Outcome}
 use Rattle.store.specs.declared.Store.{Store}
 use Rattle.store.specs.Answers.{
+  DONE,
   BADSTORE,
   PLAN,
   CLOCK,
@@ -37,7 +38,7 @@ use Rattle.store.specs.Copies.{Kind}
 use Rattle.store.specs.State.{lastClock, slotCount, idle, idleMark}
 use Rattle.store.specs.Layout.{planOf}
 use Rattle.store.specs.StoreRules.{StoreRules, goodStore}
-use Rattle.store.specs.Promises.{freshOutcome, Freshens}
+use Rattle.store.specs.Promises.{freshOutcome, Freshens, Checks}
 use Rattle.steps.specs.Promises.{
   entryOutcome,
   carryOutcome,
@@ -64,7 +65,7 @@ use Rattle.schedule.specs.Running.{runOutcome}
 use Rattle.schedule.specs.Promises.{decodeOutcome, Decodes, Runs}
 use Rattle.transcript.specs.Promises.{Transcribes}
 use Rattle.export.specs.Promises.{FreshensBehind, StepsBehind, LoadsBehind}
-use Rattle.refusals.specs.Given.{IsPlan, RootFull, Unknown}
+use Rattle.refusals.specs.Given.{Among, entryAnswers, carryAnswers, startAnswers, stepAnswers, cancelAnswers, IsPlan, RootFull, Unknown}
 use Rattle.refusals.specs.Images.{Own, InImage, BadFormat, BadPlan, RuleAt, Trails, BreaksWhole}
 use Rattle.refusals.specs.Schedules.{InSchedule, BadSchedulePlan, FirstUnknown, AfterMost}
 
@@ -77,6 +78,7 @@ pub record OneOutcome : Type 0 where
   pub start : (store : Store) (key : ℕ) (r q : Outcome) → Starts store key r → Starts store key q → r ≡ q
   pub step : (store : Store) (slot : ℕ) (r q : Outcome) → Steps store slot r → Steps store slot q → r ≡ q
   pub cancel : (store : Store) (slot : ℕ) (r q : Outcome) → Cancels store slot r → Cancels store slot q → r ≡ q
+  pub check : (store : Store) (r q : Answer) → Checks store r → Checks store q → r ≡ q
   pub look : (store : Store) (key : ℕ) (r q : Answer) → Looks store key r → Looks store key q → r ≡ q
   pub load : (bytes : List ℕ) (r q : Outcome) → Loads bytes r → Loads bytes q → r ≡ q
   pub run : (store : Store) (list : List Step) (place : ℕ) (r q : Outcome) → Runs store list place r → Runs store list place q → r ≡ q
@@ -119,6 +121,7 @@ pub record EachRefusal : Type 0 where
   pub start-badstore : (z : Store) (key : ℕ) → (startOutcome z key .answer .number ≡ BADSTORE) ↔ (goodStore z ≡ false)
   pub step-badstore : (z : Store) (slot : ℕ) → (stepOutcome z slot .answer .number ≡ BADSTORE) ↔ (goodStore z ≡ false)
   pub cancel-badstore : (z : Store) (slot : ℕ) → (cancelOutcome z slot .answer .number ≡ BADSTORE) ↔ (goodStore z ≡ false)
+  pub check-done : (z : Store) (r : Answer) → Checks z r → (r .number ≡ DONE) ↔ StoreRules z
   pub look-badstore : (z : Store) (key : ℕ) → (lookOutcome z key .number ≡ BADSTORE) ↔ (goodStore z ≡ false)
   pub save-badstore : (z : Store) (before : List ℕ) → (saveOutcome z before .0 .number ≡ BADSTORE) ↔ (goodStore z ≡ false)
   pub page-badstore :
@@ -225,3 +228,16 @@ pub record EachRefusal : Type 0 where
   pub decode-many :
       (bytes : List ℕ) (before : List Step) (at : ℕ)
       → (decodeOutcome bytes before .0 ≡ answer MANY at 0 0 0) ↔ ((mostSteps ≤ length before) × AfterMost bytes at)
+
+-- A call gives no number but those of its own line of the table.
+pub record NoOtherAnswer : Type 0 where
+  pub entry : (z : Store) (kind : Kind) (key value : ℕ) → Among (BADSTORE ∷ entryAnswers) (entryOutcome kind z key value .answer)
+  pub carry : (z : Store) (node edge : ℕ) → Among (BADSTORE ∷ carryAnswers) (carryOutcome z node edge .answer)
+  pub start : (z : Store) (key : ℕ) → Among (BADSTORE ∷ startAnswers) (startOutcome z key .answer)
+  pub step : (z : Store) (slot : ℕ) → Among (BADSTORE ∷ stepAnswers) (stepOutcome z slot .answer)
+  pub cancel : (z : Store) (slot : ℕ) → Among (BADSTORE ∷ cancelAnswers) (cancelOutcome z slot .answer)
+  pub check : (z : Store) (r : Answer) → Checks z r → (r .number ≡ DONE) ⊎ (r .number ≡ BADSTORE)
+  pub look : (z : Store) (key : ℕ) → Among (BADSTORE ∷ DONE ∷ []) (lookOutcome z key)
+  pub save : (z : Store) (before : List ℕ) → Among (BADSTORE ∷ SMALL ∷ DONE ∷ []) (saveOutcome z before .0)
+  pub load : (bytes : List ℕ) → Among (DONE ∷ TRAIL ∷ CUT ∷ NUMBER ∷ FORMAT ∷ PLAN ∷ RULE ∷ []) (loadOutcome bytes .answer)
+  pub page : (z : Store) (sample : ℕ) (before : List ℕ) → Among (BADSTORE ∷ SAMPLE ∷ SMALL ∷ DONE ∷ []) (pageOutcome z sample before .0)
