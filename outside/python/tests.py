@@ -227,6 +227,11 @@ class Typed(unittest.TestCase):
         self.assertEqual(store.nodes(), [(0, 8, root), (1, 16, below), (2, 32, ()), (3, 64, ())])
         self.assertEqual(store.lines(), {Line(0, 2): Withdrawn(Stamp(3)), LINE: Result(6, Stamp(2))})
         self.assertEqual((store.plan, store.clock, store.copies), (1, 4, 3))
+        zero = Store.fresh(3)
+        zero.enter(LINE, 0)
+        self.assertEqual(zero.nodes()[0].copies, (Held(LINE, Entry(0), Stamp(1)),))
+        capacities = [[node.capacity for node in Store.fresh(plan).nodes()] for plan in (1, 2, 3)]
+        self.assertEqual(capacities, [[8, 16, 32, 64], [8, 32, 32], [8, 16, 16, 64]])
         self.assertEqual(repr(store), "Store(plan=1, clock=4, counts=[2, 1, 0, 0, 0, 0, 0, 0], searches=0)")
 
     def test_value_zero_is_a_result(self):
@@ -363,6 +368,25 @@ class Books(unittest.TestCase):
         book.enter(Line(2, 1), 2)
         book.withdraw(LINE)
         self.assertEqual([(p.line, p.entry) for p in book.pending], [(Line(2, 1), Entry(2)), (LINE, WITHDRAWN)])
+
+    def test_what_is_accepted_is_pending_no_more(self):
+        full = Refusal(Answer(5))
+        saved = Saved(Store.fresh(1).save(), (Pending(LINE, Entry(1), full), Pending(Line(2, 1), WITHDRAWN, full), Pending(LINE, Entry(3), full)))
+        book = Book.load(saved)
+        self.assertEqual([pending.line for pending in book.pending], [Line(2, 1), LINE])
+        self.assertEqual((book.enter(LINE, 4), book.look(LINE)), (Stamp(1), Result(4, Stamp(1))))
+        self.assertEqual([pending.line for pending in book.pending], [Line(2, 1)])
+        self.assertEqual((book.copy().pending, book.retry(), book.pending), (saved.pending[1:2], 0, ()))
+        self.assertEqual(book.look(Line(2, 1)), Withdrawn(Stamp(2)))
+
+    def test_anew_enters_by_rising_stamp(self):
+        book = Book.fresh(1)
+        for line in (Line(2, 1), Line(1, 1), Line(3, 1), Line(2, 1)):
+            book.enter(line, 0)
+        anew = book.anew(2)
+        stamps = [anew.look(Line(sample, 1)).stamp for sample in (1, 2, 3)]
+        self.assertEqual((anew.store.plan, stamps), (2, [1, 3, 2]))
+        self.assertEqual(answer(book.anew, 4), ("PLAN", 0))
 
     def test_bytes_that_are_no_saved_book(self):
         for data, name, offset in ((b"", "CUT", 0), (b"\3", "STEP", 0), (b"\1\41", "CUT", 2), (b"\2\41\1", "REFUSAL", 2),
