@@ -1,5 +1,6 @@
-/* Olipranj's C interface: the functions of the crate `export`, in target/staticlib/libexport.a. Each keeps the promise that docs/PROMISES.md
-   names. The `static inline` functions below are written here, over those: they are tested (outside/c) and not proved.
+/* Olipranj's C interface: the functions of the crate `export`, in target/staticlib/libexport.a, which outside/install lays down as libolipranj.a.
+   Each keeps the promise that docs/PROMISES.md names. The `static inline` functions below are written here, over those: they are tested
+   (outside/c) and not proved.
 
    First of all: olipranj_fresh and olipranj_load write over the store at `into`, also when they are refused. Never give them the live store,
    the one that a portal works on; olipranj_fresh_live and olipranj_load_live keep it where the call is refused.

@@ -3,13 +3,13 @@
 use std::path::PathBuf;
 use std::{env, fs};
 
+/// The library's folder, as seen from the crate's. `outside/install` writes another one here.
+const LIBRARY: &str = "../target/lib";
+
 fn main() {
     println!("cargo:rerun-if-env-changed=OLIPRANJ_LIB");
     let folder = env::var_os("OLIPRANJ_LIB").map_or_else(
-        || {
-            PathBuf::from(env::var_os("CARGO_MANIFEST_DIR").expect("cargo names the folder"))
-                .join("../target/lib")
-        },
+        || PathBuf::from(env::var_os("CARGO_MANIFEST_DIR").expect("cargo names the folder")).join(LIBRARY),
         PathBuf::from,
     );
     let Ok(folder) = fs::canonicalize(&folder) else {

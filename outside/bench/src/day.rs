@@ -93,4 +93,7 @@ pub fn print() {
             .map(|times| times.map_or("not installed".to_string(), |times| format!("{:.0}", times[what])));
         println!("| {name} | {} |", cells.join(" | "));
     }
+    for ((name, _), _) in PORTALS.iter().zip(best).filter(|(_, times)| times.is_none()) {
+        println!("\n{name} is left out: it is not installed.");
+    }
 }

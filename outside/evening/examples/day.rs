@@ -1,37 +1,133 @@
-//! An evening and the next morning: the store to the file, and the file to a store.
+//! A portal's day in Rust, from the first entry to the next morning; `outside/day` runs it. `outside/python/day.py` and
+//! `outside/c/day.c` are the same day: they print the same lines and write the same files.
+//!
+//!     day evening NAME    a day, and its evening file
+//!     day morning NAME    the next morning, by another process
 
+use std::collections::BTreeMap;
 use std::error::Error;
-use std::io;
+use std::ops::RangeInclusive;
 use std::path::Path;
 
-use olipranj::{Line, Store};
+use olipranj::{Book, Line, Saved, Taken};
 
-/// In the evening: the store's image to the file. A store that is not saved is not written.
-fn evening(store: &Store, path: &Path) -> io::Result<()> {
-    let image = store.save_to_vec().map_err(io::Error::other)?;
-    evening::keep(path, &image)
+const HARDNESS: u32 = 1;
+const IRON: u32 = 2;
+const NITRATE: u32 = 3;
+const SAMPLES: RangeInclusive<u32> = 1..=20;
+const AMENDED: RangeInclusive<u32> = 1..=10;
+const NOTICE: &[u8] = b"This page is being made anew.";
+
+type Ended<T> = Result<T, Box<dyn Error>>;
+
+/// Enters a result, and says so if it is pending. What is pending is kept in the book, and saved with it.
+fn entered(book: &mut Book, sample: u32, analyte: u32, value: u32) -> Ended<bool> {
+    let line = Line::new(sample, analyte)?;
+    let Taken::Pending(refusal) = book.enter(line, value) else {
+        return Ok(true);
+    };
+    let name = refusal.name().map(|name| format!("{name:?}").to_uppercase()).unwrap_or_default();
+    println!("{line} pending: {name}");
+    Ok(false)
 }
 
-/// In the morning: the file's image to a store. Whoever has a store goes on with it if this fails.
-fn morning(path: &Path) -> io::Result<Store> {
-    let image = evening::kept(path)?;
-    Store::load(&image).map_err(io::Error::other)
-}
-
-fn main() -> Result<(), Box<dyn Error>> {
-    let folder = std::env::temp_dir().join(format!("evening-{}", std::process::id()));
-    std::fs::create_dir(&folder)?;
-    let path = folder.join("store");
-    let line = Line::new(1, 1)?;
-    let mut store = Store::fresh(1)?;
-    store.enter(line, 180)?;
-    evening(&store, &path)?;
-    store.enter(line, 210)?;
-    evening(&store, &path)?;
-    let next = morning(&path)?;
-    let before = morning(&evening::before(&path))?;
-    println!("the evening file:    {:?}", next.look(line)?);
-    println!("the file before it:  {:?}", before.look(line)?);
-    std::fs::remove_dir_all(&folder)?;
+/// Three results for each sample.
+fn results(book: &mut Book, samples: RangeInclusive<u32>, more: u32) -> Ended<()> {
+    for sample in samples {
+        entered(book, sample, HARDNESS, 100 + sample + more)?;
+        entered(book, sample, IRON, sample + more)?;
+        entered(book, sample, NITRATE, 2 * sample + more)?;
+    }
     Ok(())
+}
+
+/// Whether the kept page is what a household sees, and not the notice.
+fn is_shown(book: &Book, sample: u32, kept: &[u8]) -> bool {
+    book.serve(sample, kept, NOTICE) == kept
+}
+
+/// Says how many kept pages are shown, and for how many samples the notice.
+fn shown(book: &Book, pages: &BTreeMap<u32, Vec<u8>>) {
+    let count = pages.iter().filter(|(&sample, kept)| is_shown(book, sample, kept)).count();
+    println!("{count} kept pages shown, {} notices", pages.len() - count);
+}
+
+fn say(book: &Book, sample: u32, kept: &[u8]) {
+    println!(
+        "sample {sample}: {}",
+        if is_shown(book, sample, kept) { "the kept page" } else { "the notice" }
+    );
+}
+
+/// A hundred entries, pages kept and served, amendments, the evening file.
+fn day(name: &Path) -> Ended<()> {
+    let mut book = Book::fresh(1)?;
+    results(&mut book, SAMPLES, 0)?;
+    let mut pages = BTreeMap::new();
+    for sample in SAMPLES {
+        pages.insert(sample, book.page(sample)?.into_bytes());
+    }
+    println!("60 entries, {} copies held", book.store().copies());
+    shown(&book, &pages);
+    results(&mut book, AMENDED, 1)?;
+    for sample in AMENDED {
+        entered(&mut book, sample, HARDNESS, 200 + sample)?;
+    }
+    println!("100 entries, {} copies held", book.store().copies());
+    shown(&book, &pages);
+    for (&sample, kept) in &mut pages {
+        if !is_shown(&book, sample, kept) {
+            *kept = book.page(sample)?.into_bytes();
+        }
+    }
+    shown(&book, &pages);
+    let page = book.page(7)?;
+    for line in page.lines()? {
+        let line = line?;
+        println!("{} is {}, stamp {}", line.line, line.value, line.stamp);
+    }
+    evening::keep(name, &book.save()?.to_bytes())?;
+    evening::keep(&page_of(name), page.bytes())?;
+    Ok(())
+}
+
+/// The book and a kept page from the files; an amendment; more lines than the store holds.
+fn morning(name: &Path) -> Ended<()> {
+    let mut book = loaded(name)?;
+    let kept = evening::kept(&page_of(name))?;
+    say(&book, 7, &kept);
+    entered(&mut book, 7, HARDNESS, 180)?;
+    say(&book, 7, &kept);
+    let mut sample = 100;
+    while entered(&mut book, sample, HARDNESS, 1)? {
+        sample += 1;
+    }
+    let kept = book.page(7)?.into_bytes();
+    say(&book, 7, &kept);
+    entered(&mut book, 7, NITRATE, 99)?;
+    say(&book, 7, &kept);
+    evening::keep(name, &book.save()?.to_bytes())?;
+    say(&loaded(name)?, 7, &kept);
+    Ok(())
+}
+
+fn loaded(name: &Path) -> Ended<Book> {
+    let book = Book::load(&Saved::read(&evening::kept(name)?)?)?;
+    println!("loaded, {} copies held, {} pending", book.store().copies(), book.pending().len());
+    Ok(book)
+}
+
+fn page_of(name: &Path) -> std::path::PathBuf {
+    let mut page = name.as_os_str().to_owned();
+    page.push(".page");
+    page.into()
+}
+
+fn main() -> Ended<()> {
+    let words: Vec<String> = std::env::args().skip(1).collect();
+    match words.iter().map(String::as_str).collect::<Vec<&str>>()[..] {
+        ["evening", name] => day(Path::new(name)),
+        ["morning", name] => morning(Path::new(name)),
+        _ => Err("two words: evening or morning, and a name".into()),
+    }
 }
