@@ -6,7 +6,7 @@ use std::fmt;
 use crate::{Answer, Number};
 
 /// A refused call: its answer. The store and every lent byte are as they were.
-#[derive(Clone, Copy, Debug, PartialEq, Eq)]
+#[derive(Clone, Copy, PartialEq, Eq)]
 pub struct Refusal {
     answer: Answer,
 }
@@ -49,6 +49,13 @@ impl fmt::Display for Refusal {
             }
             _ => Ok(()),
         }
+    }
+}
+
+/// The same words: `main` and `unwrap` print an error so.
+impl fmt::Debug for Refusal {
+    fn fmt(&self, f: &mut fmt::Formatter<'_>) -> fmt::Result {
+        fmt::Display::fmt(self, f)
     }
 }
 

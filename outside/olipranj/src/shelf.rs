@@ -121,7 +121,7 @@ impl fmt::Display for NoBook {
     fn fmt(&self, f: &mut fmt::Formatter<'_>) -> fmt::Result {
         match self {
             NoBook::Misplaced(line) => write!(f, "line {line} belongs to another book"),
-            NoBook::Refused(refusal) => refusal.fmt(f),
+            NoBook::Refused(refusal) => fmt::Display::fmt(refusal, f),
         }
     }
 }

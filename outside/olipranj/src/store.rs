@@ -34,7 +34,7 @@ impl Store {
 
     /// The store of these numbers; else BADSTORE.
     pub fn from_raw(raw: Raw) -> Result<Store, Refusal> {
-        raw.look(0).done().map(|_| Store { raw })
+        raw.good().done().map(|_| Store { raw })
     }
 
     /// The store's numbers, with the plain numbered calls that leave it alone.
@@ -143,7 +143,7 @@ impl Store {
 
 impl fmt::Debug for Store {
     fn fmt(&self, f: &mut fmt::Formatter<'_>) -> fmt::Result {
-        self.raw.fmt(f)
+        self.raw.debug("Store", f)
     }
 }
 
