@@ -9,15 +9,23 @@ use crate::{Answer, Number};
 #[derive(Clone, Copy, PartialEq, Eq)]
 pub struct Refusal {
     answer: Answer,
+    /// The layout of the library and of this crate, if they differ.
+    layouts: Option<(u32, u32)>,
 }
 
 impl Refusal {
     /// The refusal that an answer is. An answer that is not what the call may give is one too.
     pub(crate) const fn of(answer: Answer) -> Refusal {
-        Refusal { answer }
+        Refusal { answer, layouts: None }
     }
 
-    /// The whole answer.
+    /// The refusal of a library of another layout: it was not called.
+    pub(crate) const fn of_layout(library: u32, here: u32) -> Refusal {
+        let answer = Answer { number: u32::MAX, a: 0, b: 0, c: 0, d: 0 };
+        Refusal { answer, layouts: Some((library, here)) }
+    }
+
+    /// The whole answer; if the library has another layout, a number that the header does not have.
     pub const fn answer(&self) -> Answer {
         self.answer
     }
@@ -35,6 +43,9 @@ impl Refusal {
 
 impl fmt::Display for Refusal {
     fn fmt(&self, f: &mut fmt::Formatter<'_>) -> fmt::Result {
+        if let Some((library, here)) = self.layouts {
+            return write!(f, "the library has layout {library}, and this crate is for layout {here}");
+        }
         let Answer { number, a, .. } = self.answer;
         let Some(name) = self.name() else {
             return write!(f, "answer {number}, which the header does not have");
