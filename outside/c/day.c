@@ -103,21 +103,20 @@ static int is_pending(uint32_t sample)
     return 0;
 }
 
-/* The sample's page, to keep; none while an entry is pending. */
-static page page_of(uint32_t sample)
-{
-    page made;
-    must(!is_pending(sample), "nothing of the sample is pending");
-    olipranj_answer answer = olipranj_page(&live, sample, made.bytes, sizeof made.bytes);
-    must(answer.number == OLIPRANJ_DONE, "the page is made");
-    made.length = answer.a;
-    return made;
-}
-
 /* Whether the kept page is what a household sees, and not the notice: it is still true, and nothing of the sample is pending. */
 static int is_shown(uint32_t sample, const page *kept)
 {
     return !is_pending(sample) && olipranj_serve(&live, sample, kept->bytes, kept->length) > 0;
+}
+
+/* Makes the sample's page anew if the kept one is not shown. While an entry is pending there is no page: the notice stays. */
+static void renew(uint32_t sample, page *kept)
+{
+    if (!is_shown(sample, kept) && !is_pending(sample)) {
+        olipranj_answer answer = olipranj_page(&live, sample, kept->bytes, sizeof kept->bytes);
+        must(answer.number == OLIPRANJ_DONE, "the page is made");
+        kept->length = answer.a;
+    }
 }
 
 /* A number's bytes: groups of seven bits, the lowest first. */
@@ -227,7 +226,7 @@ static void day(const char *name)
     must(olipranj_fresh_live(&live, &spare, 1).number == OLIPRANJ_DONE, "there is a plan 1");
     results(LAST_OF_DAY, 0);
     for (uint32_t sample = 1; sample <= LAST_OF_DAY; sample++)
-        pages[sample] = page_of(sample);
+        renew(sample, &pages[sample]);
     printf("60 entries, %lu copies held\n", copies());
     shown(pages);
     results(LAST_AMENDED, 1);
@@ -236,8 +235,7 @@ static void day(const char *name)
     printf("100 entries, %lu copies held\n", copies());
     shown(pages);
     for (uint32_t sample = 1; sample <= LAST_OF_DAY; sample++)
-        if (!is_shown(sample, &pages[sample]))
-            pages[sample] = page_of(sample);
+        renew(sample, &pages[sample]);
     shown(pages);
     print_lines(&pages[7]);
     save(name);
@@ -247,7 +245,7 @@ static void day(const char *name)
 /* The store and a kept page from the files; an amendment; more lines than the store holds. */
 static void morning(const char *name)
 {
-    page kept;
+    page kept, none = {{0}, 0};
     uint32_t sample = 100;
     load(name);
     must(evening_kept(page_name(name), kept.bytes, sizeof kept.bytes, &kept.length) == EVENING_DONE, "the page is whole");
@@ -256,9 +254,12 @@ static void morning(const char *name)
     say(7, &kept);
     while (entered(sample, HARDNESS, 1))
         sample++;
-    kept = page_of(7);
+    renew(7, &kept);
+    renew(sample, &none);
     say(7, &kept);
+    say(sample, &none);
     entered(7, NITRATE, 99);
+    renew(7, &kept);
     say(7, &kept);
     save(name);
     load(name);
