@@ -25,10 +25,15 @@ typedef struct {
     uint32_t key, value, refusal;
 } pending_entry;
 
-/* The store, a spare one for loads, and what is pending: the last refused entry of each line. */
+/* The last refused entry of each line. */
+typedef struct {
+    pending_entry entries[MOST_PENDING];
+    size_t count;
+} pending_list;
+
+/* The store, a spare one for loads, and what is pending. */
 static olipranj_store live, spare;
-static pending_entry pending[MOST_PENDING];
-static size_t pending_count;
+static pending_list pending;
 
 static void must(int holds, const char *what)
 {
@@ -61,21 +66,21 @@ static uint64_t carry_all(void)
 }
 
 /* What was pending for the line is older, and is pending no more. */
-static void forget(uint32_t key)
+static void forget(pending_list *list, uint32_t key)
 {
     size_t left = 0;
-    for (size_t at = 0; at < pending_count; at++)
-        if (pending[at].key != key)
-            pending[left++] = pending[at];
-    pending_count = left;
+    for (size_t at = 0; at < list->count; at++)
+        if (list->entries[at].key != key)
+            list->entries[left++] = list->entries[at];
+    list->count = left;
 }
 
-static void keep_pending(uint32_t key, uint32_t value, uint32_t refusal)
+static void keep_pending(pending_list *list, uint32_t key, uint32_t value, uint32_t refusal)
 {
     pending_entry entry = {key, value, refusal};
-    forget(key);
-    must(pending_count < MOST_PENDING, "there is room for what is pending");
-    pending[pending_count++] = entry;
+    forget(list, key);
+    must(list->count < MOST_PENDING, "there is room for what is pending");
+    list->entries[list->count++] = entry;
 }
 
 /* Enters a result, and carries first if the root is full. A result that is refused all the same is pending: then this is 0. */
@@ -87,18 +92,18 @@ static int entered(uint32_t sample, uint32_t analyte, uint32_t value)
     while (answer.number == OLIPRANJ_FULL && carry_all() > 0)
         answer = olipranj_enter(&live, key, value);
     if (answer.number == OLIPRANJ_DONE) {
-        forget(key);
+        forget(&pending, key);
         return 1;
     }
-    keep_pending(key, value, answer.number);
+    keep_pending(&pending, key, value, answer.number);
     printf("%u/%u pending: %s\n", (unsigned)sample, (unsigned)analyte, olipranj_name(answer.number));
     return 0;
 }
 
 static int is_pending(uint32_t sample)
 {
-    for (size_t at = 0; at < pending_count; at++)
-        if (pending[at].key / (OLIPRANJ_LAST_ANALYTE + 1) == sample)
+    for (size_t at = 0; at < pending.count; at++)
+        if (pending.entries[at].key / (OLIPRANJ_LAST_ANALYTE + 1) == sample)
             return 1;
     return 0;
 }
@@ -149,11 +154,11 @@ static void save(const char *name)
 {
     uint8_t bytes[LONGEST_SAVED];
     size_t at = 0;
-    for (size_t entry = 0; entry < pending_count; entry++) {
+    for (size_t entry = 0; entry < pending.count; entry++) {
         at += put_number(bytes + at, OLIPRANJ_ENTER);
-        at += put_number(bytes + at, pending[entry].key);
-        at += put_number(bytes + at, pending[entry].value);
-        at += put_number(bytes + at, pending[entry].refusal);
+        at += put_number(bytes + at, pending.entries[entry].key);
+        at += put_number(bytes + at, pending.entries[entry].value);
+        at += put_number(bytes + at, pending.entries[entry].refusal);
     }
     at += put_number(bytes + at, 0);
     olipranj_answer saved = olipranj_save(&live, bytes + at, sizeof bytes - at);
@@ -161,20 +166,21 @@ static void save(const char *name)
     must(evening_keep(name, bytes, at + saved.a) == EVENING_DONE, "the evening file is kept");
 }
 
-/* In the morning: the file to the store and what is pending. The live store changes only if the image is loaded. */
+/* In the morning: the file to the store and what is pending. Both change only if the image is loaded. */
 static void load(const char *name)
 {
     uint8_t bytes[EVENING_IMAGE];
     size_t length, at = 0;
+    pending_list kept = {{{0, 0, 0}}, 0};
     must(evening_kept(name, bytes, sizeof bytes, &length) == EVENING_DONE, "the evening file is whole");
-    pending_count = 0;
     while (get_number(bytes, length, &at) == OLIPRANJ_ENTER) {
         uint32_t key = get_number(bytes, length, &at), value = get_number(bytes, length, &at);
-        keep_pending(key, value, get_number(bytes, length, &at));
+        keep_pending(&kept, key, value, get_number(bytes, length, &at));
     }
     must(bytes[at - 1] == 0, "what is pending ends");
     must(olipranj_load_live(&live, &spare, bytes + at, length - at).number == OLIPRANJ_DONE, "the image is loaded");
-    printf("loaded, %lu copies held, %lu pending\n", copies(), (unsigned long)pending_count);
+    pending = kept;
+    printf("loaded, %lu copies held, %lu pending\n", copies(), (unsigned long)pending.count);
 }
 
 /* Three results for each sample up to the last. */
