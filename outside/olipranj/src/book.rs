@@ -74,7 +74,8 @@ impl Book {
         }
     }
 
-    fn keep(&mut self, refused: Pending) {
+    /// Keeps a refused entry, for what was pending for its line.
+    pub(crate) fn keep(&mut self, refused: Pending) {
         self.pending.retain(|pending| pending.line != refused.line);
         self.pending.push(refused);
     }
