@@ -25,10 +25,15 @@ typedef struct {
     uint32_t key, value, refusal;
 } pending_entry;
 
-/* The store, a spare one for loads, and what is pending: the last refused entry of each line. */
+/* The last refused entry of each line. */
+typedef struct {
+    pending_entry entries[MOST_PENDING];
+    size_t count;
+} pending_list;
+
+/* The store, a spare one for loads, and what is pending. */
 static olipranj_store live, spare;
-static pending_entry pending[MOST_PENDING];
-static size_t pending_count;
+static pending_list pending;
 
 static void must(int holds, const char *what)
 {
@@ -61,21 +66,21 @@ static uint64_t carry_all(void)
 }
 
 /* What was pending for the line is older, and is pending no more. */
-static void forget(uint32_t key)
+static void forget(pending_list *list, uint32_t key)
 {
     size_t left = 0;
-    for (size_t at = 0; at < pending_count; at++)
-        if (pending[at].key != key)
-            pending[left++] = pending[at];
-    pending_count = left;
+    for (size_t at = 0; at < list->count; at++)
+        if (list->entries[at].key != key)
+            list->entries[left++] = list->entries[at];
+    list->count = left;
 }
 
-static void keep_pending(uint32_t key, uint32_t value, uint32_t refusal)
+static void keep_pending(pending_list *list, uint32_t key, uint32_t value, uint32_t refusal)
 {
     pending_entry entry = {key, value, refusal};
-    forget(key);
-    must(pending_count < MOST_PENDING, "there is room for what is pending");
-    pending[pending_count++] = entry;
+    forget(list, key);
+    must(list->count < MOST_PENDING, "there is room for what is pending");
+    list->entries[list->count++] = entry;
 }
 
 /* Enters a result, and carries first if the root is full. A result that is refused all the same is pending: then this is 0. */
@@ -87,37 +92,36 @@ static int entered(uint32_t sample, uint32_t analyte, uint32_t value)
     while (answer.number == OLIPRANJ_FULL && carry_all() > 0)
         answer = olipranj_enter(&live, key, value);
     if (answer.number == OLIPRANJ_DONE) {
-        forget(key);
+        forget(&pending, key);
         return 1;
     }
-    keep_pending(key, value, answer.number);
+    keep_pending(&pending, key, value, answer.number);
     printf("%u/%u pending: %s\n", (unsigned)sample, (unsigned)analyte, olipranj_name(answer.number));
     return 0;
 }
 
 static int is_pending(uint32_t sample)
 {
-    for (size_t at = 0; at < pending_count; at++)
-        if (pending[at].key / (OLIPRANJ_LAST_ANALYTE + 1) == sample)
+    for (size_t at = 0; at < pending.count; at++)
+        if (pending.entries[at].key / (OLIPRANJ_LAST_ANALYTE + 1) == sample)
             return 1;
     return 0;
-}
-
-/* The sample's page, to keep; none while an entry is pending. */
-static page page_of(uint32_t sample)
-{
-    page made;
-    must(!is_pending(sample), "nothing of the sample is pending");
-    olipranj_answer answer = olipranj_page(&live, sample, made.bytes, sizeof made.bytes);
-    must(answer.number == OLIPRANJ_DONE, "the page is made");
-    made.length = answer.a;
-    return made;
 }
 
 /* Whether the kept page is what a household sees, and not the notice: it is still true, and nothing of the sample is pending. */
 static int is_shown(uint32_t sample, const page *kept)
 {
     return !is_pending(sample) && olipranj_serve(&live, sample, kept->bytes, kept->length) > 0;
+}
+
+/* Makes the sample's page anew if the kept one is not shown. While an entry is pending there is no page: the notice stays. */
+static void renew(uint32_t sample, page *kept)
+{
+    if (!is_shown(sample, kept) && !is_pending(sample)) {
+        olipranj_answer answer = olipranj_page(&live, sample, kept->bytes, sizeof kept->bytes);
+        must(answer.number == OLIPRANJ_DONE, "the page is made");
+        kept->length = answer.a;
+    }
 }
 
 /* A number's bytes: groups of seven bits, the lowest first. */
@@ -150,11 +154,11 @@ static void save(const char *name)
 {
     uint8_t bytes[LONGEST_SAVED];
     size_t at = 0;
-    for (size_t entry = 0; entry < pending_count; entry++) {
+    for (size_t entry = 0; entry < pending.count; entry++) {
         at += put_number(bytes + at, OLIPRANJ_ENTER);
-        at += put_number(bytes + at, pending[entry].key);
-        at += put_number(bytes + at, pending[entry].value);
-        at += put_number(bytes + at, pending[entry].refusal);
+        at += put_number(bytes + at, pending.entries[entry].key);
+        at += put_number(bytes + at, pending.entries[entry].value);
+        at += put_number(bytes + at, pending.entries[entry].refusal);
     }
     at += put_number(bytes + at, 0);
     olipranj_answer saved = olipranj_save(&live, bytes + at, sizeof bytes - at);
@@ -162,20 +166,21 @@ static void save(const char *name)
     must(evening_keep(name, bytes, at + saved.a) == EVENING_DONE, "the evening file is kept");
 }
 
-/* In the morning: the file to the store and what is pending. The live store changes only if the image is loaded. */
+/* In the morning: the file to the store and what is pending. Both change only if the image is loaded. */
 static void load(const char *name)
 {
     uint8_t bytes[EVENING_IMAGE];
     size_t length, at = 0;
+    pending_list kept = {{{0, 0, 0}}, 0};
     must(evening_kept(name, bytes, sizeof bytes, &length) == EVENING_DONE, "the evening file is whole");
-    pending_count = 0;
     while (get_number(bytes, length, &at) == OLIPRANJ_ENTER) {
         uint32_t key = get_number(bytes, length, &at), value = get_number(bytes, length, &at);
-        keep_pending(key, value, get_number(bytes, length, &at));
+        keep_pending(&kept, key, value, get_number(bytes, length, &at));
     }
     must(bytes[at - 1] == 0, "what is pending ends");
     must(olipranj_load_live(&live, &spare, bytes + at, length - at).number == OLIPRANJ_DONE, "the image is loaded");
-    printf("loaded, %lu copies held, %lu pending\n", copies(), (unsigned long)pending_count);
+    pending = kept;
+    printf("loaded, %lu copies held, %lu pending\n", copies(), (unsigned long)pending.count);
 }
 
 /* Three results for each sample up to the last. */
@@ -227,7 +232,7 @@ static void day(const char *name)
     must(olipranj_fresh_live(&live, &spare, 1).number == OLIPRANJ_DONE, "there is a plan 1");
     results(LAST_OF_DAY, 0);
     for (uint32_t sample = 1; sample <= LAST_OF_DAY; sample++)
-        pages[sample] = page_of(sample);
+        renew(sample, &pages[sample]);
     printf("60 entries, %lu copies held\n", copies());
     shown(pages);
     results(LAST_AMENDED, 1);
@@ -236,8 +241,7 @@ static void day(const char *name)
     printf("100 entries, %lu copies held\n", copies());
     shown(pages);
     for (uint32_t sample = 1; sample <= LAST_OF_DAY; sample++)
-        if (!is_shown(sample, &pages[sample]))
-            pages[sample] = page_of(sample);
+        renew(sample, &pages[sample]);
     shown(pages);
     print_lines(&pages[7]);
     save(name);
@@ -247,7 +251,7 @@ static void day(const char *name)
 /* The store and a kept page from the files; an amendment; more lines than the store holds. */
 static void morning(const char *name)
 {
-    page kept;
+    page kept, none = {{0}, 0};
     uint32_t sample = 100;
     load(name);
     must(evening_kept(page_name(name), kept.bytes, sizeof kept.bytes, &kept.length) == EVENING_DONE, "the page is whole");
@@ -256,9 +260,12 @@ static void morning(const char *name)
     say(7, &kept);
     while (entered(sample, HARDNESS, 1))
         sample++;
-    kept = page_of(7);
+    renew(7, &kept);
+    renew(sample, &none);
     say(7, &kept);
+    say(sample, &none);
     entered(7, NITRATE, 99);
+    renew(7, &kept);
     say(7, &kept);
     save(name);
     load(name);

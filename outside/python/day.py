@@ -36,6 +36,12 @@ def is_shown(book, sample, kept):
     return book.serve(sample, kept, NOTICE) == kept
 
 
+def renew(book, pages, sample):
+    """Makes the sample's page anew if the kept one is not shown. While an entry is pending there is no page: the notice stays."""
+    if not is_shown(book, sample, pages[sample]) and book.pending_of(sample) is None:
+        pages[sample] = book.page(sample)
+
+
 def shown(book, pages):
     """Says how many kept pages are shown, and for how many samples the notice."""
     count = sum(is_shown(book, sample, kept) for sample, kept in pages.items())
@@ -51,7 +57,9 @@ def day(name):
     """A hundred entries, pages kept and served, amendments, the evening file."""
     book = Book.fresh(1)
     results(book, SAMPLES, 0)
-    pages = {sample: book.page(sample) for sample in SAMPLES}
+    pages = {sample: b"" for sample in SAMPLES}
+    for sample in SAMPLES:
+        renew(book, pages, sample)
     print(f"60 entries, {book.store.copies} copies held")
     shown(book, pages)
     results(book, SAMPLES[:10], 1)
@@ -60,8 +68,7 @@ def day(name):
     print(f"100 entries, {book.store.copies} copies held")
     shown(book, pages)
     for sample in SAMPLES:
-        if not is_shown(book, sample, pages[sample]):
-            pages[sample] = book.page(sample)
+        renew(book, pages, sample)
     shown(book, pages)
     for line, value, stamp in pages[7].lines():
         print(f"{line} is {value}, stamp {stamp}")
@@ -72,22 +79,26 @@ def day(name):
 def morning(name):
     """The book and a kept page from the files; an amendment; more lines than the store holds."""
     book = Book.load(Saved.read(evening.kept(name)))
-    kept = evening.kept(name + ".page")
+    pages = {7: evening.kept(name + ".page")}
     print(f"loaded, {book.store.copies} copies held, {len(book.pending)} pending")
-    say(book, 7, kept)
+    say(book, 7, pages[7])
     entered(book, 7, HARDNESS, 180)
-    say(book, 7, kept)
+    say(book, 7, pages[7])
     sample = 100
     while entered(book, sample, HARDNESS, 1):
         sample += 1
-    kept = book.page(7)
-    say(book, 7, kept)
+    pages[sample] = b""
+    renew(book, pages, 7)
+    renew(book, pages, sample)
+    say(book, 7, pages[7])
+    say(book, sample, pages[sample])
     entered(book, 7, NITRATE, 99)
-    say(book, 7, kept)
+    renew(book, pages, 7)
+    say(book, 7, pages[7])
     evening.keep(name, book.save().to_bytes())
     again = Book.load(Saved.read(evening.kept(name)))
     print(f"loaded, {again.store.copies} copies held, {len(again.pending)} pending")
-    say(again, 7, kept)
+    say(again, 7, pages[7])
 
 
 if __name__ == "__main__":

@@ -443,7 +443,7 @@ class Layout(unittest.TestCase):
         for kind in (olipranj._Slot, Raw, olipranj._Answer):
             here.append(ctypes.sizeof(kind))
             here += [getattr(kind, field[0]).offset for field in kind._fields_]
-        here += [ctypes.sizeof(ctypes.c_size_t)] + list(range(len(ANSWERS)))
+        here += [ctypes.sizeof(ctypes.c_size_t), olipranj.LAYOUT] + list(range(len(ANSWERS)))
         self.assertEqual([str(number).encode() for number in here], wanted)
 
     def imported(self, library):

@@ -7,18 +7,27 @@
 #include <string.h>
 #include <unistd.h>
 
+/* The checksum of any bytes with their checksum behind them. */
+#define CHECKSUM_OF_WHOLE 0x2144df1cu
+
 enum { LENGTH_BYTES = 8, CHECKSUM_BYTES = 4, FRAME = LENGTH_BYTES + EVENING_IMAGE + CHECKSUM_BYTES, PATH_ROOM = EVENING_NAME + 16 };
 
-/* CRC-32 as zlib has it: it finds each change of one to three bits in a file of this size, and each change within 32 bits in a row. */
-static uint32_t checksum(const uint8_t *bytes, size_t length)
+/* CRC-32 as zlib has it, and on from the one of the bytes before: it finds each change of one to three bits in a file of this size, and each
+   change within 32 bits in a row. */
+static uint32_t checksum_on(uint32_t before, const uint8_t *bytes, size_t length)
 {
-    uint32_t sum = 0xffffffffu;
+    uint32_t sum = ~before;
     for (size_t at = 0; at < length; at++) {
         sum ^= bytes[at];
         for (int bit = 0; bit < 8; bit++)
             sum = sum >> 1 ^ (sum & 1 ? 0xedb88320u : 0);
     }
     return ~sum;
+}
+
+static uint32_t checksum(const uint8_t *bytes, size_t length)
+{
+    return checksum_on(0, bytes, length);
 }
 
 static void put_number(uint8_t *bytes, int count, uint64_t number)
@@ -91,6 +100,31 @@ static int read_file(const char *path, uint8_t bytes[FRAME + 1], size_t *count)
     return failed ? EVENING_FAILED : EVENING_DONE;
 }
 
+/* Judges a file that is longer than a frame here may be, by the length of the image that it says it has: a good one is too long. */
+static int judge_long(const char *path, uint64_t length)
+{
+    uint8_t bytes[FRAME];
+    uint64_t count = 0;
+    uint32_t sum = 0;
+    ssize_t more;
+    int file = open(path, O_RDONLY);
+    if (file < 0)
+        return EVENING_FAILED;
+    do {
+        more = read(file, bytes, sizeof bytes);
+        if (more > 0) {
+            sum = checksum_on(sum, bytes, (size_t)more);
+            count += (uint64_t)more;
+        }
+    } while ((more > 0 && count - 1 < length + LENGTH_BYTES + CHECKSUM_BYTES) || (more < 0 && errno == EINTR));
+    int failed = more < 0 ? errno : 0;
+    close(file);
+    errno = failed;
+    if (failed)
+        return EVENING_FAILED;
+    return count == length + LENGTH_BYTES + CHECKSUM_BYTES && sum == CHECKSUM_OF_WHOLE ? EVENING_LONG : EVENING_DAMAGED;
+}
+
 /* Brings a file's folder to the disk, and so its names. */
 static int sync_folder(const char *name)
 {
@@ -128,8 +162,10 @@ static int keep_old(const char *name)
         return second_name(name, ".before");
     case EVENING_FAILED:
         return errno == ENOENT ? EVENING_DONE : EVENING_FAILED;
-    default:
+    case EVENING_DAMAGED:
         return second_name(name, ".damaged");
+    default:
+        return EVENING_LONG;
     }
 }
 
@@ -142,9 +178,10 @@ int evening_keep(const char *name, const uint8_t *image, size_t length)
     snprintf(beside, sizeof beside, "%s.new", name);
     if (write_file(beside, bytes, frame(bytes, image, length)) != EVENING_DONE)
         return EVENING_FAILED;
-    if (keep_old(name) != EVENING_DONE || rename(beside, name) != 0)
-        return EVENING_FAILED;
-    return sync_folder(name);
+    int old = keep_old(name);
+    if (old != EVENING_DONE)
+        return old;
+    return rename(beside, name) == 0 ? sync_folder(name) : EVENING_FAILED;
 }
 
 int evening_kept(const char *name, uint8_t *image, size_t room, size_t *length)
@@ -153,7 +190,9 @@ int evening_kept(const char *name, uint8_t *image, size_t room, size_t *length)
     size_t count;
     if (read_file(name, bytes, &count) != EVENING_DONE)
         return EVENING_FAILED;
-    if (count > FRAME || !whole(bytes, count))
+    if (count > FRAME)
+        return judge_long(name, get_number(bytes, LENGTH_BYTES));
+    if (!whole(bytes, count))
         return EVENING_DAMAGED;
     *length = count - LENGTH_BYTES - CHECKSUM_BYTES;
     if (*length > room)

@@ -2,6 +2,7 @@
 
        test write NAME    makes a store, keeps its image under the name, damages copies of the file
        test read NAME     loads what was kept under the name
+       test long NAME     finds a good file there that is too long for it, and leaves it
 */
 #include "evening.h"
 #include "olipranj.h"
@@ -38,15 +39,12 @@ static int morning(const char *name)
     int kept = evening_kept(name, image, sizeof image, &length);
     if (kept != EVENING_DONE)
         return kept;
-    if (olipranj_load(&spare, image, length).number != OLIPRANJ_DONE)
-        return EVENING_DAMAGED;
-    live = spare;
-    return EVENING_DONE;
+    return olipranj_load_live(&live, &spare, image, length).number == OLIPRANJ_DONE ? EVENING_DONE : EVENING_DAMAGED;
 }
 
 static void a_day(void)
 {
-    must(olipranj_fresh(&live, 1).number == OLIPRANJ_DONE, "plan 1 exists");
+    must(olipranj_fresh_live(&live, &spare, 1).number == OLIPRANJ_DONE, "plan 1 exists");
     for (uint32_t number = 0; number < 20; number++) {
         if (live.counts[0] == 8)
             must(olipranj_step(&live, OLIPRANJ_CARRY, 0, 0).number == OLIPRANJ_DONE, "carried");
@@ -120,12 +118,35 @@ static void old_files_are_kept(const char *name)
     must(evening_keep(name, first, EVENING_IMAGE + 1) == EVENING_LONG, "an image too long is said");
 }
 
+/* A longer image that another program kept is no damaged one, and does not give its name away; changed anywhere it is damaged. */
+static void a_long_file_stays(const char *name)
+{
+    uint8_t bytes[2 * EVENING_IMAGE] = {0}, again[2 * EVENING_IMAGE];
+    char copy[EVENING_NAME];
+    size_t count = read_all(name, bytes, sizeof bytes);
+    snprintf(copy, sizeof copy, "%s.copy", name);
+    must(morning(name) == EVENING_LONG, "a longer image is said");
+    must(evening(name) == EVENING_LONG, "a longer image is not replaced");
+    must(read_all(name, again, sizeof again) == count && memcmp(bytes, again, count) == 0, "a longer image stays");
+    for (size_t at = 0; at < count; at += at < 8 || at + 8 > count ? 1 : 97) {
+        bytes[at] ^= 1;
+        must(found(copy, bytes, count), "a flipped bit of a longer file is found");
+        bytes[at] ^= 1;
+    }
+    must(found(copy, bytes, count - 1), "a cut of a longer file is found");
+    must(found(copy, bytes, count + 1), "a byte more of a longer file is found");
+}
+
 int main(int count, char **words)
 {
-    must(count == 3, "two words: write or read, and a name");
+    must(count == 3, "two words: write, read or long, and a name");
     if (strcmp(words[1], "read") == 0)
         return morning(words[2]) == EVENING_DONE ? 0 : 1;
     a_day();
+    if (strcmp(words[1], "long") == 0) {
+        a_long_file_stays(words[2]);
+        return 0;
+    }
     must(evening(words[2]) == EVENING_DONE, "kept");
     damage(words[2]);
     old_files_are_kept(words[2]);

@@ -9,7 +9,7 @@ use std::error::Error;
 use std::ops::RangeInclusive;
 use std::path::Path;
 
-use olipranj::{Book, Line, Saved, Taken};
+use olipranj::{Book, Line, PageLines, Saved, Taken};
 
 const HARDNESS: u32 = 1;
 const IRON: u32 = 2;
@@ -46,6 +46,14 @@ fn is_shown(book: &Book, sample: u32, kept: &[u8]) -> bool {
     book.serve(sample, kept, NOTICE) == kept
 }
 
+/// Makes the sample's page anew if the kept one is not shown. While an entry is pending there is no page: the notice stays.
+fn renew(book: &Book, sample: u32, kept: &mut Vec<u8>) -> Ended<()> {
+    if !is_shown(book, sample, kept) && book.pending_of(sample).is_none() {
+        *kept = book.page(sample)?.into_bytes();
+    }
+    Ok(())
+}
+
 /// Says how many kept pages are shown, and for how many samples the notice.
 fn shown(book: &Book, pages: &BTreeMap<u32, Vec<u8>>) {
     let count = pages.iter().filter(|(&sample, kept)| is_shown(book, sample, kept)).count();
@@ -63,9 +71,9 @@ fn say(book: &Book, sample: u32, kept: &[u8]) {
 fn day(name: &Path) -> Ended<()> {
     let mut book = Book::fresh(1)?;
     results(&mut book, SAMPLES, 0)?;
-    let mut pages = BTreeMap::new();
-    for sample in SAMPLES {
-        pages.insert(sample, book.page(sample)?.into_bytes());
+    let mut pages: BTreeMap<u32, Vec<u8>> = SAMPLES.map(|sample| (sample, Vec::new())).collect();
+    for (&sample, kept) in &mut pages {
+        renew(&book, sample, kept)?;
     }
     println!("60 entries, {} copies held", book.store().copies());
     shown(&book, &pages);
@@ -76,25 +84,22 @@ fn day(name: &Path) -> Ended<()> {
     println!("100 entries, {} copies held", book.store().copies());
     shown(&book, &pages);
     for (&sample, kept) in &mut pages {
-        if !is_shown(&book, sample, kept) {
-            *kept = book.page(sample)?.into_bytes();
-        }
+        renew(&book, sample, kept)?;
     }
     shown(&book, &pages);
-    let page = book.page(7)?;
-    for line in page.lines()? {
+    for line in PageLines::read(&pages[&7])? {
         let line = line?;
         println!("{} is {}, stamp {}", line.line, line.value, line.stamp);
     }
     evening::keep(name, &book.save()?.to_bytes())?;
-    evening::keep(&page_of(name), page.bytes())?;
+    evening::keep(&page_of(name), &pages[&7])?;
     Ok(())
 }
 
 /// The book and a kept page from the files; an amendment; more lines than the store holds.
 fn morning(name: &Path) -> Ended<()> {
     let mut book = loaded(name)?;
-    let kept = evening::kept(&page_of(name))?;
+    let mut kept = evening::kept(&page_of(name))?;
     say(&book, 7, &kept);
     entered(&mut book, 7, HARDNESS, 180)?;
     say(&book, 7, &kept);
@@ -102,9 +107,13 @@ fn morning(name: &Path) -> Ended<()> {
     while entered(&mut book, sample, HARDNESS, 1)? {
         sample += 1;
     }
-    let kept = book.page(7)?.into_bytes();
+    let mut none = Vec::new();
+    renew(&book, 7, &mut kept)?;
+    renew(&book, sample, &mut none)?;
     say(&book, 7, &kept);
+    say(&book, sample, &none);
     entered(&mut book, 7, NITRATE, 99)?;
+    renew(&book, 7, &mut kept)?;
     say(&book, 7, &kept);
     evening::keep(name, &book.save()?.to_bytes())?;
     say(&loaded(name)?, 7, &kept);

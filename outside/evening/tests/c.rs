@@ -44,4 +44,9 @@ fn the_c_example_is_the_same() {
     evening::keep(&other, &image).expect("kept");
     assert!(ends_well(&program, "read", &other));
     assert!(!ends_well(&program, "read", &folder.join("none")));
+    for length in [4097, 5000] {
+        let long = folder.join("long");
+        fs::write(&long, framed(&vec![7; length])).expect("written");
+        assert!(ends_well(&program, "long", &long));
+    }
 }

@@ -19,16 +19,19 @@ pub struct Answer {
 
 impl Answer {
     /// Whether the call was done.
+    #[must_use]
     pub const fn is_done(&self) -> bool {
         self.number == Number::Done as u32
     }
 
     /// The answer number by name; none for a number that the header does not have.
+    #[must_use]
     pub fn name(&self) -> Option<Number> {
         Number::of(self.number)
     }
 
     /// The result of an ended search, if the line has one: its value and stamp.
+    #[must_use]
     pub const fn result(&self) -> Option<(u64, u64)> {
         if self.is_done() && self.a == 2 {
             Some((self.b, self.c))

@@ -1,5 +1,7 @@
 //! A store that takes entries, with those that it could not take.
 
+use std::fmt;
+
 use crate::{habit, Entry, Line, Look, Pending, Refusal, Saved, Stamp, Store, Taken};
 
 /// A store, and the entries that it could not take: they are pending.
@@ -9,7 +11,7 @@ use crate::{habit, Entry, Line, Look, Pending, Refusal, Saved, Stamp, Store, Tak
 /// page is still true to the store: so the book gives no page of that sample, and the notice is due.
 ///
 /// What the store does is proved; what the book does is tested.
-#[derive(Clone, Debug, PartialEq, Eq)]
+#[derive(Clone, PartialEq, Eq)]
 pub struct Book {
     store: Store,
     pending: Vec<Pending>,
@@ -72,7 +74,8 @@ impl Book {
         }
     }
 
-    fn keep(&mut self, refused: Pending) {
+    /// Keeps a refused entry, for what was pending for its line.
+    pub(crate) fn keep(&mut self, refused: Pending) {
         self.pending.retain(|pending| pending.line != refused.line);
         self.pending.push(refused);
     }
@@ -113,5 +116,13 @@ impl Book {
         }
         found.sort_unstable_by_key(|&(stamp, ..)| stamp);
         Ok(found.into_iter().map(|(_, line, entry)| (line, entry)).collect())
+    }
+}
+
+/// How many copies the store holds, and how many entries are pending.
+impl fmt::Debug for Book {
+    fn fmt(&self, f: &mut fmt::Formatter<'_>) -> fmt::Result {
+        let mut debug = f.debug_struct("Book");
+        debug.field("copies", &self.store.copies()).field("pending", &self.pending.len()).finish()
     }
 }

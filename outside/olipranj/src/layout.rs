@@ -54,15 +54,21 @@ impl Raw {
     };
 }
 
-/// Plan, clock, counts and how many searches run; not all 2090 numbers.
-impl fmt::Debug for Raw {
-    fn fmt(&self, f: &mut fmt::Formatter<'_>) -> fmt::Result {
+impl Raw {
+    /// Under a name plan, clock, counts and how many searches run; not all 2090 numbers.
+    pub(crate) fn debug(&self, name: &str, f: &mut fmt::Formatter<'_>) -> fmt::Result {
         let searches = self.slots.iter().filter(|slot| slot.running != 0).count();
-        f.debug_struct("Store")
+        f.debug_struct(name)
             .field("plan", &self.plan)
             .field("clock", &self.clock)
             .field("counts", &self.counts)
             .field("searches", &searches)
             .finish()
+    }
+}
+
+impl fmt::Debug for Raw {
+    fn fmt(&self, f: &mut fmt::Formatter<'_>) -> fmt::Result {
+        self.debug("Raw", f)
     }
 }

@@ -47,7 +47,7 @@ impl fmt::Display for NoPage {
     fn fmt(&self, f: &mut fmt::Formatter<'_>) -> fmt::Result {
         match self {
             NoPage::Pending(line) => write!(f, "an entry of line {line} is pending"),
-            NoPage::Refused(refusal) => refusal.fmt(f),
+            NoPage::Refused(refusal) => fmt::Display::fmt(refusal, f),
         }
     }
 }

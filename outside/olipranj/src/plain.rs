@@ -3,7 +3,8 @@
 use crate::{sys, Answer, Raw};
 
 impl Raw {
-    /// Lays down a fresh store of the plan here: DONE; or PLAN, and a fresh store of plan 1. What stood here is gone: for the comparison alone.
+    /// Lays down a fresh store of the plan here: DONE; or PLAN, and a fresh store of plan 1. What stood here is gone:
+    /// for the comparison and the measurement.
     #[doc(hidden)]
     pub fn fresh_here(&mut self, plan: u32) -> Answer {
         // SAFETY: the pointer is to a store that is lent to this call alone.
@@ -11,7 +12,7 @@ impl Raw {
     }
 
     /// Lays down the store of an image here: DONE; or its first fault, and a fresh store of plan 1. What stood here is
-    /// gone: for the comparison alone.
+    /// gone: for the comparison and the measurement.
     #[doc(hidden)]
     pub fn load_here(&mut self, image: &[u8]) -> Answer {
         // SAFETY: the store is lent to this call alone, and the pointer and length are of one slice, never null.

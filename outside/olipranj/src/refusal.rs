@@ -6,25 +6,51 @@ use std::fmt;
 use crate::{Answer, Number};
 
 /// A refused call: its answer. The store and every lent byte are as they were.
-#[derive(Clone, Copy, Debug, PartialEq, Eq)]
+#[derive(Clone, Copy, PartialEq, Eq)]
 pub struct Refusal {
-    answer: Answer,
+    why: Why,
+}
+
+#[derive(Clone, Copy, PartialEq, Eq)]
+enum Why {
+    Answer(Answer),
+    /// The library has another layout than this crate, and was not called.
+    Layouts {
+        library: u32,
+        here: u32,
+    },
+    /// The load of the sample's book was refused, and no other book was put.
+    NoBook,
 }
 
 impl Refusal {
     /// The refusal that an answer is. An answer that is not what the call may give is one too.
     pub(crate) const fn of(answer: Answer) -> Refusal {
-        Refusal { answer }
+        Refusal { why: Why::Answer(answer) }
     }
 
-    /// The whole answer.
+    /// The refusal of a library of another layout: it was not called.
+    pub(crate) const fn of_layout(library: u32, here: u32) -> Refusal {
+        Refusal { why: Why::Layouts { library, here } }
+    }
+
+    /// The refusal of a shelf that has no book for the sample, since its load was refused.
+    pub(crate) const fn no_book() -> Refusal {
+        Refusal { why: Why::NoBook }
+    }
+
+    /// The whole answer; where the library was not called (another layout, a shelf without the sample's book), one with a
+    /// number that the header does not have.
     pub const fn answer(&self) -> Answer {
-        self.answer
+        match self.why {
+            Why::Answer(answer) => answer,
+            Why::Layouts { .. } | Why::NoBook => Answer { number: u32::MAX, a: 0, b: 0, c: 0, d: 0 },
+        }
     }
 
     /// The answer number by name; none for a number that the header does not have.
     pub fn name(&self) -> Option<Number> {
-        self.answer.name()
+        self.answer().name()
     }
 
     /// Whether this is the refusal of that name.
@@ -35,7 +61,13 @@ impl Refusal {
 
 impl fmt::Display for Refusal {
     fn fmt(&self, f: &mut fmt::Formatter<'_>) -> fmt::Result {
-        let Answer { number, a, .. } = self.answer;
+        let Answer { number, a, .. } = match self.why {
+            Why::Answer(answer) => answer,
+            Why::Layouts { library, here } => {
+                return write!(f, "the library has layout {library}, and this crate is for layout {here}");
+            }
+            Why::NoBook => return write!(f, "the load of the sample's book was refused"),
+        };
         let Some(name) = self.name() else {
             return write!(f, "answer {number}, which the header does not have");
         };
@@ -49,6 +81,13 @@ impl fmt::Display for Refusal {
             }
             _ => Ok(()),
         }
+    }
+}
+
+/// The same words: `main` and `unwrap` print an error so.
+impl fmt::Debug for Refusal {
+    fn fmt(&self, f: &mut fmt::Formatter<'_>) -> fmt::Result {
+        fmt::Display::fmt(self, f)
     }
 }
 

@@ -13,7 +13,7 @@ const WITHDRAW: u32 = 2;
 
 /// A book as it is kept overnight: its store's image, and what is pending.
 #[must_use]
-#[derive(Clone, Debug, PartialEq, Eq)]
+#[derive(Clone, PartialEq, Eq)]
 #[allow(missing_docs)]
 pub struct Saved {
     pub image: Vec<u8>,
@@ -97,6 +97,14 @@ impl Reader<'_> {
             None | Some(Number::Done | Number::Going) => Err(SavedFault::Refusal(begin)),
             Some(_) => Ok(Refusal::of(Answer { number, a: 0, b: 0, c: 0, d: 0 })),
         }
+    }
+}
+
+/// How many bytes the image has, and how many entries are pending.
+impl fmt::Debug for Saved {
+    fn fmt(&self, f: &mut fmt::Formatter<'_>) -> fmt::Result {
+        let mut debug = f.debug_struct("Saved");
+        debug.field("image", &self.image.len()).field("pending", &self.pending.len()).finish()
     }
 }
 

@@ -5,14 +5,15 @@ use std::fmt;
 
 use crate::nodes::{nodes, Node};
 use crate::{
-    Answer, Carried, Entry, Line, Look, Page, Raw, Refusal, Stamp, Visit, LONGEST_IMAGE, LONGEST_PAGE,
+    sys, Answer, Carried, Entry, Line, Look, Page, Raw, Refusal, Stamp, Visit, LONGEST_IMAGE, LONGEST_PAGE,
 };
 
 /// A good store behind the proved library's calls.
 ///
 /// A refused call leaves the store as it was. A fresh or a loaded store is always another one: `store =
 /// Store::load(&image)?` changes nothing if the image is refused. Calls that leave the store alone may run at the same
-/// time, one that alters it excludes all others; the compiler holds the caller to that.
+/// time, one that alters it excludes all others; the compiler holds the caller to that. A library of another layout is
+/// asked for nothing but its layout: there is no store then, only a refusal.
 #[repr(transparent)]
 #[derive(Clone, PartialEq, Eq)]
 pub struct Store {
@@ -22,19 +23,22 @@ pub struct Store {
 impl Store {
     /// A fresh store of a plan, by its number from 1; else PLAN.
     pub fn fresh(plan: u32) -> Result<Store, Refusal> {
+        sys::layout_fits()?;
         let mut raw = Raw::ZERO;
         raw.fresh_here(plan).done().map(|_| Store { raw })
     }
 
     /// The store that an image holds, with no search running; else the image's first fault.
     pub fn load(image: &[u8]) -> Result<Store, Refusal> {
+        sys::layout_fits()?;
         let mut raw = Raw::ZERO;
         raw.load_here(image).done().map(|_| Store { raw })
     }
 
     /// The store of these numbers; else BADSTORE.
     pub fn from_raw(raw: Raw) -> Result<Store, Refusal> {
-        raw.look(0).done().map(|_| Store { raw })
+        sys::layout_fits()?;
+        raw.good().done().map(|_| Store { raw })
     }
 
     /// The store's numbers, with the plain numbered calls that leave it alone.
@@ -143,7 +147,7 @@ impl Store {
 
 impl fmt::Debug for Store {
     fn fmt(&self, f: &mut fmt::Formatter<'_>) -> fmt::Result {
-        self.raw.fmt(f)
+        self.raw.debug("Store", f)
     }
 }
 

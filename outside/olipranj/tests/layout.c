@@ -1,4 +1,4 @@
-/* Prints the sizes and offsets of the header's types and its answer numbers, in the order of layout.rs. */
+/* Prints the sizes and offsets of the header's types and its layout and answer numbers, in the order of layout.rs. */
 #include <stdio.h>
 #include "olipranj.h"
 
@@ -28,6 +28,7 @@ int main(void) {
     AT(olipranj_answer, c);
     AT(olipranj_answer, d);
     SIZE(size_t);
+    NUMBER(LAYOUT);
     NUMBER(DONE);
     NUMBER(GOING);
     NUMBER(BADSTORE);

@@ -120,6 +120,14 @@ fn a_store_is_read_by_node_and_by_line() {
     assert_eq!((store.plan(), store.clock(), store.copies()), (1, 4, 3));
     let short = "Store { plan: 1, clock: 4, counts: [2, 1, 0, 0, 0, 0, 0, 0], searches: 0 }";
     assert_eq!(format!("{store:?}"), short);
+    assert_eq!(format!("{:?}", store.raw()), short.replace("Store", "Raw"));
+    let mut book = Book::new(store);
+    assert_eq!(format!("{book:?}"), "Book { copies: 3, pending: 0 }");
+    let saved = book.save().expect("a good store");
+    assert_eq!(format!("{saved:?}"), format!("Saved {{ image: {}, pending: 0 }}", saved.image.len()));
+    let refusal = book.anew(0).expect_err("there is no such plan");
+    assert_eq!(format!("{refusal:?}"), refusal.to_string());
+    assert_eq!(book.retry(), 0);
 }
 
 #[test]

@@ -3,7 +3,7 @@
 use std::collections::BTreeMap;
 use std::num::NonZeroU32;
 
-use olipranj::{Book, Line, NoBook, Saved, Shelf, Store};
+use olipranj::{Book, Current, Entry, Line, NoBook, Saved, Shelf, Store, Taken};
 
 use super::books::{entry, refused};
 use super::mirror::{same, Mirror};
@@ -63,7 +63,7 @@ impl Both {
         let mut mirror = self.mirror(key / 32);
         let answer = mirror.take(key, entry);
         mirror.took(answer, self.shelf.take(Line::of_key(key), entry))?;
-        mirror.holds(self.shelf.book(key / 32))?;
+        mirror.holds(self.shelf.book(key / 32).map_err(refused)?)?;
         mirror.look(key, &self.shelf)?;
         self.mirrors.insert(key / 32 / self.samples, mirror);
         self.shown(key / 32)?;
@@ -92,6 +92,7 @@ fn overnight(random: &mut Random, both: &Both) -> Result<(), Difference> {
         same("a misplaced book", &holds, &matches!(elsewhere, Err(NoBook::Misplaced(_))))?;
         let cut = Saved { image: saved.image[..random.below(saved.image.len())].to_vec(), ..saved.clone() };
         same("a cut image", &true, &matches!(morning.load(*number, &cut), Err(NoBook::Refused(_))))?;
+        after_a_refused_load(both, *number, saved, &cut)?;
         let mut damaged = saved.clone();
         damage(random, &mut damaged.image);
         let before = morning.clone();
@@ -104,4 +105,26 @@ fn overnight(random: &mut Random, both: &Both) -> Result<(), Difference> {
         let book = morning.books().find(|(other, _)| other == number);
         mirror.holds(book.ok_or(Difference::new("a book is missing"))?.1)
     })
+}
+
+/// Where nothing but a refused load was, nothing is shown or saved, and an entry is pending until a good book is there.
+fn after_a_refused_load(both: &Both, number: u32, saved: &Saved, cut: &Saved) -> Result<(), Difference> {
+    let mut shelf = Shelf::new(both.plan, both.samples).map_err(refused)?;
+    let sample = number * both.samples.get();
+    let kept = shelf.page(sample).map_err(refused)?.into_bytes();
+    same("a cut image alone", &true, &shelf.load(number, cut).is_err())?;
+    same(
+        "a page of a refused book",
+        &(true, None),
+        &(shelf.page(sample).is_err(), shelf.still_true(sample, &kept)),
+    )?;
+    let (key, entry) = (sample * 32, Entry::Result(number));
+    let taken = shelf.take(Line::of_key(key), entry);
+    same("an entry of a refused book", &true, &matches!(taken, Taken::Pending(_)))?;
+    same("a look there", &Ok(Current::Pending(entry)), &shelf.look(Line::of_key(key)))?;
+    same("what is saved of a refused book", &0, &shelf.save().map_err(refused)?.len())?;
+    shelf.load(number, saved).map_err(refused)?;
+    let mut mirror = both.mirror(sample);
+    mirror.take(key, entry);
+    mirror.holds(shelf.book(sample).map_err(refused)?)
 }
