@@ -11,7 +11,9 @@ type Way = fn(&mut Random, &mut Store) -> Option<()>;
 /// Each way: the rule that it breaks, by its name in `naive`, what it does, and the doing.
 pub const WAYS: &[(&str, &str, Way)] = &[
     ("plan", "plan 0", |_, store| set(&mut store.plan, 0)),
-    ("plan", "a plan past the table", |random, store| set(&mut store.plan, from(random, PLANS.len() as u32 + 1))),
+    ("plan", "a plan past the table", |random, store| {
+        set(&mut store.plan, from(random, PLANS.len() as u32 + 1))
+    }),
     ("clock", "clock 0 in an empty store", clock_0),
     ("count within capacity", "a copy more than a node holds", one_too_many),
     ("count within capacity", "a count far above capacity", count_far_above),
@@ -108,7 +110,8 @@ fn one_too_many(random: &mut Random, store: &mut Store) -> Option<()> {
 fn count_far_above(random: &mut Random, store: &mut Store) -> Option<()> {
     let node = random.below(plan_of(store).nodes());
     let width = NODE_PLACES as u32;
-    let count = random.pick(&[width + 1, width + 2, 8 * width, 8 * width + 1, 0x8000_0000, u32::MAX, 0x4000_0001]);
+    let count =
+        random.pick(&[width + 1, width + 2, 8 * width, 8 * width + 1, 0x8000_0000, u32::MAX, 0x4000_0001]);
     set(&mut store.counts[node], count)
 }
 
@@ -125,7 +128,11 @@ fn copy_in_no_node(random: &mut Random, store: &mut Store) -> Option<()> {
     set(&mut store.counts[node], 1)
 }
 
-fn unused(random: &mut Random, store: &mut Store, column: fn(&mut Store) -> &mut [u32; PLACES]) -> Option<()> {
+fn unused(
+    random: &mut Random,
+    store: &mut Store,
+    column: fn(&mut Store) -> &mut [u32; PLACES],
+) -> Option<()> {
     let held = used(store);
     let mut free: Vec<usize> = (0..PLACES).filter(|place| !held.contains(place)).collect();
     if random.once_in(2) {
@@ -181,7 +188,10 @@ fn visits_off(random: &mut Random, store: &mut Store) -> Option<()> {
 /// Places whose next place in their node is used too.
 fn first_of_two(store: &Store) -> Vec<usize> {
     let held = used(store);
-    held.iter().copied().filter(|&place| place % NODE_PLACES < NODE_PLACES - 1 && held.contains(&(place + 1))).collect()
+    held.iter()
+        .copied()
+        .filter(|&place| place % NODE_PLACES < NODE_PLACES - 1 && held.contains(&(place + 1)))
+        .collect()
 }
 
 /// The copy's key becomes its left neighbour's, in the lowest node that has the key.
@@ -220,11 +230,13 @@ fn off_path(random: &mut Random, store: &mut Store) -> Option<()> {
     let plan = plan_of(store);
     let node = random.between(1, plan.nodes() - 1);
     let held = node * NODE_PLACES..node * NODE_PLACES + store.counts[node] as usize;
-    let (place, upper) = if random.once_in(2) { (held.clone().last()?, true) } else { (held.clone().next()?, false) };
+    let (place, upper) =
+        if random.once_in(2) { (held.clone().last()?, true) } else { (held.clone().next()?, false) };
     let edge = if upper { HALF } else { HALF - 1 };
     let key = if random.once_in(2) { edge } else { store.keys[place] ^ HALF };
     let rises = held.filter(|&other| other != place).all(|other| (store.keys[other] < key) == upper);
-    if !rises || plan.depth(node, key).is_some() || used(store).iter().any(|&place| store.keys[place] == key) {
+    if !rises || plan.depth(node, key).is_some() || used(store).iter().any(|&place| store.keys[place] == key)
+    {
         return None;
     }
     set(&mut store.keys[place], key)

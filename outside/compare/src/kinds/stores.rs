@@ -94,7 +94,11 @@ fn change_a_word(random: &mut Random, store: &mut model::Store) {
     let little = random.pick(&[1, u32::MAX, 0x8000_0000]);
     let any = random.once_in(3);
     let used = crate::stores::used(store);
-    let place = if used.is_empty() || random.once_in(3) { random.below(store.keys.len()) } else { random.pick(&used) };
+    let place = if used.is_empty() || random.once_in(3) {
+        random.below(store.keys.len())
+    } else {
+        random.pick(&used)
+    };
     let slot = random.below(store.slots.len());
     let node = random.below(store.counts.len());
     let word = match random.below(11) {
