@@ -3,18 +3,25 @@
 use crate::{sys, Answer, Raw};
 
 impl Raw {
-    /// Lays down a fresh store of the plan here: DONE; or PLAN, and a fresh store of plan 1. What stood here is gone:
-    /// for the comparison and the measurement.
-    #[doc(hidden)]
+    /// Lays down a fresh store of the plan here: DONE; or PLAN, and a fresh store of plan 1. What stood here is gone, so
+    /// this is offered with the feature `overwriting` alone, to the comparison and the measurement.
+    #[cfg(feature = "overwriting")]
     pub fn fresh_here(&mut self, plan: u32) -> Answer {
+        self.lay_fresh(plan)
+    }
+
+    /// Lays down the store of an image here: DONE; or its first fault, and a fresh store of plan 1. Offered likewise.
+    #[cfg(feature = "overwriting")]
+    pub fn load_here(&mut self, image: &[u8]) -> Answer {
+        self.lay_image(image)
+    }
+
+    pub(crate) fn lay_fresh(&mut self, plan: u32) -> Answer {
         // SAFETY: the pointer is to a store that is lent to this call alone.
         unsafe { sys::olipranj_fresh(self, plan) }
     }
 
-    /// Lays down the store of an image here: DONE; or its first fault, and a fresh store of plan 1. What stood here is
-    /// gone: for the comparison and the measurement.
-    #[doc(hidden)]
-    pub fn load_here(&mut self, image: &[u8]) -> Answer {
+    pub(crate) fn lay_image(&mut self, image: &[u8]) -> Answer {
         // SAFETY: the store is lent to this call alone, and the pointer and length are of one slice, never null.
         unsafe { sys::olipranj_load(self, image.as_ptr(), image.len()) }
     }

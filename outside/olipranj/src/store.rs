@@ -25,14 +25,14 @@ impl Store {
     pub fn fresh(plan: u32) -> Result<Store, Refusal> {
         sys::layout_fits()?;
         let mut raw = Raw::ZERO;
-        raw.fresh_here(plan).done().map(|_| Store { raw })
+        raw.lay_fresh(plan).done().map(|_| Store { raw })
     }
 
     /// The store that an image holds, with no search running; else the image's first fault.
     pub fn load(image: &[u8]) -> Result<Store, Refusal> {
         sys::layout_fits()?;
         let mut raw = Raw::ZERO;
-        raw.load_here(image).done().map(|_| Store { raw })
+        raw.lay_image(image).done().map(|_| Store { raw })
     }
 
     /// The store of these numbers; else BADSTORE.
