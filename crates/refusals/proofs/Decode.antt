@@ -20,6 +20,7 @@ use Rattle.wire.specs.Reading.{Got, got, fault, bind, numberAt}
 use Rattle.wire.proofs.Chains.{got-or-fault, bind-got, bind-fault, check-holds, check-fails, Faults, faults-got, faults-fault, faults-bind, faults-cond, faults-number}
 use Rattle.schedule.specs.declared.Step.{Step}
 use Rattle.schedule.specs.Schedule.{mostSteps, stepRecord, Schedule, knownStep, hasTwo, secondAt, stepAt, stepsAt, scheduleAt, decodeAnswer, decodeList}
+use Rattle.schedule.specs.Promises.{decodeOutcome}
 use Rattle.refusals.specs.Given.{Among}
 use Rattle.refusals.specs.Schedules.{scheduleFaults, GoodSteps, StepsStop, many, one, InStep, itsNumber, itsFirst, itsSecond, UnknownAt, BadSchedulePlan, ScheduleStop, no-number, bad-plan, in-steps, AfterMost, FirstUnknown, InSchedule, itsPlan, inStep}
 use Rattle.refusals.proofs.OnStores.{not-given}
@@ -217,11 +218,11 @@ module _ (s : List ℕ) where
 module _ (s : List ℕ) (before : List Step) where
   -- The ways of decoding.
   data Way : Type 0 where
-    small : length before < mostSteps → decodeAnswer s before ≡ answer SMALL mostSteps 0 0 0 → decodeList s before ≡ before → Way
-    stops : {number at : ℕ} → mostSteps ≤ length before → scheduleAt s ≡ fault number at → decodeAnswer s before ≡ answer number at 0 0 0
-        → decodeList s before ≡ before → Way
+    small : length before < mostSteps → decodeOutcome s before .0 ≡ answer SMALL mostSteps 0 0 0 → decodeOutcome s before .1 ≡ before → Way
+    stops : {number at : ℕ} → mostSteps ≤ length before → scheduleAt s ≡ fault number at → decodeOutcome s before .0 ≡ answer number at 0 0 0
+        → decodeOutcome s before .1 ≡ before → Way
     done : {d : Schedule} {end : ℕ} → mostSteps ≤ length before → scheduleAt s ≡ got d end
-        → decodeAnswer s before ≡ answer DONE (length (d .steps)) (d .plan) 0 0 → Way
+        → decodeOutcome s before .0 ≡ answer DONE (length (d .steps)) (d .plan) 0 0 → Way
 
   way : Way
   unfolding decodeAnswer decodeList
@@ -233,13 +234,13 @@ module _ (s : List ℕ) (before : List Step) where
       go (no h) (got d end) e = let t = le-ltb (length before) mostSteps (omega arith) in done (omega arith) e (rw (t, e))
 
   abbrev number : ℕ
-  number = decodeAnswer s before .number
+  number = decodeOutcome s before .0 .number
 
-  numbered : {r : Answer} → decodeAnswer s before ≡ r → number ≡ r .number
+  numbered : {r : Answer} → decodeOutcome s before .0 ≡ r → number ≡ r .number
   numbered e = ap (λ (r : Answer). r .number) e
 
   -- "Decoding into a list of fewer than 256 records answers SMALL, a 256, before a byte is read."
-  pub decode-small : (decodeAnswer s before .number ≡ SMALL) ↔ (length before < mostSteps)
+  pub decode-small : (decodeOutcome s before .0 .number ≡ SMALL) ↔ (length before < mostSteps)
   unfolding member
   decode-small = go way
     where
@@ -251,21 +252,21 @@ module _ (s : List ℕ) (before : List Step) where
       )
       go (done h f e) = (λ q. absurd (omega (arith, numbered e)), λ g. absurd (omega arith))
 
-  pub decode-needs : decodeAnswer s before .number ≡ SMALL → decodeAnswer s before ≡ answer SMALL mostSteps 0 0 0
+  pub decode-needs : decodeOutcome s before .0 .number ≡ SMALL → decodeOutcome s before .0 ≡ answer SMALL mostSteps 0 0 0
   decode-needs q = go way
     where
-      go : Way → decodeAnswer s before ≡ answer SMALL mostSteps 0 0 0
+      go : Way → decodeOutcome s before .0 ≡ answer SMALL mostSteps 0 0 0
       go (small h e l) = e
       go (stops h f e l) = absurd (omega (arith, decode-small .0 q))
       go (done h f e) = absurd (omega (arith, decode-small .0 q))
 
   -- A fault of reading is given exactly when the list is long enough and the schedule stops with it.
   pub decode-fault : (n at : ℕ) → member n scheduleFaults ≡ true
-      → (decodeAnswer s before ≡ answer n at 0 0 0) ↔ ((mostSteps ≤ length before) × ScheduleStop s n at)
+      → (decodeOutcome s before .0 ≡ answer n at 0 0 0) ↔ ((mostSteps ≤ length before) × ScheduleStop s n at)
   unfolding member
   decode-fault n at is = go way
     where
-      go : Way → (decodeAnswer s before ≡ answer n at 0 0 0) ↔ ((mostSteps ≤ length before) × ScheduleStop s n at)
+      go : Way → (decodeOutcome s before .0 ≡ answer n at 0 0 0) ↔ ((mostSteps ≤ length before) × ScheduleStop s n at)
       go (small h e l) = (
         λ q. absurd (not-given scheduleFaults n is refl (sym (numbered q) ∙ numbered e)),
         λ g. absurd (omega (arith, g .0)),
@@ -284,7 +285,7 @@ module _ (s : List ℕ) (before : List Step) where
       )
 
   -- "plan not 1 to 3"
-  pub decode-plan : (at : ℕ) → (decodeAnswer s before ≡ answer PLAN at 0 0 0) ↔ ((mostSteps ≤ length before) × BadSchedulePlan s at)
+  pub decode-plan : (at : ℕ) → (decodeOutcome s before .0 ≡ answer PLAN at 0 0 0) ↔ ((mostSteps ≤ length before) × BadSchedulePlan s at)
   unfolding member
   decode-plan at =
       let f = decode-fault PLAN at refl in
@@ -297,7 +298,7 @@ module _ (s : List ℕ) (before : List Step) where
       there (in-steps p (one {start = start} h gs l e)) = absurd (not-both (step-faults s start .each PLAN at e) refl)
 
   -- "unknown step number"
-  pub decode-op : (at : ℕ) → (decodeAnswer s before ≡ answer OP at 0 0 0) ↔ ((mostSteps ≤ length before) × FirstUnknown s at)
+  pub decode-op : (at : ℕ) → (decodeOutcome s before .0 ≡ answer OP at 0 0 0) ↔ ((mostSteps ≤ length before) × FirstUnknown s at)
   unfolding member
   decode-op at = let f = decode-fault OP at refl in (λ e. let w = f .0 e in (w .0, there (w .1)), λ h. f .1 (h .0, back (h .1)))
     where
@@ -321,7 +322,7 @@ module _ (s : List ℕ) (before : List Step) where
       back u = in-steps (u .plan) (one {n = u .before} {start = at} (u .few) (u .steps) (u .left) (step-op s at at .1 (u .unknown)))
 
   -- "bytes after 256 steps"
-  pub decode-many : (at : ℕ) → (decodeAnswer s before ≡ answer MANY at 0 0 0) ↔ ((mostSteps ≤ length before) × AfterMost s at)
+  pub decode-many : (at : ℕ) → (decodeOutcome s before .0 ≡ answer MANY at 0 0 0) ↔ ((mostSteps ≤ length before) × AfterMost s at)
   unfolding member
   decode-many at = let f = decode-fault MANY at refl in (λ e. let w = f .0 e in (w .0, there (w .1)), λ h. f .1 (h .0, back (h .1)))
     where
@@ -336,7 +337,7 @@ module _ (s : List ℕ) (before : List Step) where
 
   -- CUT and NUMBER: one of the schedule's numbers cannot be read.
   decode-unread : (n at : ℕ) → member n numberFaults ≡ true
-      → (decodeAnswer s before ≡ answer n at 0 0 0) ↔ ((mostSteps ≤ length before) × (InSchedule s at × (numberAt narrow s at ≡ fault n at)))
+      → (decodeOutcome s before .0 ≡ answer n at 0 0 0) ↔ ((mostSteps ≤ length before) × (InSchedule s at × (numberAt narrow s at ≡ fault n at)))
   unfolding member
   decode-unread n at is =
       let f = decode-fault n at (wider (or-cases (eqb n CUT) _ is)) in
@@ -360,7 +361,7 @@ module _ (s : List ℕ) (before : List Step) where
 
   -- "bytes end inside or before a number"
   pub decode-cut : (at : ℕ)
-      → (decodeAnswer s before ≡ answer CUT at 0 0 0) ↔ ((mostSteps ≤ length before) × (InSchedule s at × EndsEarly (narrow .more) s at))
+      → (decodeOutcome s before .0 ≡ answer CUT at 0 0 0) ↔ ((mostSteps ≤ length before) × (InSchedule s at × EndsEarly (narrow .more) s at))
   unfolding member
   decode-cut at =
       let f = decode-unread CUT at refl in (
@@ -370,7 +371,7 @@ module _ (s : List ℕ) (before : List Step) where
 
   -- "not shortest, or above 32 bits"
   pub decode-number : (at : ℕ)
-      → (decodeAnswer s before ≡ answer NUMBER at 0 0 0)
+      → (decodeOutcome s before .0 ≡ answer NUMBER at 0 0 0)
       ↔ ((mostSteps ≤ length before) × (InSchedule s at × (EndsInZero (narrow .more) s at ⊎ EndsAbove (narrow .last) (narrow .more) s at)))
   unfolding member
   decode-number at =
@@ -380,31 +381,31 @@ module _ (s : List ℕ) (before : List Step) where
       )
 
   -- The numbers that decoding answers; of a refusal only a is named besides.
-  pub decode-answers : Among (DONE ∷ SMALL ∷ scheduleFaults) (decodeAnswer s before)
+  pub decode-answers : Among (DONE ∷ SMALL ∷ scheduleFaults) (decodeOutcome s before .0)
   unfolding member
   decode-answers = go way
     where
-      go : Way → Among (DONE ∷ SMALL ∷ scheduleFaults) (decodeAnswer s before)
+      go : Way → Among (DONE ∷ SMALL ∷ scheduleFaults) (decodeOutcome s before .0)
       go (small h e l) = rw e
       go (stops {number = n} {at} h f e l) = rw e (or-right (eqb n DONE) _ (or-right (eqb n SMALL) _ (schedule-faults s .each n at f)))
       go (done h f e) = rw e
 
-  pub decode-named : 2 ≤ decodeAnswer s before .number → decodeAnswer s before ≡ answer (decodeAnswer s before .number) (decodeAnswer s before .a) 0 0 0
+  pub decode-named : 2 ≤ decodeOutcome s before .0 .number → decodeOutcome s before .0 ≡ answer (decodeOutcome s before .0 .number) (decodeOutcome s before .0 .a) 0 0 0
   decode-named = go way
     where
-      named : {n at : ℕ} → decodeAnswer s before ≡ answer n at 0 0 0 → decodeAnswer s before ≡ answer number (decodeAnswer s before .a) 0 0 0
+      named : {n at : ℕ} → decodeOutcome s before .0 ≡ answer n at 0 0 0 → decodeOutcome s before .0 ≡ answer number (decodeOutcome s before .0 .a) 0 0 0
       named e = e ∙ sym (λ t. answer (e t .number) (e t .a) 0 0 0)
 
-      go : Way → 2 ≤ number → decodeAnswer s before ≡ answer number (decodeAnswer s before .a) 0 0 0
+      go : Way → 2 ≤ number → decodeOutcome s before .0 ≡ answer number (decodeOutcome s before .0 .a) 0 0 0
       go (small h e l) q = named e
       go (stops h f e l) q = named e
       go (done h f e) q = absurd (omega (arith, numbered e))
 
   -- A refusal leaves every record.
-  pub decode-refused : 2 ≤ decodeAnswer s before .number → decodeList s before ≡ before
+  pub decode-refused : 2 ≤ decodeOutcome s before .0 .number → decodeOutcome s before .1 ≡ before
   decode-refused = go way
     where
-      go : Way → 2 ≤ number → decodeList s before ≡ before
+      go : Way → 2 ≤ number → decodeOutcome s before .1 ≡ before
       go (small h e l) q = l
       go (stops h f e l) q = l
       go (done h f e) q = absurd (omega (arith, numbered e))

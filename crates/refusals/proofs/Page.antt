@@ -22,7 +22,7 @@ use Rattle.store.specs.StoreRules.{goodStore}
 use Rattle.wire.proofs.Buffers.{small-answer, small-buffer, done-answer}
 use Rattle.page_lines.specs.PageLine.{lastSample, pageLines}
 use Rattle.page.specs.PageBytes.{pageLinesBytes, pageBytes, begins}
-use Rattle.page.specs.Promises.{pageNow, pageAnswer, pageBuffer, stillTrue, servedLength, served}
+use Rattle.page.specs.Promises.{pageNow, pageAnswer, pageBuffer, pageOutcome, stillTrue, servedLength, served}
 use Rattle.page.proofs.PagesApart.{begins-rest, rest-begins}
 use Rattle.page.proofs.Served.{serves-kept, serves-notice}
 use Rattle.refusals.specs.Given.{Among, StillTrue}
@@ -36,11 +36,11 @@ module _ (z : Store) (sample : ℕ) (before : List ℕ) where
 
   -- The ways of making a page.
   data Way : Type 0 where
-    bad : goodStore z ≡ false → pageAnswer z sample before ≡ bare BADSTORE → pageBuffer z sample before ≡ before → Way
-    large : goodStore z ≡ true → lastSample < sample → pageAnswer z sample before ≡ bare SAMPLE → pageBuffer z sample before ≡ before → Way
-    small : goodStore z ≡ true → sample ≤ lastSample → length before < needed → pageAnswer z sample before ≡ answer SMALL needed 0 0 0
-        → pageBuffer z sample before ≡ before → Way
-    done : goodStore z ≡ true → sample ≤ lastSample → needed ≤ length before → pageAnswer z sample before ≡ answer DONE needed 0 0 0 → Way
+    bad : goodStore z ≡ false → pageOutcome z sample before .0 ≡ bare BADSTORE → pageOutcome z sample before .1 ≡ before → Way
+    large : goodStore z ≡ true → lastSample < sample → pageOutcome z sample before .0 ≡ bare SAMPLE → pageOutcome z sample before .1 ≡ before → Way
+    small : goodStore z ≡ true → sample ≤ lastSample → length before < needed → pageOutcome z sample before .0 ≡ answer SMALL needed 0 0 0
+        → pageOutcome z sample before .1 ≡ before → Way
+    done : goodStore z ≡ true → sample ≤ lastSample → needed ≤ length before → pageOutcome z sample before .0 ≡ answer DONE needed 0 0 0 → Way
 
   way : Way
   unfolding pageAnswer pageBuffer
@@ -57,12 +57,12 @@ module _ (z : Store) (sample : ℕ) (before : List ℕ) where
           done g (omega arith) (omega arith) (rw (g, t) (done-answer (pageNow z sample) before (omega arith)))
 
   abbrev number : ℕ
-  number = pageAnswer z sample before .number
+  number = pageOutcome z sample before .0 .number
 
-  numbered : {r : Answer} → pageAnswer z sample before ≡ r → number ≡ r .number
+  numbered : {r : Answer} → pageOutcome z sample before .0 ≡ r → number ≡ r .number
   numbered e = ap (λ (r : Answer). r .number) e
 
-  pub page-badstore : (pageAnswer z sample before .number ≡ BADSTORE) ↔ (goodStore z ≡ false)
+  pub page-badstore : (pageOutcome z sample before .0 .number ≡ BADSTORE) ↔ (goodStore z ≡ false)
   page-badstore = go way
     where
       go : Way → (number ≡ BADSTORE) ↔ (goodStore z ≡ false)
@@ -72,7 +72,7 @@ module _ (z : Store) (sample : ℕ) (before : List ℕ) where
       go (done g l h e) = (λ n. absurd (omega (arith, numbered e)), λ b. absurd (not-both g b))
 
   -- "sample too large"
-  pub page-sample : (pageAnswer z sample before .number ≡ SAMPLE) ↔ ((goodStore z ≡ true) × (lastSample < sample))
+  pub page-sample : (pageOutcome z sample before .0 .number ≡ SAMPLE) ↔ ((goodStore z ≡ true) × (lastSample < sample))
   page-sample = go way
     where
       go : Way → (number ≡ SAMPLE) ↔ ((goodStore z ≡ true) × (lastSample < sample))
@@ -82,7 +82,7 @@ module _ (z : Store) (sample : ℕ) (before : List ℕ) where
       go (done g l h e) = (λ n. absurd (omega (arith, numbered e)), λ k. absurd (omega (arith, k .1)))
 
   -- "buffer too short"
-  pub page-small : (pageAnswer z sample before .number ≡ SMALL)
+  pub page-small : (pageOutcome z sample before .0 .number ≡ SMALL)
       ↔ ((goodStore z ≡ true) × ((sample ≤ lastSample) × (length before < length (pageNow z sample))))
   page-small = go way
     where
@@ -93,30 +93,30 @@ module _ (z : Store) (sample : ℕ) (before : List ℕ) where
       go (done g l h e) = (λ n. absurd (omega (arith, numbered e)), λ k. absurd (omega (arith, h, k .1 .1)))
 
   -- "bytes needed"
-  pub page-needs : pageAnswer z sample before .number ≡ SMALL → pageAnswer z sample before ≡ answer SMALL (length (pageNow z sample)) 0 0 0
+  pub page-needs : pageOutcome z sample before .0 .number ≡ SMALL → pageOutcome z sample before .0 ≡ answer SMALL (length (pageNow z sample)) 0 0 0
   page-needs = go way
     where
-      go : Way → number ≡ SMALL → pageAnswer z sample before ≡ answer SMALL needed 0 0 0
+      go : Way → number ≡ SMALL → pageOutcome z sample before .0 ≡ answer SMALL needed 0 0 0
       go (bad b e f) n = absurd (omega (arith, numbered e))
       go (large g l e f) n = absurd (omega (arith, numbered e))
       go (small g l h e f) n = e
       go (done g l h e) n = absurd (omega (arith, numbered e))
 
-  pub page-answers : Among (BADSTORE ∷ SAMPLE ∷ SMALL ∷ DONE ∷ []) (pageAnswer z sample before)
+  pub page-answers : Among (BADSTORE ∷ SAMPLE ∷ SMALL ∷ DONE ∷ []) (pageOutcome z sample before .0)
   unfolding member
   page-answers = go way
     where
-      go : Way → Among (BADSTORE ∷ SAMPLE ∷ SMALL ∷ DONE ∷ []) (pageAnswer z sample before)
+      go : Way → Among (BADSTORE ∷ SAMPLE ∷ SMALL ∷ DONE ∷ []) (pageOutcome z sample before .0)
       go (bad b e f) = rw e
       go (large g l e f) = rw e
       go (small g l h e f) = rw e
       go (done g l h e) = rw e
 
   -- A refusal leaves every byte; the store is lent to be read.
-  pub page-refused : 2 ≤ pageAnswer z sample before .number → pageBuffer z sample before ≡ before
+  pub page-refused : 2 ≤ pageOutcome z sample before .0 .number → pageOutcome z sample before .1 ≡ before
   page-refused = go way
     where
-      go : Way → 2 ≤ number → pageBuffer z sample before ≡ before
+      go : Way → 2 ≤ number → pageOutcome z sample before .1 ≡ before
       go (bad b e f) h = f
       go (large g l e f) h = f
       go (small g l k e f) h = f

@@ -15,16 +15,16 @@ use Rattle.store.specs.Copies.{member}
 use Rattle.store.specs.StoreRules.{goodStore}
 use Rattle.wire.proofs.Buffers.{small-answer, small-buffer, done-answer}
 use Rattle.image_writing.specs.Image.{image}
-use Rattle.image.specs.Promises.{saveAnswer, saveBuffer}
+use Rattle.image.specs.Promises.{saveAnswer, saveBuffer, saveOutcome}
 use Rattle.refusals.specs.Given.{Among}
 
 module _ (z : Store) (before : List ℕ) where
   -- The ways of saving.
   data Way : Type 0 where
-    bad : goodStore z ≡ false → saveAnswer z before ≡ bare BADSTORE → saveBuffer z before ≡ before → Way
-    small : goodStore z ≡ true → length before < length (image z) → saveAnswer z before ≡ answer SMALL (length (image z)) 0 0 0
-        → saveBuffer z before ≡ before → Way
-    done : goodStore z ≡ true → length (image z) ≤ length before → saveAnswer z before ≡ answer DONE (length (image z)) 0 0 0 → Way
+    bad : goodStore z ≡ false → saveOutcome z before .0 ≡ bare BADSTORE → saveOutcome z before .1 ≡ before → Way
+    small : goodStore z ≡ true → length before < length (image z) → saveOutcome z before .0 ≡ answer SMALL (length (image z)) 0 0 0
+        → saveOutcome z before .1 ≡ before → Way
+    done : goodStore z ≡ true → length (image z) ≤ length before → saveOutcome z before .0 ≡ answer DONE (length (image z)) 0 0 0 → Way
 
   way : Way
   unfolding saveAnswer saveBuffer
@@ -36,12 +36,12 @@ module _ (z : Store) (before : List ℕ) where
       go (inl g) (no h) = done g (omega arith) (rw g (done-answer (image z) before (omega arith)))
 
   abbrev number : ℕ
-  number = saveAnswer z before .number
+  number = saveOutcome z before .0 .number
 
-  numbered : {r : Answer} → saveAnswer z before ≡ r → number ≡ r .number
+  numbered : {r : Answer} → saveOutcome z before .0 ≡ r → number ≡ r .number
   numbered e = ap (λ (r : Answer). r .number) e
 
-  pub save-badstore : (saveAnswer z before .number ≡ BADSTORE) ↔ (goodStore z ≡ false)
+  pub save-badstore : (saveOutcome z before .0 .number ≡ BADSTORE) ↔ (goodStore z ≡ false)
   save-badstore = go way
     where
       go : Way → (number ≡ BADSTORE) ↔ (goodStore z ≡ false)
@@ -50,7 +50,7 @@ module _ (z : Store) (before : List ℕ) where
       go (done g h e) = (λ n. absurd (omega (arith, numbered e)), λ b. absurd (not-both g b))
 
   -- "buffer too short"
-  pub save-small : (saveAnswer z before .number ≡ SMALL) ↔ ((goodStore z ≡ true) × (length before < length (image z)))
+  pub save-small : (saveOutcome z before .0 .number ≡ SMALL) ↔ ((goodStore z ≡ true) × (length before < length (image z)))
   save-small = go way
     where
       go : Way → (number ≡ SMALL) ↔ ((goodStore z ≡ true) × (length before < length (image z)))
@@ -59,28 +59,28 @@ module _ (z : Store) (before : List ℕ) where
       go (done g h e) = (λ n. absurd (omega (arith, numbered e)), λ l. absurd (omega (arith, l .1)))
 
   -- "bytes needed"
-  pub save-needs : saveAnswer z before .number ≡ SMALL → saveAnswer z before ≡ answer SMALL (length (image z)) 0 0 0
+  pub save-needs : saveOutcome z before .0 .number ≡ SMALL → saveOutcome z before .0 ≡ answer SMALL (length (image z)) 0 0 0
   save-needs = go way
     where
-      go : Way → number ≡ SMALL → saveAnswer z before ≡ answer SMALL (length (image z)) 0 0 0
+      go : Way → number ≡ SMALL → saveOutcome z before .0 ≡ answer SMALL (length (image z)) 0 0 0
       go (bad b e f) n = absurd (omega (arith, numbered e))
       go (small g h e f) n = e
       go (done g h e) n = absurd (omega (arith, numbered e))
 
-  pub save-answers : Among (BADSTORE ∷ SMALL ∷ DONE ∷ []) (saveAnswer z before)
+  pub save-answers : Among (BADSTORE ∷ SMALL ∷ DONE ∷ []) (saveOutcome z before .0)
   unfolding member
   save-answers = go way
     where
-      go : Way → Among (BADSTORE ∷ SMALL ∷ DONE ∷ []) (saveAnswer z before)
+      go : Way → Among (BADSTORE ∷ SMALL ∷ DONE ∷ []) (saveOutcome z before .0)
       go (bad b e f) = rw e
       go (small g h e f) = rw e
       go (done g h e) = rw e
 
   -- A refusal leaves every byte; the store is lent to be read.
-  pub save-refused : 2 ≤ saveAnswer z before .number → saveBuffer z before ≡ before
+  pub save-refused : 2 ≤ saveOutcome z before .0 .number → saveOutcome z before .1 ≡ before
   save-refused = go way
     where
-      go : Way → 2 ≤ number → saveBuffer z before ≡ before
+      go : Way → 2 ≤ number → saveOutcome z before .1 ≡ before
       go (bad b e f) h = f
       go (small g l e f) h = f
       go (done g l e) h = absurd (omega (arith, numbered e))

@@ -11,8 +11,9 @@ use Rattle.store.specs.Answers.{DONE, answer}
 use Rattle.store.specs.Promises.{freshOutcome}
 use Rattle.lines.specs.Text.{answerText, mostText}
 use Rattle.schedule.specs.declared.Step.{Step}
-use Rattle.schedule.specs.Schedule.{mostSteps, decodeAnswer, decodeList}
+use Rattle.schedule.specs.Schedule.{mostSteps}
 use Rattle.schedule.specs.Running.{noStep, noSteps, runOutcome}
+use Rattle.schedule.specs.Promises.{decodeOutcome}
 
 -- "It prints one line first: 0, answer number, step count (or, if refused, the offset), 0 0 0".
 abbrev pub firstText : Answer → List ℕ
@@ -32,7 +33,7 @@ decodedText r steps =
 
 -- The text of a schedule's bytes, decoded into a list of zeros.
 unfoldable pub scheduleText : List ℕ → List ℕ
-scheduleText bytes = decodedText (decodeAnswer bytes noSteps) (decodeList bytes noSteps)
+scheduleText bytes = decodedText (decodeOutcome bytes noSteps .0) (decodeOutcome bytes noSteps .1)
 
 -- The first line and one line a step: no text has more bytes.
 abbrev pub mostTranscript : ℕ

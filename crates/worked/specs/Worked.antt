@@ -16,8 +16,9 @@ use Rattle.steps.specs.Promises.{Enters, Withdraws, Carries, Steps, Cancels, Lo
 use Rattle.image.specs.Promises.{Saves, Loads}
 use Rattle.page.specs.Promises.{Pages}
 use Rattle.schedule.specs.declared.Step.{Step}
-use Rattle.schedule.specs.Schedule.{ENTER, stepRecord, decodeAnswer, decodeList}
+use Rattle.schedule.specs.Schedule.{ENTER, stepRecord}
 use Rattle.schedule.specs.Running.{noSteps, runOutcome}
+use Rattle.schedule.specs.Promises.{decodeOutcome}
 use Rattle.transcript.specs.Transcript.{scheduleText}
 
 -- The characters of a text, by their numbers.
@@ -43,8 +44,8 @@ printed = "0 0 8 0 0 0\n1 0 1 0 0 0\n3 0 1 0 0 0\n4 0 0 0 0 0\n5 1 1 1 0 0\n1 0 
 -- The store after its steps. Decode's a is the step count, its b the plan.
 unfoldable pub storeAfterInput : Store
 storeAfterInput =
-    let r = decodeAnswer input noSteps in
-    storeAfterSteps (decodeList input noSteps) (freshOutcome (r .b) .store) 0 (r .a)
+    let d = decodeOutcome input noSteps in
+    storeAfterSteps (d .1) (freshOutcome (d .0 .b) .store) 0 (d .0 .a)
 
 -- Entries of eight keys.
 abbrev pub eightKeys : List Step
