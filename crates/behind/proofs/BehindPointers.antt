@@ -24,7 +24,7 @@ use Rattle.calls.specs.PublicCalls.{Call, accepted, replaced, storeAfter, retur
 use Rattle.calls.specs.PublicCalls.Call.{fresh, load}
 use Rattle.calls.specs.PublicCalls.Returned.{gave, answered, wrote, counted}
 use Rattle.calls.proofs.Allowing.{both}
-use Rattle.behind.specs.Behind.{CallBehind, ByASpare, MeetsPromise, AllMeet, orFresh, publicCall, GaveBehind, ReturnsAs}
+use Rattle.behind.specs.Behind.{CallBehind, ByASpare, MeetsPromise, AllMeet, orFresh, publicCall, ReturnsAs}
 use Rattle.behind.specs.Behind.CallBehind.{freshens, freshensLive, steps, checks, looks, saves, loads, loadsLive, pages, serves}
 
 -- A refused fresh or load gives a fresh store of plan 1,

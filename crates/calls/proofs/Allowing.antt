@@ -1,8 +1,7 @@
 -- What the promises allow a sequence of public calls to return is what it returns: one list, and no other.
 use mathlib.Core.Path.{_≡_, refl, sym, ap, _∙_}
-use mathlib.Core.List.{List, [], _∷_}
+use mathlib.Core.List.{List, _∷_}
 use Prim.Native.Nat.{ℕ}
-use Rattle.store.specs.declared.Answer.{Answer}
 use Rattle.store.specs.declared.Store.{Store}
 use Rattle.store.specs.Copies.{kindNumber}
 use Rattle.store.specs.Copies.Kind.{withdrawn}
@@ -10,7 +9,6 @@ use Rattle.store.specs.Calls.{onStore}
 use Rattle.store.proofs.KindLaws.{withdrawn-holds}
 use Rattle.steps.specs.Entries.{entry}
 use Rattle.steps.specs.Promises.{entryOutcome, withdrawOutcome}
-use Rattle.schedule.specs.declared.Step.{Step}
 use Rattle.calls.specs.PublicCalls.{Call, Returned, storeAfter, returned, allReturned}
 use Rattle.calls.specs.PublicCalls.Returned.{gave, answered, wrote, listed, handedBack, counted}
 use Rattle.calls.specs.Allowed.{Allowed, AllAllowed}

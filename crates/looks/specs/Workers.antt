@@ -1,6 +1,5 @@
 -- What a look down a path promises, over the plan's rows and the store's columns that it is lent.
 use mathlib.Core.Path.{_≡_}
-use mathlib.Core.List.{List}
 use Prim.Native.Nat.{ℕ}
 use Rattle.lists.specs.Lending.{Lent, LentList}
 use Rattle.plan.specs.Plan.{Plan, size}

@@ -18,7 +18,7 @@ use Rattle.store.specs.declared.Copy.{Copy}
 use Rattle.store.specs.declared.Outcome.{Outcome}
 use Rattle.store.specs.declared.Store.{Store}
 use Rattle.store.specs.Answers.{DONE, IDLE, answer, bare}
-use Rattle.store.specs.Copies.{RESULT, hasValue, copy}
+use Rattle.store.specs.Copies.{hasValue}
 use Rattle.store.specs.Copies.Kind.{result}
 use Rattle.store.specs.State.{State, slotCount, idle}
 use Rattle.store.specs.Layout.{planOf, stateOf, storeOf, freshStore}

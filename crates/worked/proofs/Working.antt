@@ -47,7 +47,7 @@ use Rattle.schedule.specs.Schedule.{knownStep, hasTwo, secondAt, stepAt, stepsA
 use Rattle.schedule.specs.Running.{recordOutcome, runOutcome}
 use Rattle.lines.specs.Text.{digitsIn, decimal, printedText}
 use Rattle.transcript.specs.Transcript.{stepsText, decodedText, scheduleText}
-use Rattle.worked.specs.Worked.{characters, storeAfterSteps, storeAfterInput, withEight, Answers, OfFresh, Worked}
+use Rattle.worked.specs.Worked.{characters, storeAfterSteps, storeAfterInput, withEight, OfFresh, Worked}
 
 -- Whoever unfolds this unfolds all definitions that the table is about.
 opened : Bool

@@ -1,7 +1,5 @@
 -- `looks::look_down` meets its contract. The loop's invariant: the look that goes on from the node is the whole look. Nodes have rising
 -- numbers, so the measure is how many are left.
-use mathlib.Core.Path.{_≡_, sym, _∙_}
-use mathlib.Core.List.{[]}
 use Prim.Native.Nat.{_-_, _<_, _≤_}
 use native.Mathlib.Omega.{arith}
 use Rattle.plan.specs.Sizes.{mostNodes}

@@ -1,6 +1,5 @@
 -- `slots::stepped` meets its contract.
 use mathlib.Core.Path.{_≡_}
-use native.Mathlib.Omega.{arith}
 use lib.ListN.{length}
 use Rattle.store.specs.State.{slotCount}
 use Rattle.slots.proofs.Visiting.{steps-no-slot, steps-idle}

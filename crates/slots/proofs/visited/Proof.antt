@@ -1,6 +1,5 @@
 -- `slots::visited` meets its contract.
-use mathlib.Core.Path.{_≡_, sym, _∙_}
-use native.Mathlib.Omega.{arith}
+use mathlib.Core.Path.{_≡_}
 use native.Mathlib.Numerals.{add-one}
 use lib.ListN.{length}
 use Rattle.store.specs.State.{slotCount}
