@@ -1,0 +1,28 @@
+-- `plan_table::highest_of` meets its contract: the highest keys of the table are those of the plans, computed.
+use mathlib.Core.Path.{◌≡◌, refl, ◌∙◌}
+use mathlib.Core.List.{[]}
+use mathlib.Core.Logic.{⊎_elim}
+use Prim.Native.Nat.{◌-◌, ◌≤◌}
+use native.Mathlib.Omega.{arith}
+use Rattle.lists.specs.Indexed.{tabulate}
+use Rattle.plan.specs.PlanArrays.{grid_of}
+use Rattle.plan_table.specs.PlanTable.{plan_table, plans}
+use Rattle.plan_table.proofs.TableRows.{among, no_row, own_row, other_row, last_row}
+use borrow.Author.Rules.{rules}
+use Rattle.plan_table.proofs.highest_of.Goals as goal
+
+pub loop-row-init : goal.loop-row-init
+unfolding plans plan_table tabulate grid_of
+loop-row-init c = (omega arith, no_row (grid_of (λ e. e.highest)) c.args.plan)
+
+pub loop-row-preserved : goal.loop-row-preserved
+unfolding plans plan_table tabulate grid_of
+loop-row-preserved c =
+    let plan = c.args.plan in
+    let own = own_row (grid_of (λ e. e.highest)) plan _ [] c.loop-row.row refl c.loop-row-test.true in
+    let other = other_row (grid_of (λ e. e.highest)) plan c.loop-row.row in
+    (omega arith, ⊎_elim (λ w. w.2 ∙ own w.0.taken) (λ w. w.1 ∙ c.loop-row.invariant.1 ∙ other w.0.left) c.if-row-plan.either)
+
+pub returns : goal.returns
+unfolding plans plan_table tabulate grid_of
+returns c = c.loop-row.invariant.1 ∙ last_row (grid_of (λ e. e.highest)) c.args.plan c.loop-row.row (let past = c.loop-row-test.false in omega arith)
