@@ -21,7 +21,7 @@ pub struct Copy {
 
 // A search slot: whether a search runs in it, its key, the node that it stands at, and the nodes visited. An idle slot is all zero.
 #[repr(C)]
-#[derive(Drop)]
+#[derive(Clone, Copy)]
 pub struct Slot {
     pub running: u32,
     pub key: u32,
