@@ -22,11 +22,11 @@ take_node-requires c =
 pub returns-then-not-take_node : goal.returns-then-not-take_node
 returns-then-not-take_node c =
     fails_all c.args.counts.now c.args.stamps.now (c.loop-n.n - 1) (omega arith)
-    (sym (not-true c.take_node.result c.if-not-take_node.true-raw) ∙ c.take_node.ensures.0)
+    (sym c.if-not-take_node.true ∙ c.take_node.ensures.0)
 
 pub loop-n-preserved : goal.loop-n-preserved
 loop-n-preserved c =
-    (omega arith, c.take_node.ensures.1 (not-false c.take_node.result c.if-not-take_node.false-raw))
+    (omega arith, c.take_node.ensures.1 c.if-not-take_node.false)
 
 pub returns : goal.returns
 returns c =

@@ -16,7 +16,7 @@ loop-at-init c =
 -- LEFT same_length c =
 -- LEFT     let m = c.before.before.before in
 -- LEFT     let l = m.before.before.before.before in
--- LEFT     m.mark.auto.0 ∙ l.loop.invariant.2 ∙ sym l.before.before.requires.2
+-- LEFT     m.mark.auto.table ∙ l.loop.invariant.2 ∙ sym l.before.before.requires.2
 
 pub returns-then-mark : goal.returns-then-mark
 returns-then-mark c =
@@ -33,7 +33,7 @@ loop-at-preserved c =
     let down =
     down_new c.args.stamps.now c.args.table.now c.args.end l.at l.table l.invariant.1 l.invariant.3 c.args.from l.invariant.0
     (omega arith) (sym m.ensures.0 ∙ c.if-mark.false) in
-    (omega arith, omega arith, m.auto.0 ∙ l.invariant.2, rw m.ensures.1 down)
+    (omega arith, omega arith, m.auto.table ∙ l.invariant.2, rw m.ensures.1 down)
 
 -- LEFT same-length-2 : tie.Need-same-length-2 invariant-loop decreases-loop
 -- LEFT same-length-2 c = c.before.loop.invariant.2 ∙ sym c.before.before.before.requires.2

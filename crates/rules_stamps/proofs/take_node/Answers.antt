@@ -8,7 +8,7 @@ use Rattle.store.specs.Layout.{width, places}
 use Rattle.rules_stamps.specs.Workers.{end_of}
 use Rattle.rules_stamps.proofs.Taking.{node_within, Reached, reach_first, reach_next, fails_node, takes_node}
 use Rattle.rules_stamps.proofs.take_node.Goals as goal
-use Rattle.rules_stamps.proofs.take_node.Goals.{After-slice_known-1, Start}
+use Rattle.rules_stamps.proofs.take_node.Goals.{Start}
 
 -- The places of the node's copies are the column's.
 within : (s : Start) → end_of s.args.counts.now s.args.n ≤ places
@@ -18,16 +18,16 @@ within s = node_within s.args.counts.now s.requires.1 s.args.n s.requires.0
 -- LEFT cast-take-new c = omega (arith, within c.before.before.before)
 
 pub overflow_add-from : goal.overflow_add-from
-overflow_add-from c = omega (arith, within (goal.at.overflow_add-from c).After-slice_known-1)
+overflow_add-from c = omega (arith, within (goal.at.overflow_add-from c).Start)
 
 pub take_new-at-requires : goal.take_new-at-requires
-take_new-at-requires c = (omega arith, omega (arith, within (goal.at.take_new-at-requires c).After-slice_known-1), c.requires.2.long)
+take_new-at-requires c = (omega arith, omega (arith, within (goal.at.take_new-at-requires c).Start), c.requires.2.long)
 
 pub loop-at-init : goal.loop-at-init
 loop-at-init c =
     let a = c.args in
     let t = c.take_new-at in
-    (refl, reach_first a.counts.now a.stamps.now a.n t.result a.table.now t.new.0 c.requires.2 t.ensures)
+    (refl, reach_first a.counts.now a.stamps.now a.n t.result a.table.now t.new.table c.requires.2 t.ensures)
 
 pub stands_behind-requires : goal.stands_behind-requires
 stands_behind-requires c =
@@ -49,7 +49,7 @@ returns-then-stands_behind c =
 pub take_new-at-requires-in-loop-at : goal.take_new-at-requires-in-loop-at
 take_new-at-requires-in-loop-at c =
     let r = c.loop-at.invariant.1 in
-    (omega (arith, r.above), omega (arith, within (goal.at.take_new-at-requires-in-loop-at c).After-slice_known-1, r.below), r.taken.long)
+    (omega (arith, r.above), omega (arith, within (goal.at.take_new-at-requires-in-loop-at c).Start, r.below), r.taken.long)
 
 pub loop-at-smaller : goal.loop-at-smaller
 loop-at-smaller c = omega (arith, c.take_new-at-in-loop-at.ensures.below)
@@ -60,7 +60,7 @@ loop-at-preserved c =
     let a = c.args in
     let on =
     reach_next a.counts.now a.stamps.now a.n c.loop-at.at c.loop-at.table c.loop-at.invariant.1 (omega arith)
-    (sym c.stands_behind.ensures ∙ c.if-stands_behind.false) t.result t.new.0 t.ensures in
+    (sym c.stands_behind.ensures ∙ c.if-stands_behind.false) t.result t.new.table t.ensures in
     (refl, on)
 
 -- LEFT same-length-2 : tie.Need-same-length-2 invariant-loop decreases-loop
