@@ -37,4 +37,4 @@ rest-requires c =
 pub returns : goal.returns
 returns c =
     let e = c.rest.ensures in
-    decided c.args.edge c.loop-m.invariant.0 (omega arith) _ c.loop-m.invariant.1 c.rest.result c.rest.new.0 e.0 e.1
+    decided c.args.edge c.loop-m.invariant.0 (omega arith) _ c.loop-m.invariant.1 c.rest.result c.rest.new.target e.0 e.1

@@ -19,7 +19,7 @@ loop-m-smaller c = omega (arith, ap (λ (x : Merge). x.next) c.get-m.ensures.0)
 pub loop-m-preserved : goal.loop-m-preserved
 loop-m-preserved c =
     let i = c.loop-m.invariant in
-    let t = rest_turn c.loop-m.target c.args.end c.loop-m.m (omega arith) i.1 i.2 c.get-m.result c.get-m.new.0 c.get-m.ensures.0 c.get-m.ensures.1 in
+    let t = rest_turn c.loop-m.target c.args.end c.loop-m.m (omega arith) i.1 i.2 c.get-m.result c.get-m.new.target c.get-m.ensures.0 c.get-m.ensures.1 in
     (t.0, t.1, t.2, t.3 ∙ i.3, t.4 ∙ i.4)
 
 pub returns : goal.returns
