@@ -86,7 +86,7 @@ module _ (capacities : List ℕ) (clock : ℕ) (counts keys kinds values stamps 
     rising i h g =
         ⊎_elim (λ (a : leb (width * n + count) (suc i) ≡ true). absurd (let b = leb-true (width * n + count) (suc i) a in omega arith))
         (λ (a : ltb (number_in keys i) (number_in keys (suc i)) ≡ true). ltb-true (number_in keys i) (number_in keys (suc i)) a)
-        (or_cases (leb (width * n + count) (suc i)) (ltb (number_in keys i) (number_in keys (suc i))) (search (and_left, and_right) depth 8))
+        (or_cases (leb (width * n + count) (suc i)) (ltb (number_in keys i) (number_in keys (suc i))) (search and_left depth 8))
 
     pub node_ordered : WithinPlaces capacities → Ordered counts keys n
     node_ordered fit = record { fits = omega (arith, within, at_fits capacities fit n); rises = λ i h g. rising i g (place_used i h (omega arith)) }
