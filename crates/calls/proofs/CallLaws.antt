@@ -71,15 +71,15 @@ module _ (z : Store) (good : good_store z ≡ true) (k : ℕ) where
       (a.visits, look_is ∙ ap some a.says, a.until)
 
 -- A search that is stepped with nothing else between ends by one of the steps.
-stepped_alone : (i : ℕ) (x : Answer) (p : Plan) (s : State) → SearchEnds i p s x → (z : Store) → good_store z ≡ true → plan_of z ≡ p
+stepped_alone : (i : ℕ) (p : Plan) (x : Answer) (s : State) → SearchEnds i p s x → (z : Store) → good_store z ≡ true → plan_of z ≡ p
     → state_of z ≡ s → (m : ℕ) × (answer_to (step i) (store_after_all (replicate m (step i)) z) ≡ some x)
 unfolding store_after_all event_of effect
-stepped_alone i x p s (now says done) z good plan state =
+stepped_alone i p x s (now says done) z good plan state =
     (0, (acts_as (step i) (steps i) refl (step_acts i)).answers z ∙ ap some (event_answer (steps i) z good ∙ rw (plan, state) says))
-stepped_alone i x p s (later goes again) z good plan state =
+stepped_alone i p x s (later goes again) z good plan state =
     let a = acts_as (step i) (steps i) refl (step_acts i) in
     let w =
-    stepped_alone i x p (after p (steps i) s) again (store_after (step i) z) (call_keeps_good (step i) z good)
+    stepped_alone i p x (after p (steps i) s) again (store_after (step i) z) (call_keeps_good (step i) z good)
     (ap (λ (y : Store). plan_of y) (a.leaves z) ∙ event_keeps_plan (steps i) z ∙ plan)
     (ap state_of (a.leaves z) ∙ event_state (steps i) z good ∙ rw (plan, state)) in
     (suc w.0, w.1)
@@ -95,7 +95,7 @@ look_is_search z good c k i is_start starting =
     sym (event_answer (starts k) z good) ∙ one_some (a.answers z) starting in
     let ends = search_is_look (plan_of z) (plan_good z good) (state_of z) k (ap (λ (x : Answer). x.number) says) in
     let w =
-    stepped_alone i (look_answer k (plan_of z) (state_of z)) (plan_of z) (after (plan_of z) (starts k) (state_of z))
+    stepped_alone i (plan_of z) (look_answer k (plan_of z) (state_of z)) (after (plan_of z) (starts k) (state_of z))
     (subst
     (λ (j : ℕ).
     SearchEnds j (plan_of z) (after (plan_of z) (starts k) (state_of z)) (look_answer k (plan_of z) (state_of z)))

@@ -78,8 +78,8 @@ module _ (key : ℕ → ℕ) (capacity : ℕ) (e : Edge) where
   -- and what stays is some of what was there, in its order.
   stay_rises : {b : ℕ} {xs ys stay target : List ℕ} → Merging key capacity e xs ys stay target → Rising itself b xs → Rising itself b stay
   stay_rises through end = end
-  stay_rises (carry t m) (above h r) = rising_from itself (omega arith) (stay_rises m r)
-  stay_rises (keep t m) (above h r) = above h (stay_rises m r)
+  stay_rises {b = b} (carry {x = x} t m) (above h r) = rising_from itself (omega arith) (stay_rises {b = suc x} m r)
+  stay_rises {b = b} (keep {x = x} t m) (above h r) = above h (stay_rises {b = suc x} m r)
 
   stay_within : {xs ys stay target : List ℕ} → Merging key capacity e xs ys stay target → {b : ℕ} → Within xs b → Within stay b
   stay_within through w i h = w i h

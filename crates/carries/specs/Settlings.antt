@@ -1,6 +1,6 @@
 -- What a carry is to write, settled before anything is written: its answer, the two nodes' counts, and the two lists of places.
 use Rattle.std.specs.Prelude.{◌≡◌, true, List, ℕ, ◌<◌, ◌≤◌, length, set, take}
-use Rattle.lists.specs.Lending.{LentList}
+use Rattle.lists.specs.Lending.{LentList, LentMutList}
 use Rattle.plan.specs.declared.Edge.{Edge}
 use Rattle.plan.specs.Sizes.{most_nodes}
 use Rattle.plan.specs.Plan.{capacity_of, edge_of}
@@ -11,7 +11,7 @@ use Rattle.store.specs.declared.Store.{Store}
 use Rattle.store.specs.Answers.{bare}
 use Rattle.store.specs.Layout.{plan_of, width}
 use Rattle.store.specs.StoreRules.{good_store}
-use Rattle.store.specs.Workers.{store_at_entry, store_at_exit}
+use Rattle.store.specs.Workers.{lent_store, store_at_entry, store_at_exit}
 use Rattle.steps.specs.Promises.{carry_outcome, Carries}
 use Rattle.moves.specs.Writings.{Movable, carried_column}
 use Rattle.carries.specs.declared.settling.Settled.{Settled}
@@ -59,9 +59,9 @@ pub record Settles (z : Store) (n i : ℕ) (stay target : List ℕ) (r : Settled
   pub outcome : record { answer = r.answer; store = settled_store stay target r z } ≡ carry_outcome z n i
 
 -- The same over lent columns.
-abbrev pub SettlesLent : ℕ → ℕ → LentList → LentList → LentList → LentList → LentList → List Slot → LentList → LentList → ℕ → ℕ → Settled → Type 0
+abbrev pub SettlesLent : ℕ → ℕ → LentList → LentList → LentList → LentList → LentList → List Slot → LentMutList → LentMutList → ℕ → ℕ → Settled → Type 0
 SettlesLent plan clock counts keys kinds values stamps slots stay target n i r =
-    Settles (store_at_entry plan clock counts keys kinds values stamps slots) n i stay.exit.now target.exit.now r
+    Settles (lent_store plan clock counts.entry keys.entry kinds.entry values.entry stamps.entry slots) n i stay.exit.now target.exit.now r
 
 -- A good store that has these counts and keys, and in whose plan this is the edge i of node n, to a target of this capacity.
 pub record Carriable (counts keys : List ℕ) (n i : ℕ) (e : Edge) (capacity : ℕ) (z : Store) : Type 0 where
@@ -82,7 +82,7 @@ SettlesIn counts keys n e capacity stay target r =
     (z : Store) (i : ℕ) → Carriable counts keys n i e capacity z → Settles z n i stay target r
 
 -- The promise of a carry, over lent columns: the answer, and the store that they then are.
-abbrev pub CarriesLent : ℕ → ℕ → LentList → LentList → LentList → LentList → LentList → List Slot → ℕ → ℕ → Answer → Type 0
+abbrev pub CarriesLent : ℕ → ℕ → LentMutList → LentMutList → LentMutList → LentMutList → LentMutList → List Slot → ℕ → ℕ → Answer → Type 0
 CarriesLent plan clock counts keys kinds values stamps slots n i r =
     Carries (store_at_entry plan clock counts keys kinds values stamps slots) n i
     (record { answer = r; store = store_at_exit plan clock counts keys kinds values stamps slots })

@@ -2,7 +2,7 @@
 ghost use Rattle.std.specs.Prelude.{◌≡◌, ◌<◌, length, set};
 ghost use Rattle.plan.specs.Sizes.{most_nodes};
 ghost use Rattle.steps.specs.Promises.{Carries};
-ghost use Rattle.store.specs.Workers.{LentSized};
+ghost use Rattle.store.specs.Workers.{Sized};
 ghost use Rattle.carries.specs.Settlings.{CarriesLent};
 
 use moves::carry_column;
@@ -36,7 +36,7 @@ pub fn carry_lent<'a>(
     node: u32,
     edge: u32,
 ) -> Answer
-    requires { LentSized counts keys kinds values stamps }
+    requires { Sized counts.old keys.old kinds.old values.old stamps.old }
     ensures { CarriesLent plan clock counts keys kinds values stamps slots node edge result }
 {
     let mut stay = [0; Store::WIDTH];

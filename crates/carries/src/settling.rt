@@ -11,7 +11,7 @@ use store::{Answer, Slot, Store};
 
 // The answer; the node, its first place, how many copies it had, how many stay, and its count then; the target, its first place, how many
 // copies it gets, its own and carried ones, and its count then.
-#[derive(Drop)]
+#[derive(Clone, Copy)]
 pub struct Settled {
     pub answer: Answer,
     pub node: usize,

@@ -9,7 +9,7 @@ use store::{Answer, Copy};
 use wire::Num;
 
 // A copy and the offset after it, or a fault: an answer number and its offset.
-#[derive(Drop)]
+#[derive(Clone, Copy)]
 pub struct CopyRead {
     pub ok: bool,
     pub fault: u32,

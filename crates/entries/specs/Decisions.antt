@@ -1,6 +1,6 @@
 -- What an entry is decided to be, and what the calls over lent columns promise.
 use Rattle.std.specs.Prelude.{◌≡◌, true, false, List, ℕ, ◌+◌, ◌<◌, ◌≤◌, set}
-use Rattle.lists.specs.Lending.{LentList}
+use Rattle.lists.specs.Lending.{LentMutList}
 use Rattle.plan.specs.Plan.{capacity_of}
 use Rattle.store.specs.declared.Outcome.{Outcome}
 use Rattle.store.specs.declared.Slot.{Slot}
@@ -50,19 +50,19 @@ abbrev pub Decides : List ℕ → List ℕ → ℕ → ℕ → Decision → Type
 Decides counts keys capacity key d = (z : Store) → Enterable counts keys capacity z → DecidesFor z key d
 
 -- An entry of this kind over lent columns: the answer, and the store that they then are.
-abbrev pub EntryLent : ℕ → ℕ → LentList → LentList → LentList → LentList → LentList → List Slot → ℕ → ℕ → ℕ → Entered → Type 0
+abbrev pub EntryLent : ℕ → ℕ → LentMutList → LentMutList → LentMutList → LentMutList → LentMutList → List Slot → ℕ → ℕ → ℕ → Entered → Type 0
 EntryLent plan clock counts keys kinds values stamps slots kind key value r =
     record { answer = r.answer; store = store_at_exit plan r.clock counts keys kinds values stamps slots }
     ≡ entry_numbered kind (store_at_entry plan clock counts keys kinds values stamps slots) key value
 
 -- The promise of entering a result, over lent columns.
-abbrev pub EntersLent : ℕ → ℕ → LentList → LentList → LentList → LentList → LentList → List Slot → ℕ → ℕ → Entered → Type 0
+abbrev pub EntersLent : ℕ → ℕ → LentMutList → LentMutList → LentMutList → LentMutList → LentMutList → List Slot → ℕ → ℕ → Entered → Type 0
 EntersLent plan clock counts keys kinds values stamps slots key value r =
     Enters (store_at_entry plan clock counts keys kinds values stamps slots) key value
     (record { answer = r.answer; store = store_at_exit plan r.clock counts keys kinds values stamps slots })
 
 -- The promise of a withdrawal, over lent columns.
-abbrev pub WithdrawsLent : ℕ → ℕ → LentList → LentList → LentList → LentList → LentList → List Slot → ℕ → Entered → Type 0
+abbrev pub WithdrawsLent : ℕ → ℕ → LentMutList → LentMutList → LentMutList → LentMutList → LentMutList → List Slot → ℕ → Entered → Type 0
 WithdrawsLent plan clock counts keys kinds values stamps slots key r =
     Withdraws (store_at_entry plan clock counts keys kinds values stamps slots) key
     (record { answer = r.answer; store = store_at_exit plan r.clock counts keys kinds values stamps slots })

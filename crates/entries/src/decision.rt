@@ -8,7 +8,7 @@ use store::{Store, columns};
 
 // Whether the entry is accepted; at which place its copy then stands, up to which place the root's copies move one place up; and the root's
 // count after it.
-#[derive(Drop)]
+#[derive(Clone, Copy)]
 pub struct Decision {
     pub accepted: bool,
     pub at: usize,

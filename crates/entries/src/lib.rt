@@ -2,7 +2,7 @@
 ghost use Rattle.std.specs.Prelude.{◌≡◌};
 ghost use Rattle.steps.specs.Promises.{entry_numbered, Enters, Withdraws};
 ghost use Rattle.store.specs.Answers.{bare};
-ghost use Rattle.store.specs.Workers.{LentSized};
+ghost use Rattle.store.specs.Workers.{Sized};
 ghost use Rattle.entries.specs.Decisions.{EntryLent, EntersLent, WithdrawsLent};
 
 use decision::decide;
@@ -12,7 +12,7 @@ use store::{Answer, Copy, Outcome, Slot, Store, columns};
 mod decision; // decision.rt: whether an entry is accepted, and where its copy stands
 
 // What an entry on lent columns gives: its answer, and the clock after it, which who lends them writes.
-#[derive(Drop)]
+#[derive(Clone, Copy)]
 pub struct Entered {
     pub answer: Answer,
     pub clock: u32,
@@ -43,7 +43,7 @@ fn entry_lent<'a>(
     key: u32,
     value: u32,
 ) -> Entered
-    requires { LentSized counts keys kinds values stamps }
+    requires { Sized counts.old keys.old kinds.old values.old stamps.old }
     ensures { EntryLent plan clock counts keys kinds values stamps slots kind key value result }
 {
     if !rules::good(plan, clock, counts, keys, kinds, values, stamps, slots) {
@@ -81,7 +81,7 @@ pub fn enter_lent<'a>(
     key: u32,
     value: u32,
 ) -> Entered
-    requires { LentSized counts keys kinds values stamps }
+    requires { Sized counts.old keys.old kinds.old values.old stamps.old }
     ensures { EntersLent plan clock counts keys kinds values stamps slots key value result }
 {
     entry_lent(
@@ -111,7 +111,7 @@ pub fn withdraw_lent<'a>(
     slots: [Slot; Store::SLOTS],
     key: u32,
 ) -> Entered
-    requires { LentSized counts keys kinds values stamps }
+    requires { Sized counts.old keys.old kinds.old values.old stamps.old }
     ensures { WithdrawsLent plan clock counts keys kinds values stamps slots key result }
 {
     entry_lent(

@@ -2,7 +2,7 @@
 ghost use Rattle.std.specs.Prelude.{◌≡◌, true, length};
 ghost use Rattle.plan.specs.Sizes.{most_nodes};
 ghost use Rattle.store.specs.StoreRules.{plan_number_test};
-ghost use Rattle.store.specs.Workers.{WithinPlaces, LentSized};
+ghost use Rattle.store.specs.Workers.{WithinPlaces, Sized};
 ghost use Rattle.image_reading.specs.ImageReading.{nodes_from};
 ghost use Rattle.image_reading.specs.Workers.{LentEmpty};
 ghost use Rattle.image_loading.specs.Loading.{refused_load, copies_held, finished};
@@ -77,7 +77,7 @@ fn finish<'a>(
     values: &'a mut [u32; Store::PLACES],
     stamps: &'a mut [u32; Store::PLACES],
 ) -> Loaded
-    requires { LentSized counts keys kinds values stamps }
+    requires { Sized counts.old keys.old kinds.old values.old stamps.old }
     ensures { LentFinishes bytes.entry end plan clock counts keys kinds values stamps result }
 {
     if end < bytes.len() {

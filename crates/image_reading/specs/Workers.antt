@@ -1,9 +1,9 @@
 -- What the readers of an image lay into lent columns, and what was read of its head.
 use Rattle.std.specs.Prelude.{◌≡◌, true, false, List, [], map, ℕ, length, get_or}
 use Rattle.std.proofs.lemmas.List.Edits.{sets}
-use Rattle.std.specs.Borrow.{Bor}
+use Rattle.std.specs.Borrow.{Bor, MutBor}
 use Rattle.lists.specs.Indexed.{tabulate}
-use Rattle.lists.specs.Lending.{LentList}
+use Rattle.lists.specs.Lending.{LentMutList}
 use Rattle.plan.specs.Sizes.{most_nodes}
 use Rattle.plan.specs.Plan.{Plan, size}
 use Rattle.plan.specs.PlanArrays.{capacities_row}
@@ -27,7 +27,7 @@ abbrev pub columns : List ℕ → List ℕ → List ℕ → List ℕ → Columns
 columns keys kinds values stamps = record { keys = keys; kinds = kinds; values = values; stamps = stamps }
 
 -- Four columns that are lent.
-abbrev pub lent_columns : Bor (List ℕ) → Bor (List ℕ) → Bor (List ℕ) → Bor (List ℕ) → Columns
+abbrev pub lent_columns : MutBor (List ℕ) → MutBor (List ℕ) → MutBor (List ℕ) → MutBor (List ℕ) → Columns
 lent_columns keys kinds values stamps = columns keys.now kinds.now values.now stamps.now
 
 -- Copies laid into the places from one on.
@@ -51,7 +51,7 @@ abbrev pub counts_of : List (List Copy) → List ℕ
 counts_of ns = tabulate 0 most_nodes (λ n. length (get_or ns n []))
 
 -- Lent counts and columns hold nothing.
-abbrev pub LentEmpty : Bor (List ℕ) → Bor (List ℕ) → Bor (List ℕ) → Bor (List ℕ) → Bor (List ℕ) → Type 0
+abbrev pub LentEmpty : MutBor (List ℕ) → MutBor (List ℕ) → MutBor (List ℕ) → MutBor (List ℕ) → MutBor (List ℕ) → Type 0
 LentEmpty counts keys kinds values stamps = (counts.now ≡ counts_of []) × (lent_columns keys kinds values stamps ≡ columns_of [])
 
 -- No number of what was read is wanted.
@@ -68,7 +68,7 @@ pub record Lays (g : Got (List Copy)) (value : List Copy → ℕ) (before : Colu
   pub lays : (xs : List Copy) (next : ℕ) → g ≡ got xs next → after ≡ laid before from xs
 
 -- The same of lent columns, from a function's entry to its exit.
-abbrev pub LentLays : Got (List Copy) → (List Copy → ℕ) → LentList → LentList → LentList → LentList → ℕ → Num → Type 0
+abbrev pub LentLays : Got (List Copy) → (List Copy → ℕ) → LentMutList → LentMutList → LentMutList → LentMutList → ℕ → Num → Type 0
 LentLays g value keys kinds values stamps from r =
     Lays g value (lent_columns keys.entry kinds.entry values.entry stamps.entry) from r
     (lent_columns keys.exit kinds.exit values.exit stamps.exit)
@@ -80,7 +80,7 @@ pub record LaysNodes (g : Got (List (List Copy))) (r : Num) (counts : List ℕ) 
   pub columns_are : (ns : List (List Copy)) (next : ℕ) → g ≡ got ns next → after ≡ columns_of ns
 
 -- Of every plan that has so many nodes and these capacities all nodes were read, into lent columns and counts.
-abbrev pub ReadsNodes : Bor (List ℕ) → ℕ → Bor (List ℕ) → ℕ → LentList → LentList → LentList → LentList → LentList → Num → Type 0
+abbrev pub ReadsNodes : Bor (List ℕ) → ℕ → Bor (List ℕ) → ℕ → LentMutList → LentMutList → LentMutList → LentMutList → LentMutList → Num → Type 0
 ReadsNodes bytes nodes capacities at counts keys kinds values stamps r =
     (p : Plan) → nodes ≡ size p → capacities.now ≡ capacities_row p
     → LaysNodes (read_nodes bytes.now p at) r counts.exit.now (lent_columns keys.exit kinds.exit values.exit stamps.exit)

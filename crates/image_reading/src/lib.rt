@@ -11,7 +11,7 @@ use store::{Answer, Store};
 use wire::Num;
 
 // Plan, clock and the offset after them, or a fault: an answer number and its offset.
-#[derive(Drop)]
+#[derive(Clone, Copy)]
 pub struct Head {
     pub ok: bool,
     pub fault: u32,

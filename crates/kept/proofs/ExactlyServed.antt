@@ -76,7 +76,7 @@ served_exactly z y good-z declared-z good_y declared_y sample h kept notice begu
     page : ShowsSame z y sample → ServesPage z y sample kept notice
     page all =
         serves_kept y sample kept notice (true_then all)
-        ∙ ap (λ (l : List ℕ). (kept.ptr, l)) (page_if_same z y sample all)
+        ∙ ap (λ (l : List ℕ). (kept.ref_ptr, l)) (page_if_same z y sample all)
 
     from_page : NoticeIsOther z sample kept notice → ServesPage z y sample kept notice
         → (still_true y sample kept.now ≡ true) ⊎ (still_true y sample kept.now ≡ false) → ShowsSame z y sample

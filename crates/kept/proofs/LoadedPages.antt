@@ -109,7 +109,7 @@ evening_and_morning z declared sample before r after paged done cs ds on none-of
         ap (λ (w : Outcome). w.store) loads
         ∙ loaded_store y (calls_keep_good cs z d.good) (calls_keep_declared cs ds z declared) room s saved saves saved-done
 
-    hands : served o.store sample kept notice ≡ (kept.ptr, page_now z sample)
+    hands : served o.store sample kept notice ≡ (kept.ref_ptr, page_now z sample)
     hands =
         ap (λ (w : Store). served w sample kept notice) is
         ∙ (served-after_load z d.good declared cs ds on sample d.sample_known none-of-it kept notice

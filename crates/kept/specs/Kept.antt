@@ -17,7 +17,7 @@ KeptFrom z sample kept = (rest : List ℕ) × (kept ≡ page_now z sample ++ res
 
 -- The store y serves the store z's page, in the kept bytes.
 abbrev pub ServesPage : Store → Store → ℕ → Bor (List ℕ) → Bor (List ℕ) → Type 0
-ServesPage z y sample kept notice = served y sample kept notice ≡ (kept.ptr, page_now z sample)
+ServesPage z y sample kept notice = served y sample kept notice ≡ (kept.ref_ptr, page_now z sample)
 
 -- The store y serves the notice.
 abbrev pub ServesNotice : Store → ℕ → Bor (List ℕ) → Bor (List ℕ) → Type 0
@@ -25,7 +25,7 @@ ServesNotice y sample kept notice = served y sample kept notice ≡ (notice.ref_
 
 -- The notice is not the kept page itself, at its pointer: or else what is handed back could be either.
 abbrev pub NoticeIsOther : Store → ℕ → Bor (List ℕ) → Bor (List ℕ) → Type 0
-NoticeIsOther z sample kept notice = ◌≡◌ {A = Handed} (notice.ref_ptr, notice.now) (kept.ptr, page_now z sample) → ⊥
+NoticeIsOther z sample kept notice = ◌≡◌ {A = Handed} (notice.ref_ptr, notice.now) (kept.ref_ptr, page_now z sample) → ⊥
 
 -- Bytes kept from the store z, and what the store y makes of them.
 pub record ServedExactly (z y : Store) (sample : ℕ) (kept notice : Bor (List ℕ)) : Type 0 where

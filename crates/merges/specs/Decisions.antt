@@ -1,7 +1,7 @@
 -- What the decision of a carry promises: which places stay in the node, and which the target then has, by the keys at the places.
 use Rattle.std.specs.Prelude.{◌≡◌, List, ◌++◌, ℕ, ◌+◌, ◌-◌, ◌<◌, ◌≤◌, length, take}
 use Rattle.lists.specs.Indexed.{tabulate}
-use Rattle.lists.specs.Lending.{LentList}
+use Rattle.lists.specs.Lending.{LentList, LentMutList}
 use Rattle.plan.specs.declared.Edge.{Edge}
 use Rattle.store.specs.Layout.{width, places}
 use Rattle.store.specs.Workers.{number_in, itself, RisesIn}
@@ -61,7 +61,7 @@ pub record Turned (keys : List ℕ) (capacity : ℕ) (e : Edge) (to end : ℕ) (
   pub less : (to - r.place) + (end - r.next) < (to - m.place) + (end - m.next)
 
 -- The same over references.
-abbrev pub LentTurned : LentList → ℕ → Edge → ℕ → ℕ → LentList → LentList → Merge → Merge → Type 0
+abbrev pub LentTurned : LentList → ℕ → Edge → ℕ → ℕ → LentMutList → LentMutList → Merge → Merge → Type 0
 LentTurned keys capacity e to end stay target m r =
     Turned keys.entry.now capacity e to end stay.entry.now target.entry.now m stay.exit.now target.exit.now r
 

@@ -12,7 +12,7 @@ use plan::Edge;
 use store::Store;
 
 // A merge under way: the next place of the node and of the target, how many places stay so far, and how many the target has.
-#[derive(Drop)]
+#[derive(Clone, Copy)]
 pub struct Merge {
     pub place: usize,
     pub next: usize,

@@ -10,7 +10,7 @@ const MORE: u32 = 4;
 const LAST: u32 = 15;
 
 // What reading gives: the number and the offset after it, CUT, or NUMBER.
-#[derive(Drop)]
+#[derive(Clone, Copy)]
 pub enum Reading {
     Value(u32, usize),
     Cut,

@@ -10,7 +10,7 @@ use std::process::ExitCode;
 const MOST: usize = 65536;
 
 // How many bytes were read, and whether a read failed before the input's end or the buffer's.
-#[derive(Drop)]
+#[derive(Clone, Copy)]
 struct Input {
     length: usize,
     failed: bool,

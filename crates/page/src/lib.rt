@@ -1,6 +1,6 @@
 // The household's bytes: page and serve. Document 01, "Bytes".
 ghost use Rattle.std.specs.Prelude.{◌≤◌};
-ghost use Rattle.store.specs.Workers.{LentSized, store_at_entry};
+ghost use Rattle.store.specs.Workers.{LentSized, lent_store};
 ghost use Rattle.page_lines.specs.PageLine.{last_sample};
 ghost use Rattle.page_lines.specs.Workers.{LentPageable};
 ghost use Rattle.page.specs.Promises.{Pages, ServesLength, Serves};
@@ -49,7 +49,7 @@ pub fn page_lent<'a>(
     buffer: &mut [u8],
 ) -> Answer
     requires { LentSized counts keys kinds values stamps }
-    ensures { Pages (store_at_entry plan clock counts keys kinds values stamps slots) sample buffer.old result buffer.new }
+    ensures { Pages (lent_store plan clock counts.entry keys.entry kinds.entry values.entry stamps.entry slots) sample buffer.old result buffer.new }
 {
     if !rules::good(plan, clock, counts, keys, kinds, values, stamps, slots) {
         return Answer::bare(Answer::BADSTORE);
@@ -110,7 +110,7 @@ pub fn served_length_lent<'a>(
     kept: &[u8],
 ) -> usize
     requires { LentSized counts keys kinds values stamps }
-    ensures { ServesLength (store_at_entry plan clock counts keys kinds values stamps slots) sample kept.now result }
+    ensures { ServesLength (lent_store plan clock counts.entry keys.entry kinds.entry values.entry stamps.entry slots) sample kept.now result }
 {
     if !rules::good(plan, clock, counts, keys, kinds, values, stamps, slots) {
         return 0; // a bad store

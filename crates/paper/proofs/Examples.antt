@@ -33,9 +33,9 @@ opened = true
 meeting_rules : PlanRules meeting
 meeting_rules = table_rules 3 (omega arith) (unfold plans plan_table in omega arith)
 
-in_reach : ContentsInReach meeting low_key_carried_down 2 0 ≡ some (copy 0 RESULT 7 1)
+low_key_in_reach : ContentsInReach meeting low_key_carried_down 2 0 ≡ some (copy 0 RESULT 7 1)
 unfolding opened
-in_reach = refl
+low_key_in_reach = refl
 
 in_edgeset : Edgeset meeting 2 3 0
 unfolding opened
@@ -58,9 +58,9 @@ uncut_fails =
           events_keep meeting meeting_rules (enters result 0 7 ∷ carriesAlong 0 0 ∷ carriesAlong 1 0 ∷ []) (fresh meeting) (fresh_rules meeting);
       in_last_node = refl;
       in_edgeset = in_edgeset;
-      in_reach = in_reach;
+      in_reach = low_key_in_reach;
       not_in_inset = never_reaches;
-      fails = λ f. never_reaches (f 2 0 (copy 0 RESULT 7 1) (omega arith) in_reach);
+      fails = λ f. never_reaches (f 2 0 (copy 0 RESULT 7 1) (omega arith) low_key_in_reach);
     }
 
 pub shown : Shown

@@ -9,7 +9,7 @@ pub const MOST_CAPACITY: usize = 64;
 pub const MOST_EDGES: usize = 4;
 
 // "An edge has a lowest key, a highest key (both included) and a target."
-#[derive(Drop)]
+#[derive(Clone, Copy)]
 pub struct Edge {
     pub lowest: u32,
     pub highest: u32,
@@ -17,7 +17,7 @@ pub struct Edge {
 }
 
 // The key's next step: to a node, or its path ends here.
-#[derive(Drop)]
+#[derive(Clone, Copy)]
 pub enum Hop {
     To(u32),
     Ends,

@@ -1,6 +1,6 @@
 -- From the refusals of a step on states to those of its call on stores. BADSTORE comes first: it is given exactly when a store rule is
 -- broken, and every other refusal exactly when its step gives it in a good store.
-use mathlib.Core.Path.{◌≡◌, sym, ap, ◌∙◌}
+use mathlib.Core.Path.{◌≡◌, sym, ap, ◌∙◌, subst}
 use mathlib.Core.Bool.{true, false}
 use mathlib.Core.List.{List, ◌∷◌}
 use mathlib.Core.Logic.{◌≢◌, ◌↔◌, ◌⊎◌, inl, inr}
@@ -63,7 +63,9 @@ module _ (f : Plan → State → Effect) (z : Store) where
   on_among numbers among = go (bool? (good_store z))
     where
       go : (good_store z ≡ true) ⊎ (good_store z ≡ false) → Among (BADSTORE ∷ numbers) (on_store f z).answer
-      go (inl good) = rw (numbered_good good) (or_right (eqb stepped.answer.number BADSTORE) _ among)
+      go (inl good) =
+          subst (λ (n : ℕ). member n (BADSTORE ∷ numbers) ≡ true) (sym (numbered_good good))
+          (or_right (eqb stepped.answer.number BADSTORE) (member stepped.answer.number numbers) among)
       go (inr bad) = rw (numbered_bad bad)
 
   -- A refusal leaves the store.
@@ -96,5 +98,7 @@ module _ (f : Plan → State → Answer) (z : Store) where
   of_among numbers among = go (bool? (good_store z))
     where
       go : (good_store z ≡ true) ⊎ (good_store z ≡ false) → Among (BADSTORE ∷ numbers) (of_store f z)
-      go (inl good) = rw (asked_good good) (or_right (eqb (f (plan_of z) (state_of z)).number BADSTORE) _ among)
+      go (inl good) =
+          subst (λ (n : ℕ). member n (BADSTORE ∷ numbers) ≡ true) (sym (asked_good good))
+          (or_right (eqb (f (plan_of z) (state_of z)).number BADSTORE) (member (f (plan_of z) (state_of z)).number numbers) among)
       go (inr bad) = rw (asked_bad bad)

@@ -1,9 +1,9 @@
 -- What the worker on lent columns promises.
 use Rattle.std.specs.Prelude.{◌≡◌, List, ℕ}
-use Rattle.lists.specs.Lending.{LentList}
+use Rattle.lists.specs.Lending.{LentMutList}
 use Rattle.store.specs.declared.Slot.{Slot}
 use Rattle.store.specs.declared.Store.{Store}
-use Rattle.store.specs.Workers.{lent_store}
+use Rattle.store.specs.Workers.{store_at_entry, store_at_exit}
 use Rattle.schedule.specs.Schedule.{step_record}
 use Rattle.schedule.specs.Running.{record_outcome}
 use Rattle.runner.specs.declared.Done.{Done}
@@ -14,9 +14,9 @@ Does number x y place before r after =
     record { answer = r.answer; store = after } ≡ record_outcome before (step_record number x y) place
 
 -- The same over the parts of a store: its columns are lent to be written, its clock and its slots are given back.
-abbrev pub DoesLent : ℕ → ℕ → LentList → LentList → LentList → LentList → LentList → List Slot → ℕ → ℕ → ℕ → ℕ → Done → Type 0
+abbrev pub DoesLent : ℕ → ℕ → LentMutList → LentMutList → LentMutList → LentMutList → LentMutList → List Slot → ℕ → ℕ → ℕ → ℕ → Done → Type 0
 DoesLent plan clock counts keys kinds values stamps slots number x y place r =
     Does number x y place
-    (lent_store plan clock counts.entry keys.entry kinds.entry values.entry stamps.entry slots)
+    (store_at_entry plan clock counts keys kinds values stamps slots)
     r
-    (lent_store plan r.clock counts.exit keys.exit kinds.exit values.exit stamps.exit r.slots)
+    (store_at_exit plan r.clock counts keys kinds values stamps r.slots)

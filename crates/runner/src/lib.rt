@@ -1,6 +1,6 @@
 // The runner: it does the record at a place of a lent list. Document 01, "Bytes": "The schedule is lent as a list of step records".
 ghost use Rattle.std.specs.Prelude.{◌≡◌, get_or};
-ghost use Rattle.store.specs.Workers.{LentSized};
+ghost use Rattle.store.specs.Workers.{Sized};
 ghost use Rattle.schedule.specs.Schedule.{step_record};
 ghost use Rattle.schedule.specs.Running.{no_step, record_outcome};
 ghost use Rattle.schedule.specs.Promises.{Runs};
@@ -54,7 +54,7 @@ pub fn do_lent<'a>(
     y: u32,
     place: usize,
 ) -> Done
-    requires { LentSized counts keys kinds values stamps }
+    requires { Sized counts.old keys.old kinds.old values.old stamps.old }
     ensures { DoesLent plan clock counts keys kinds values stamps was number x y place result }
 {
     if number == Step::ENTER {

@@ -9,7 +9,7 @@ use store::{Answer, Store};
 use wire::Num;
 
 // A step and the offset after it, or a fault: an answer number and its offset.
-#[derive(Drop)]
+#[derive(Clone, Copy)]
 pub struct StepRead {
     pub ok: bool,
     pub fault: u32,

@@ -2,7 +2,7 @@
 pub mod decoding; // decoding.rt: a schedule's bytes into a list of records by value
 
 // "step number and two more, 0 where unused"
-#[derive(Drop)]
+#[derive(Clone, Copy)]
 pub struct Step {
     pub number: u32,
     pub x: u32,

@@ -15,7 +15,7 @@ pub struct Moved {
 }
 
 // What is decided before the slots are written: the answer, and what one slot holds after it.
-#[derive(Drop)]
+#[derive(Clone, Copy)]
 pub struct Change {
     pub answer: Answer,
     pub at: usize,

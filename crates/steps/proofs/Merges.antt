@@ -101,8 +101,8 @@ module _ {A : Type 0} (key : A → ℕ) (capacity : ℕ) (e : Edge) where
   -- Keys rise in both lists as before.
   pub stay_rising : {b : ℕ} {xs ys stay target : List A} → Merging key capacity e xs ys stay target → Rising key b xs → Rising key b stay
   stay_rising through end = end
-  stay_rising (carry t m) (above h r) = rising_from key (omega arith) (stay_rising m r)
-  stay_rising (keep t m) (above h r) = above h (stay_rising m r)
+  stay_rising {b = b} (carry {x = x} t m) (above h r) = rising_from key (omega arith) (stay_rising {b = suc (key x)} m r)
+  stay_rising {b = b} (keep {x = x} t m) (above h r) = above h (stay_rising {b = suc (key x)} m r)
 
   pub target_rising : {xs ys stay target : List A} → Merging key capacity e xs ys stay target → Rising key 0 ys → Rising key 0 target
   target_rising through r = r
@@ -131,8 +131,8 @@ module _ {A : Type 0} (key : A → ℕ) (capacity : ℕ) (e : Edge) where
   pub key_merged : {b : ℕ} {xs ys stay target : List A} → Merging key capacity e xs ys stay target → Rising key b xs → (k : ℕ)
       → KeyMerged key e xs ys stay target k
   key_merged through end k = untouched refl refl
-  key_merged (carry {x = x} {xs = xs} {ys = ys} {stay = stay} {target = target} t m) (above h r) k =
-      go (ℕ_discrete (key x) k) (key_merged m r k)
+  key_merged {b = b} (carry {x = x} {xs = xs} {ys = ys} {stay = stay} {target = target} t m) (above h r) k =
+      go (ℕ_discrete (key x) k) (key_merged {b = suc (key x)} m r k)
     where
       go : Dec (key x ≡ k) → KeyMerged key e xs (put key x ys) stay target k → KeyMerged key e (x ∷ xs) ys stay target k
       go (yes q) (untouched f g) =
@@ -141,8 +141,8 @@ module _ {A : Type 0} (key : A → ℕ) (capacity : ℕ) (e : Edge) where
       go (yes q) (carried y f i j g) = absurd (not_none_and_some (find_low key r k (omega arith)) f)
       go (no q) (untouched f g) = untouched (f ∙ sym (find_other key x xs k q)) (g ∙ put_other key x ys k q)
       go (no q) (carried y f i j g) = carried y (find_other key x xs k q ∙ f) i j g
-  key_merged (keep {x = x} {xs = xs} {ys = ys} {stay = stay} {target = target} t m) (above h r) k =
-      go (ℕ_discrete (key x) k) (key_merged m r k)
+  key_merged {b = b} (keep {x = x} {xs = xs} {ys = ys} {stay = stay} {target = target} t m) (above h r) k =
+      go (ℕ_discrete (key x) k) (key_merged {b = suc (key x)} m r k)
     where
       go : Dec (key x ≡ k) → KeyMerged key e xs ys stay target k → KeyMerged key e (x ∷ xs) ys (x ∷ stay) target k
       go (yes q) (untouched f g) = untouched (find_same key x stay k q ∙ sym (find_same key x xs k q)) g
@@ -160,9 +160,9 @@ module _ {A : Type 0} (key : A → ℕ) (capacity : ℕ) (e : Edge) where
   pub left_full : {b : ℕ} {xs ys stay target : List A} → Merging key capacity e xs ys stay target → Rising key b xs → (k : ℕ) (x : A)
       → find key stay k ≡ some x → holds e k ≡ true → (find key target k ≡ none) × (capacity ≤ length target)
   left_full through end k x f h = absurd (not_none_and_some (find_empty key k) f)
-  left_full (carry t m) (above g r) k x f h = left_full m r k x f h
-  left_full (keep {x = z} {xs = xs} {ys = ys} {stay = stay} {target = target} t m) (above g r) k x f h =
-      go (ℕ_discrete (key z) k) (left_full m r k x) (key_merged m r k)
+  left_full {b = b} (carry {x = z} t m) (above g r) k x f h = left_full {b = suc (key z)} m r k x f h
+  left_full {b = b} (keep {x = z} {xs = xs} {ys = ys} {stay = stay} {target = target} t m) (above g r) k x f h =
+      go (ℕ_discrete (key z) k) (left_full {b = suc (key z)} m r k x) (key_merged m r k)
     where
       go : Dec (key z ≡ k)
           → (find key stay k ≡ some x → holds e k ≡ true → (find key target k ≡ none) × (capacity ≤ length target))
@@ -192,19 +192,19 @@ module _ {A : Type 0} (key : A → ℕ) (capacity : ℕ) (e : Edge) where
       → length stay + count (lacks key stay) xs ≡ length xs
   unfolding count
   carried_count through end = refl
-  carried_count (carry {x = x} {stay = stay} t m) (above h r) =
-      rw (find_low key (stay_rising m r) (key x) (omega arith)) (omega (arith, carried_count m r))
-  carried_count (keep {x = x} {stay = stay} t m) (above h r) =
+  carried_count {b = b} (carry {x = x} {stay = stay} t m) (above h r) =
+      rw (find_low key (stay_rising m r) (key x) (omega arith)) (omega (arith, carried_count {b = suc (key x)} m r))
+  carried_count {b = b} (keep {x = x} {stay = stay} t m) (above h r) =
       rw (find_same key x stay (key x) refl)
-      (omega (arith, carried_count m r, count_same key (lacks key (x ∷ stay)) (lacks key stay) r (lacks_on x stay)))
+      (omega (arith, carried_count {b = suc (key x)} m r, count_same key (lacks key (x ∷ stay)) (lacks key stay) r (lacks_on x stay)))
 
   -- The target rises by those of them whose keys it lacked.
   pub rise_count : {b : ℕ} {xs ys stay target : List A} → Merging key capacity e xs ys stay target → Rising key b xs → Rising key 0 ys
       → length target + count (λ x. lacks key stay x && has key ys x) xs ≡ length ys + count (lacks key stay) xs
   unfolding count
   rise_count through end s = refl
-  rise_count (carry {x = x} {xs = xs} {ys = ys} {stay = stay} {target = target} t m) (above h r) s =
-      go (option? (find key ys (key x))) (rise_count m r (put_rising key x (omega arith) s))
+  rise_count {b = b} (carry {x = x} {xs = xs} {ys = ys} {stay = stay} {target = target} t m) (above h r) s =
+      go (option? (find key ys (key x))) (rise_count {b = suc (key x)} m r (put_rising key x (omega arith) s))
     where
       gone : find key stay (key x) ≡ none
       gone = find_low key (stay_rising m r) (key x) (omega arith)
@@ -221,11 +221,11 @@ module _ {A : Type 0} (key : A → ℕ) (capacity : ℕ) (e : Edge) where
           ≡ length ys + (bit (lacks key stay x) + count (lacks key stay) xs)
       go (inl n) again = rw (gone, n) (omega (arith, others, put_adds key x ys n))
       go (inr w) again = rw (gone, w.1) (omega (arith, others, put_replaces key x w.0 s w.1))
-  rise_count (keep {x = x} {ys = ys} {stay = stay} t m) (above h r) s =
+  rise_count {b = b} (keep {x = x} {ys = ys} {stay = stay} t m) (above h r) s =
       rw (find_same key x stay (key x) refl)
       (omega (
         arith,
-        rise_count m r s,
+        rise_count {b = suc (key x)} m r s,
         count_same key (lacks key (x ∷ stay)) (lacks key stay) r (lacks_on x stay),
         count_same key (λ y. lacks key (x ∷ stay) y && has key ys y) (λ y. lacks key stay y && has key ys y) r
             (λ y i. ap (λ (b : Bool). b && has key ys y) (lacks_on x stay y i)),
@@ -248,8 +248,8 @@ module _ {A : Type 0} (key : A → ℕ) (capacity : ℕ) (e : Edge) where
   none_fits (carry {x = x} {xs = xs} {ys = ys} t m) (above g r) h =
       let n = h (key x) x (find_same key x xs (key x) refl) (carries-holds x ys t) in
       absurd (not_both (carries-room x ys t) (room_none key capacity ys (key x) n.0 n.1))
-  none_fits (keep {x = x} {xs = xs} t m) (above g r) h =
-      let w = none_fits m r (λ k y f. h k y (later k y f)) in
+  none_fits {b = b} (keep {x = x} {xs = xs} t m) (above g r) h =
+      let w = none_fits {b = suc (key x)} m r (λ k y f. h k y (later k y f)) in
       (ap (λ (l : List A). x ∷ l) w.0, w.1)
     where
       later : (k : ℕ) (y : A) → find key xs k ≡ some y → find key (x ∷ xs) k ≡ some y

@@ -2,7 +2,7 @@
 use Rattle.std.specs.Prelude.{◌≡◌, cond, List, [], ◌∷◌, ◌++◌, ℕ, suc, ◌+◌, ◌-◌, ◌*◌, ◌<◌, ◌≤◌, ltb, length, get_or, take, drop}
 use Rattle.std.proofs.Math.Seq.{slice}
 use Rattle.lists.specs.Indexed.{tabulate}
-use Rattle.lists.specs.Lending.{LentList}
+use Rattle.lists.specs.Lending.{LentMutList}
 use Rattle.std.specs.Borrow.{Bor}
 use Rattle.plan.specs.Sizes.{most_nodes}
 use Rattle.plan.specs.Plan.{Plan}
@@ -83,14 +83,14 @@ lent_store plan clock counts keys kinds values stamps slots =
     of_parts plan clock counts.now keys.now kinds.now values.now stamps.now slots
 
 -- The store that is lent to a call, as the call begins,
-abbrev pub store_at_entry : ℕ → ℕ → LentList → LentList → LentList → LentList → LentList → List Slot → Store
+abbrev pub store_at_entry : ℕ → ℕ → LentMutList → LentMutList → LentMutList → LentMutList → LentMutList → List Slot → Store
 store_at_entry plan clock counts keys kinds values stamps slots =
-    lent_store plan clock counts.entry keys.entry kinds.entry values.entry stamps.entry slots
+    of_parts plan clock counts.entry.now keys.entry.now kinds.entry.now values.entry.now stamps.entry.now slots
 
 -- and as it ends.
-abbrev pub store_at_exit : ℕ → ℕ → LentList → LentList → LentList → LentList → LentList → List Slot → Store
+abbrev pub store_at_exit : ℕ → ℕ → LentMutList → LentMutList → LentMutList → LentMutList → LentMutList → List Slot → Store
 store_at_exit plan clock counts keys kinds values stamps slots =
-    lent_store plan clock counts.exit keys.exit kinds.exit values.exit stamps.exit slots
+    of_parts plan clock counts.exit.now keys.exit.now kinds.exit.now values.exit.now stamps.exit.now slots
 
 -- The state that a look reads: of so many nodes, whose columns are lent.
 abbrev pub lent_state : ℕ → Bor (List ℕ) → Bor (List ℕ) → Bor (List ℕ) → Bor (List ℕ) → Bor (List ℕ) → State

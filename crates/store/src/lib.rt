@@ -11,7 +11,7 @@ pub mod columns; // columns.rt: the workers on lent columns
 
 // "A copy has a key, a kind (0 withdrawn, 1 result), a value .. and a stamp."
 #[repr(C)]
-#[derive(Drop)]
+#[derive(Clone, Copy)]
 pub struct Copy {
     pub key: u32,
     pub kind: u32,
@@ -21,7 +21,7 @@ pub struct Copy {
 
 // A search slot: whether a search runs in it, its key, the node that it stands at, and the nodes visited. An idle slot is all zero.
 #[repr(C)]
-#[derive(Drop)]
+#[derive(Clone, Copy)]
 pub struct Slot {
     pub running: u32,
     pub key: u32,
@@ -45,7 +45,7 @@ pub struct Store {
 
 // "Each answer has a number and four numbers a, b, c, d, zero unless named."
 #[repr(C)]
-#[derive(Drop)]
+#[derive(Clone, Copy)]
 pub struct Answer {
     pub number: u32,
     pub a: u64,
@@ -63,7 +63,7 @@ pub struct Outcome {
 }
 
 // "A look in one node gives a found copy or nothing."
-#[derive(Drop)]
+#[derive(Clone, Copy)]
 pub enum Found {
     Held(Copy),
     Nothing,

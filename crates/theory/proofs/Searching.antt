@@ -69,7 +69,7 @@ other_running Done s i j f (slot_idle h g) = refl
 other_running Done s i j f (slot_runs {e = o} h g d) = f o d
 
 module _ (p : Plan) (s : State) (i : ℕ) where
-  other_started : {o : Effect} {k : ℕ} → (slot_at s i).running ≢ idle_mark → StartWay k s o → slot_at o.after i ≡ slot_at s i
+  other_started : {k : ℕ} {o : Effect} → (slot_at s i).running ≢ idle_mark → StartWay k s o → slot_at o.after i ≡ slot_at s i
   other_started r (all-running h) = refl
   other_started {k = k} r (taken j h f g) =
       slot_other j (running k 0 0) s i (λ (q : i ≡ j). r (subst (λ (l : ℕ). (slot_at s l).running ≡ idle_mark) (sym q) f))

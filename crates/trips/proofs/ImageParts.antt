@@ -1,7 +1,7 @@
 -- The parts of an image: each is read back where it stands, and where one is read, its bytes stand.
 use mathlib.Core.Path.{◌≡◌, refl, ap, ◌∙◌}
 use mathlib.Core.List.{List, [], ◌∷◌}
-use Prim.Native.Nat.{ℕ, zero, suc, ◌<◌, ◌≤◌}
+use Prim.Native.Nat.{ℕ, zero, suc, ◌+◌, ◌<◌, ◌≤◌}
 use native.Mathlib.Omega.{arith}
 use lib.Dec.{ltb}
 use lib.ListN.{length, get_or}
@@ -29,9 +29,9 @@ module _ {s : List ℕ} where
       → read_copies s (length xs) at ≡ got xs next
   unfolding read_copies copies_bytes
   copies_back [] w h = nothing_stands [] h
-  copies_back (x ∷ xs) w h =
+  copies_back {at = at} (x ∷ xs) w h =
       bind_got _ _ (copy_back x (w 0 (omega arith)) (stands_left (copy_bytes x) (copies_bytes xs) h))
-      ∙ bind_got _ _ (copies_back xs (λ i l. w (suc i) (omega arith)) (stands_right (copy_bytes x) (copies_bytes xs) h))
+      ∙ bind_got _ _ (copies_back {at = at + length (copy_bytes x)} xs (λ i l. w (suc i) (omega arith)) (stands_right (copy_bytes x) (copies_bytes xs) h))
 
   pub node_back : {at : ℕ} (capacity : ℕ) (xs : List Copy) {next : ℕ} → length xs ≤ capacity → capacity ≤ most_capacity
       → ((i : ℕ) → i < length xs → Writable (get_or xs i no_copy)) → Stands s at (node_bytes xs) next → read_node s capacity at ≡ got xs next
@@ -62,10 +62,10 @@ unfolding read_nodes nodes_bytes
 nodes_back [] [] w h = nothing_stands [] h
 nodes_back [] (xs ∷ ns) w h = absurd (omega (arith, w.lists))
 nodes_back (n ∷ p) [] w h = absurd (omega (arith, w.lists))
-nodes_back (n ∷ p) (xs ∷ ns) w h =
+nodes_back {at = at} (n ∷ p) (xs ∷ ns) w h =
     let r = w.room 0 (omega arith) in
     bind_got _ _ (node_back n.capacity xs r.0 r.1 (λ i g. w.copies 0 i (omega arith) g) (stands_left (node_bytes xs) (nodes_bytes ns) h))
-    ∙ bind_got _ _ (nodes_back p ns (rest_writable w) (stands_right (node_bytes xs) (nodes_bytes ns) h))
+    ∙ bind_got _ _ (nodes_back {at = at + length (node_bytes xs)} p ns (rest_writable w) (stands_right (node_bytes xs) (nodes_bytes ns) h))
 
 -- ---- what is read stands there
 

@@ -7,7 +7,7 @@ use number::Reading;
 use store::Answer;
 
 // A number and the offset after it, or a fault: an answer number and its offset.
-#[derive(Drop)]
+#[derive(Clone, Copy)]
 pub struct Num {
     pub ok: bool,
     pub fault: u32,

@@ -1,0 +1,25 @@
+-- `plan::arrays::next_in` meets its contract. The loop's invariant: what is left of the edges gives the key's next step. The measure is their number.
+use mathlib.Core.Path.{◌≡◌, sym, ◌∙◌}
+use mathlib.Core.Logic.{⊎_elim}
+use Prim.Native.Nat.{ℕ, ◌-◌, ◌≤◌}
+use native.Mathlib.Omega.{arith}
+use borrow.Author.Tests.{leb-true, leb-false}
+use Rattle.lists.specs.Indexed.{tabulate}
+use Rattle.plan.specs.declared.Edge.{Edge}
+use Rattle.plan.specs.Sizes.{most_edges}
+use Rattle.plan.specs.Plan.{first_edge}
+use Rattle.plan.specs.PlanArrays.{edge_in, edge_count_in, edges_in}
+use Rattle.plan.proofs.NextLaws.{below_lowest, above_highest}
+use Rattle.plan.proofs.ArrayLaws.{counted_within, looks_from, looked, found, looks_on}
+use borrow.Author.Rules.{rules}
+use Rattle.plan.proofs.arrays.next_in.Given as goal
+
+abbrev pub invariant-loop-e : goal.invariant-loop-e
+invariant-loop-e l =
+    (l.e ≤ l.count)
+    × (l.count ≤ most_edges)
+    × (l.count ≡ edge_count_in l.counts l.node)
+    × (first_edge (edges_in l.counts l.lows l.highs l.targets l.node) l.key ≡ first_edge (tabulate l.e (l.count - l.e) (edge_in l.lows l.highs l.targets l.node)) l.key)
+
+abbrev pub decreases-loop-e : goal.decreases-loop-e
+decreases-loop-e l = l.count - l.e

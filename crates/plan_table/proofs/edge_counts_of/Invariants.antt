@@ -1,0 +1,18 @@
+-- `plan_table::edge_counts_of` meets its contract: the edge counts of the table are those of the plans, computed.
+use mathlib.Core.Path.{◌≡◌, refl, ◌∙◌}
+use mathlib.Core.List.{[]}
+use mathlib.Core.Logic.{⊎_elim}
+use Prim.Native.Nat.{◌-◌, ◌≤◌}
+use native.Mathlib.Omega.{arith}
+use Rattle.lists.specs.Indexed.{tabulate}
+use Rattle.plan.specs.PlanArrays.{counts_row}
+use Rattle.plan_table.specs.PlanTable.{plan_table, plans}
+use Rattle.plan_table.proofs.TableRows.{among, no_row, own_row, other_row, last_row}
+use borrow.Author.Rules.{rules}
+use Rattle.plan_table.proofs.edge_counts_of.Given as goal
+
+abbrev pub invariant-loop-row : goal.invariant-loop-row
+invariant-loop-row l = (l.row ≤ plans) × (l.found ≡ counts_row (among l.row l.plan))
+
+abbrev pub decreases-loop-row : goal.decreases-loop-row
+decreases-loop-row l = plans - l.row

@@ -1,0 +1,18 @@
+-- `rules_stamps::stamps_differ` meets its contract. The loop's invariant: the stamps of the nodes from n on are taken. The measure is n.
+use mathlib.Core.Path.{◌≡◌, sym, subst, ◌∙◌}
+use mathlib.Core.Bool.{true}
+use Prim.Native.Nat.{suc, ◌-◌, ◌≤◌}
+use native.Mathlib.Omega.{arith}
+use borrow.Author.Rules.{rules}
+use borrow.Author.Tests.{not-true, not-false}
+use Rattle.plan.specs.Sizes.{most_nodes}
+use Rattle.store.specs.Copies.{different}
+use Rattle.rules_stamps.specs.Workers.{from_node, Taken}
+use Rattle.rules_stamps.proofs.Taking.{takes_nothing, fails_all}
+use Rattle.rules_stamps.proofs.stamps_differ.Given as goal
+
+abbrev pub invariant-loop-n : goal.invariant-loop-n
+invariant-loop-n l = (l.n ≤ most_nodes) × Taken l.table (from_node l.counts l.stamps l.n)
+
+abbrev pub decreases-loop-n : goal.decreases-loop-n
+decreases-loop-n l = l.n

@@ -1,0 +1,15 @@
+-- `store::columns::look_among` meets its contract.
+use Prim.Native.Nat.{◌+◌, ◌-◌, ◌/◌, ◌≤◌, ◌<◌}
+use native.Mathlib.Omega.{arith}
+use borrow.Author.Rules.{rules}
+use Rattle.store.specs.Workers.{number_in, place_in}
+use Rattle.store.proofs.Halving.{place_bounds, half_up, half_down, look_held, look_nothing}
+use Rattle.store.proofs.columns.look_among.Given as goal
+
+-- The place of the key lies between low and high, and the key at high is greater.
+abbrev pub invariant-loop-high : goal.invariant-loop-high
+invariant-loop-high l =
+    (l.from ≤ l.low) × (l.high ≤ l.end) × (l.low ≤ place_in l.keys l.from l.end l.key) × (place_in l.keys l.from l.end l.key ≤ l.high) × (l.high < l.end → l.key < number_in l.keys l.high)
+
+abbrev pub decreases-loop-high : goal.decreases-loop-high
+decreases-loop-high l = l.high - l.low
