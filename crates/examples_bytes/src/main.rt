@@ -201,9 +201,11 @@ fn ran(out: &mut impl Write) -> io::Result<()> {
     let steps = read.list;
     let first = runner::run_list(fresh(1), steps, 0);
     print(out, 14, first.answer)?;
-    print(out, 14, runner::run_list(first.store, steps, 1).answer)?;
-    print(out, 14, runner::run_list(first.store, steps, 2).answer)?;
-    print(out, 14, runner::run_list(first.store, steps, 256).answer)?;
+    let second = runner::run_list(first.store, steps, 1);
+    print(out, 14, second.answer)?;
+    let third = runner::run_list(second.store, steps, 2);
+    print(out, 14, third.answer)?;
+    print(out, 14, runner::run_list(third.store, steps, 256).answer)?;
     print(out, 14, runner::run_list(broken(), steps, 256).answer)
 }
 
@@ -261,12 +263,11 @@ fn ran_entries(out: &mut impl Write) -> io::Result<()> {
 fn ran_searches(out: &mut impl Write) -> io::Result<()> {
     let start = [1, 4, 33];
     run(out, fresh(1), &start)?;
-    let all = busy();
-    run(out, all, &start)?;
+    run(out, busy(), &start)?;
     let step = [1, 5, 0];
-    run(out, all, &step)?;
+    run(out, busy(), &step)?;
     let cancel = [1, 6, 7];
-    run(out, all, &cancel)?;
+    run(out, busy(), &cancel)?;
     run(out, fresh(1), &cancel)?;
     let slot = [1, 6, 8];
     run(out, fresh(1), &slot)
