@@ -26,7 +26,7 @@ use Rattle.theory.specs.Events.Event.{enters, carries, starts, steps, cancels, a
 use Rattle.theory.proofs.Bound.{worth-held, event_pays, copies_with, copies_entered}
 use Rattle.theory.proofs.Reached.{reached}
 use Rattle.calls.specs.PublicCalls.{Call, store_after, store_after_all}
-use Rattle.calls.specs.PublicCalls.Call.{fresh as freshCall}
+use Rattle.calls.specs.PublicCalls.Call.{fresh as fresh_call}
 use Rattle.calls.specs.Following.{
   event_of,
   events_of,
@@ -162,7 +162,7 @@ from_fresh plan low high k v r h =
     )
 
 -- An accepted fresh: the store is the plan's fresh store.
-fresh_replaces : (plan : ℕ) → 1 ≤ plan → plan ≤ plans → replacement (freshCall plan) ≡ some (fresh_store plan)
+fresh_replaces : (plan : ℕ) → 1 ≤ plan → plan ≤ plans → replacement (fresh_call plan) ≡ some (fresh_store plan)
 unfolding own_outcome replacement fresh_outcome plan_number_test
 fresh_replaces plan low high = rw (le_both 1 plan plan plans low high)
 
@@ -177,8 +177,8 @@ calls_reach plan low high k v r h z =
     let cs = calls_of (rounds (plan_of (fresh_store plan)) k v r) in
     let w = from_fresh plan low high k v r (omega arith) in (
       ap (copies_of k)
-          (replaced-history (freshCall plan) cs z (fresh_store plan) (held (state_of z)) e
+          (replaced-history (fresh_call plan) cs z (fresh_store plan) (held (state_of z)) e
           ∙ ap (λ (xs : List Copy). history cs (fresh_store plan) xs) (fresh-history plan low high))
           ∙ w.0,
-      replaced-carries k (freshCall plan) cs z (fresh_store plan) 0 e ∙ w.1,
+      replaced-carries k (fresh_call plan) cs z (fresh_store plan) 0 e ∙ w.1,
     )

@@ -7,7 +7,7 @@ use native.Mathlib.Omega.{arith}
 use lib.ListN.{length}
 use Rattle.plan_table.specs.PlanTable.{plans}
 use Rattle.store.specs.declared.Store.{Store}
-use Rattle.store.specs.State.{State, fresh as freshState}
+use Rattle.store.specs.State.{State, fresh as fresh_state}
 use Rattle.store.specs.Layout.{plan_of, state_of, store_of, fresh_store}
 use Rattle.store.specs.StoreRules.{good_store}
 use Rattle.store.proofs.Lifting.{state_good, fresh_good}
@@ -31,7 +31,7 @@ clock_counts cs z good stays =
 pub most_entries_lem : (plan : ℕ) → 1 ≤ plan → plan ≤ plans → (cs : List Call) → same_store cs ≡ true
     → ((store_after_all cs (fresh_store plan)).clock ≡ suc (length (history cs (fresh_store plan) [])))
     × (length (history cs (fresh_store plan) []) ≤ most_entries)
-unfolding state_of fresh_store store_of freshState
+unfolding state_of fresh_store store_of fresh_state
 most_entries_lem plan low high cs stays =
     let good = fresh_good plan low high in
     let counts : (store_after_all cs (fresh_store plan)).clock ≡ suc (length (history cs (fresh_store plan) [])) =

@@ -18,7 +18,6 @@ use Rattle.store.specs.Copies.{is_some}
 use Rattle.store.specs.State.{State, slot_count, idle}
 use Rattle.store.specs.Layout.{plan_of, state_of}
 use Rattle.store.specs.StoreRules.{good_store}
-use Rattle.steps.specs.Searches.{running}
 use Rattle.theory.specs.Events.{Event, after, answer_of, state_after_all, still_runs_after, still_runs}
 use Rattle.theory.specs.Events.Event.{starts, steps}
 use Rattle.trips.specs.Trips.{AllIdle}

@@ -16,7 +16,6 @@ use Rattle.lists.proofs.Options.{option?, not_none_and_some, one_some}
 use Rattle.plan.specs.Plan.{size}
 use Rattle.store.specs.declared.Copy.{Copy}
 use Rattle.store.specs.declared.Store.{Store}
-use Rattle.store.specs.Answers.{answer}
 use Rattle.store.specs.Copies.{kind_number, value_held, copy, no_copy}
 use Rattle.store.specs.Copies.Kind.{withdrawn, result}
 use Rattle.store.specs.State.{State, node_at, copy_at, line}

@@ -14,7 +14,7 @@ use Rattle.plan.specs.Plan.{Plan}
 use Rattle.plan_table.specs.PlanTable.{plan_numbered}
 use Rattle.store.specs.declared.Outcome.{Outcome}
 use Rattle.store.specs.declared.Store.{Store}
-use Rattle.store.specs.Answers.{DONE, PLAN, CUT, NUMBER, FORMAT, RULE, TRAIL, answer}
+use Rattle.store.specs.Answers.{DONE, PLAN, CUT, NUMBER, FORMAT, RULE, TRAIL}
 use Rattle.store.specs.Copies.{member}
 use Rattle.store.specs.StoreRules.{plan_number_test, good_store}
 use Rattle.wire.specs.Reading.{Got, got, fault, number_at}

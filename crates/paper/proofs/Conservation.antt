@@ -21,7 +21,7 @@ use Rattle.store.specs.Copies.{kind_number, value_held, copy, key_of, find, is_s
 use Rattle.store.specs.State.{State, node_at, line}
 use Rattle.store.specs.StateRules.{StateRules}
 use Rattle.store.specs.Calls.{Effect}
-use Rattle.steps.specs.Entries.{put, entered as enteredInto, entry}
+use Rattle.steps.specs.Entries.{put, entered as entered_into, entry}
 use Rattle.steps.specs.Carries.{bit, merge_along, carried_out, carried_to, carry_step}
 use Rattle.steps.proofs.NodeLists.{find_same, find_other, find_low, find_empty, put_same, put_other}
 use Rattle.steps.proofs.Merges.{KeyMerged}
@@ -91,8 +91,8 @@ module _ (p : Plan) (rules : PlanRules p) (k : ℕ) where
     -- An entry of the line adds a copy, or replaces the root's.
     put_count : (x : Copy)
         → line_count k s.nodes + bit (eqb x.key k)
-        ≡ line_count k (enteredInto x s).nodes + bit (eqb x.key k && is_some (line s k 0))
-    unfolding enteredInto
+        ≡ line_count k (entered_into x s).nodes + bit (eqb x.key k && is_some (line s k 0))
+    unfolding entered_into
     put_count x = go (ℕ_discrete x.key k) (count_set k s.nodes 0 (put key_of x (node_at s 0)) root)
       where
         go : Dec (x.key ≡ k)
@@ -121,7 +121,7 @@ module _ (p : Plan) (rules : PlanRules p) (k : ℕ) where
         go (at_last_clock h) g = omega arith
         go (root_full h f e) g = omega arith
         go (copy-enters h f) g =
-            rw (held_lines s good, held_lines (enteredInto (copy j kind v s.clock) s) g)
+            rw (held_lines s good, held_lines (entered_into (copy j kind v s.clock) s) g)
             (omega (arith, put_count (copy j kind v s.clock)))
 
     -- A carry of the line moves its copy, and discards the target's.

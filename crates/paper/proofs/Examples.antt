@@ -17,7 +17,7 @@ use Rattle.steps.specs.Entries.{put, room, entered, entry}
 use Rattle.steps.specs.Carries.{carries, merge, count_held, merge_along, carried_to, carried_out, carry_step}
 use Rattle.steps.specs.Searches.{lowest_idle, start_step, with_running, step_step}
 use Rattle.theory.specs.Events.{effect, state_after_all, entry_of, entered_copies, held, copies_of, entries, carries_line}
-use Rattle.theory.specs.Events.Event.{enters, carries as carriesAlong}
+use Rattle.theory.specs.Events.Event.{enters, carries as carries_along}
 use Rattle.theory.specs.Paper.{Edgeset, ContentsInReach}
 use Rattle.theory.proofs.EventSteps.{events_keep}
 use Rattle.paper.specs.Graph.{Inset}
@@ -55,7 +55,7 @@ uncut_fails =
     record {
       plan_rules = meeting_rules;
       state_rules =
-          events_keep meeting meeting_rules (enters result 0 7 ∷ carriesAlong 0 0 ∷ carriesAlong 1 0 ∷ []) (fresh meeting) (fresh_rules meeting);
+          events_keep meeting meeting_rules (enters result 0 7 ∷ carries_along 0 0 ∷ carries_along 1 0 ∷ []) (fresh meeting) (fresh_rules meeting);
       in_last_node = refl;
       in_edgeset = in_edgeset;
       in_reach = low_key_in_reach;

@@ -19,7 +19,7 @@ use Rattle.store.specs.Copies.{kind_number, value_held, copy, key_of, is_some}
 use Rattle.store.specs.State.{State, node_at, line}
 use Rattle.store.specs.StateRules.{StateRules}
 use Rattle.store.specs.Calls.{Effect}
-use Rattle.steps.specs.Entries.{put, entered as enteredInto, entry}
+use Rattle.steps.specs.Entries.{put, entered as entered_into, entry}
 use Rattle.steps.specs.Carries.{Merged, bit, merge_along, carried_out, carried_to, carry_step}
 use Rattle.steps.proofs.NodeLists.{put_most, put_adds, put_replaces}
 use Rattle.steps.proofs.RulesOnLines.{rising_nodes}
@@ -126,8 +126,8 @@ module _ (p : Plan) (rules : PlanRules p) where
         }
 
     -- An entry.
-    entered_total : (x : Copy) → Total (x ∷ []) 0 0 (bit (is_some (line s x.key 0))) (enteredInto x s)
-    unfolding held enteredInto
+    entered_total : (x : Copy) → Total (x ∷ []) 0 0 (bit (is_some (line s x.key 0))) (entered_into x s)
+    unfolding held entered_into
     entered_total x =
         record {
           copies = go (option? (line s x.key 0)) (copies_set s.nodes 0 (put key_of x (node_at s 0)) root);

@@ -1,4 +1,4 @@
--- A list while records are with_first down at its beginning, and what decoding has with_first down at last.
+-- A list while records are laid down at its beginning, and what decoding has with_first down at last.
 use mathlib.Core.Path.{◌≡◌, refl, ap, ◌∙◌}
 use mathlib.Core.Bool.{true, false}
 use mathlib.Core.List.{List, ◌++◌}
@@ -46,7 +46,7 @@ filled_is xs l (suc n) p q =
 
 -- ---- what decoding lays down
 
--- Records at the beginning of a list of zeros, with_first down at the beginning of another list.
+-- Records at the beginning of a list of zeros, laid down at the beginning of another list.
 filled_first : (xs l : List Step) → length xs ≤ most_steps → length xs ≤ length l → filled (with_first xs no_steps) (length xs) l ≡ with_first xs l
 unfolding with_first
 filled_first xs l p q =

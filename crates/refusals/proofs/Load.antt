@@ -15,7 +15,7 @@ use Rattle.plan_table.specs.PlanTable.{plan_numbered}
 use Rattle.store.specs.declared.Copy.{Copy}
 use Rattle.store.specs.declared.Outcome.{Outcome}
 use Rattle.store.specs.declared.Store.{Store}
-use Rattle.store.specs.Answers.{DONE, PLAN, CUT, NUMBER, FORMAT, RULE, TRAIL, answer}
+use Rattle.store.specs.Answers.{DONE, PLAN, CUT, NUMBER, FORMAT, RULE, TRAIL}
 use Rattle.store.specs.Copies.{has_value, copy, member}
 use Rattle.store.specs.StoreRules.{good_store}
 use Rattle.wire.specs.Reading.{Got, got, fault, bind, number_at}

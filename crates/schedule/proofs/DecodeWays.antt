@@ -171,7 +171,7 @@ module _ {s : List ℕ} {from : ℕ} {list : List Step} {count at : ℕ} (sofar 
       steps_fault plan e =
           ap decoded_of (sym (bind_fault _ _ (sofar.rest ∙ bind_fault _ _ (steps_step s at more h ∙ bind_fault _ _ e))))
 
-      -- A step is read, and its record with_first down.
+      -- A step is read, and its record laid down.
       pub sofar_turn : {x : Step} {next : ℕ} → step_at s at ≡ got x next → Sofar s from (set list count x) (count + 1) next
       sofar_turn {x} {next} e =
           let d = sofar.done in

@@ -1,7 +1,7 @@
 -- "Down a path, a key's stamps strictly fall", said of any two copies of a key and said of each copy and the first one in reach below
 -- it: the two are one, where keys rise in each node and copies stand on their keys' paths.
 use mathlib.Core.Path.{◌≡◌, refl, sym, ap, ◌∙◌, subst}
-use mathlib.Core.Logic.{◌⊎◌, ⊎_elim}
+use mathlib.Core.Logic.{⊎_elim}
 use mathlib.Core.List.{List, [], ◌∷◌}
 use mathlib.Core.Option.{Option, none, some}
 use Prim.Native.Nat.{ℕ, zero, suc, ◌<◌, ◌≤◌}

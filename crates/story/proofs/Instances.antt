@@ -57,7 +57,7 @@ use Rattle.paper_calls.specs.Structure.{StoreMCS, copies_so_far, CallUpserts, Ca
 use Rattle.kept.specs.Shows.{shows}
 use Rattle.kept.specs.Amended.{EntryDone}
 use Rattle.kept.specs.Examples.{line_key, entering, after_fresh}
-use Rattle.kept.proofs.ExamplesServed.{opened as pagesOpened}
+use Rattle.kept.proofs.ExamplesServed.{opened as pages_opened}
 use Rattle.story.specs.Instances.{
   before_search,
   while_it_runs,
@@ -76,7 +76,7 @@ use Rattle.story.proofs.Demands.{demand_1, demand_2, demand_3}
 
 -- Whoever unfolds this unfolds all definitions that the instances are about.
 opened : Bool
-unfolding pagesOpened flatten lowest_idle start_step with_running step_step effect held copies_of still_runs_after still_runs is_own_step own_steps cancels_slot not_cancelled returned answer_to event_of events_of on_event own_outcome replacement same_store entered_by carried_by history carries_since
+unfolding pages_opened flatten lowest_idle start_step with_running step_step effect held copies_of still_runs_after still_runs is_own_step own_steps cancels_slot not_cancelled returned answer_to event_of events_of on_event own_outcome replacement same_store entered_by carried_by history carries_since
 opened = true
 
 -- The stores of the schedule are good and of the declared type.

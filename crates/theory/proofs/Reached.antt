@@ -28,7 +28,7 @@ use Rattle.store.specs.StateRules.{StateRules}
 use Rattle.store.specs.Calls.{Effect}
 use Rattle.store.proofs.Lifting.{fresh-node, fresh_rules}
 use Rattle.steps.specs.Entries.{put, room, entered, entry}
-use Rattle.steps.specs.Carries.{Merged, bit, carries as carriesCopy, merge, merge_along, carried_to}
+use Rattle.steps.specs.Carries.{Merged, bit, carries as carries_copy, merge, merge_along, carried_to}
 use Rattle.steps.proofs.NodeLists.{find_same, find_empty, put_over, room_has, room_free}
 use Rattle.steps.proofs.Merges.{merge_carry}
 use Rattle.steps.proofs.LineSteps.{every_node-entered, every_node-carried, entered_root, carried_from_lem, carried_into, after_carry}
@@ -68,7 +68,7 @@ put_alone x (single y e) = put_over key_of x y [] (sym e)
 merge_alone : (capacity : ℕ) (e : Edge) (x : Copy) (ys : List Copy) → Alone x.key ys → holds e x.key ≡ true → 1 ≤ capacity
     → merge key_of capacity e (x ∷ []) ys ≡ record { stay = []; target = x ∷ [] }
 merge_alone capacity e x ys o h c =
-    let t : carriesCopy key_of capacity e x ys ≡ true = unfold carriesCopy in and_both h (alone_room x.key capacity o c) in
+    let t : carries_copy key_of capacity e x ys ≡ true = unfold carries_copy in and_both h (alone_room x.key capacity o c) in
     let end : merge key_of capacity e [] (put key_of x ys) ≡ record { stay = []; target = put key_of x ys } = unfold merge in refl in
     merge_carry key_of capacity e x [] ys t
     ∙ (end ∙ ap (λ (l : List Copy). record { stay = []; target = l }) (put_alone x o))

@@ -19,7 +19,7 @@ use Rattle.store.specs.declared.Copy.{Copy}
 use Rattle.store.specs.declared.Outcome.{Outcome}
 use Rattle.store.specs.declared.Slot.{Slot}
 use Rattle.store.specs.declared.Store.{Store}
-use Rattle.store.specs.Answers.{DONE, PLAN, FORMAT, RULE, answer}
+use Rattle.store.specs.Answers.{DONE, PLAN, FORMAT, RULE}
 use Rattle.store.specs.Copies.{no_copy}
 use Rattle.store.specs.State.{State, slot_count, idle, copy_at, fresh}
 use Rattle.store.specs.StateRules.{StateRules}

@@ -2,15 +2,11 @@
 use mathlib.Core.Path.{ap}
 use borrow.Author.Rules.{rules}
 use Rattle.store.specs.declared.Answer.{Answer}
-use Rattle.carries.proofs.settling.refused.Statement.{statement}
-use Rattle.carries.proofs.settling.refused.Tie as tie
+use Rattle.carries.proofs.settling.refused.Goals as goal
 
-bare-requires : tie.Need-bare-requires
-bare-requires c κs = search rules
-
-returns : tie.Need-returns
+pub returns : goal.returns
 returns c =
-    let count = c.before.args.count in
+    let count = c.args.count in
     ap (λ (a : Answer).
     record {
       answer = a;
@@ -25,6 +21,3 @@ returns c =
       holds = count;
     })
     c.bare.ensures
-
-pub refused-spec : {M : Type 1} → statement M
-refused-spec = tie.close (tie.spec bare-requires returns)

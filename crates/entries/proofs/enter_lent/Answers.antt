@@ -1,0 +1,8 @@
+-- `entries::enter_lent` meets its contract.
+use mathlib.Core.Path.{refl}
+use Rattle.entries.proofs.Entering.{enters_held}
+use borrow.Author.Rules.{rules}
+use Rattle.entries.proofs.enter_lent.Goals as goal
+
+pub returns : goal.returns
+returns c = enters_held _ _ _ _ refl c.entry_lent.ensures
