@@ -1,4 +1,4 @@
-/* Olipranj's C interface: the functions of the crate `export`, in target/staticlib/libexport.a, which outside/install lays down as libolipranj.a.
+/* Olipranj's C interface: the functions of the crate `export_c`, in target/staticlib/libexport.a, which outside/install lays down as libolipranj.a.
    Each keeps the promise that docs/PROMISES.md names. The `static inline` functions below are written here, over those: they are tested
    (outside/c) and not proved.
 

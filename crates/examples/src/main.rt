@@ -1,7 +1,10 @@
 // Further examples over the public calls on stores: each line is the call's number and its answer. Document 01, "What the promises must pin".
 //
 // The calls' numbers: 1 fresh, 2 enter, 3 withdraw, 4 carry, 5 start, 6 step, 7 cancel, 8 look; the others are examples_bytes'.
-use libc::STDOUT_FILENO;
+#![tactic(auto)]
+
+use std::io;
+use std::io::Write;
 use store::{Answer, Store};
 
 // The last clock, which is the highest key too; and the lowest key of plan 2's edge 0 to 2.
@@ -9,11 +12,11 @@ const LAST: u32 = 4294967295;
 
 const HIGH: u32 = 2147483648;
 
-// One line. False where it could not be written: there is nobody to print for.
-fn print(first: u32, answer: Answer) -> bool {
+// One line, or the error where it could not be written.
+fn print(out: &mut impl Write, first: u32, answer: Answer) -> io::Result<()> {
     let mut text = [0; lines::ROOM];
     let n = lines::print_into(&mut text, 0, first, answer);
-    io::write_all(STDOUT_FILENO, &text[..n])
+    out.write_all(&text[..n])
 }
 
 // A store of a plan, nothing held.
@@ -33,55 +36,55 @@ fn broken() -> Store {
 }
 
 // One line of fresh.
-fn freshen(plan: u32) {
-    print(1, Store::fresh(plan).answer);
+fn freshen(out: &mut impl Write, plan: u32) -> io::Result<()> {
+    print(out, 1, Store::fresh(plan).answer)
 }
 
 // One line of enter, and the store after it.
-fn enter(store: Store, key: u32, value: u32) -> Store {
+fn enter(out: &mut impl Write, store: Store, key: u32, value: u32) -> io::Result<Store> {
     let outcome = entries::enter(store, key, value);
-    print(2, outcome.answer);
-    outcome.store
+    print(out, 2, outcome.answer)?;
+    Ok(outcome.store)
 }
 
 // One line of withdraw, and the store after it.
-fn withdraw(store: Store, key: u32) -> Store {
+fn withdraw(out: &mut impl Write, store: Store, key: u32) -> io::Result<Store> {
     let outcome = entries::withdraw(store, key);
-    print(3, outcome.answer);
-    outcome.store
+    print(out, 3, outcome.answer)?;
+    Ok(outcome.store)
 }
 
 // One line of carry, and the store after it.
-fn carry(store: Store, node: u32, edge: u32) -> Store {
+fn carry(out: &mut impl Write, store: Store, node: u32, edge: u32) -> io::Result<Store> {
     let outcome = carries::carry(store, node, edge);
-    print(4, outcome.answer);
-    outcome.store
+    print(out, 4, outcome.answer)?;
+    Ok(outcome.store)
 }
 
 // One line of start, and the store after it.
-fn start(store: Store, key: u32) -> Store {
+fn start(out: &mut impl Write, store: Store, key: u32) -> io::Result<Store> {
     let outcome = searches::start(store, key);
-    print(5, outcome.answer);
-    outcome.store
+    print(out, 5, outcome.answer)?;
+    Ok(outcome.store)
 }
 
 // One line of step, and the store after it.
-fn step(store: Store, slot: u32) -> Store {
+fn step(out: &mut impl Write, store: Store, slot: u32) -> io::Result<Store> {
     let outcome = searches::step(store, slot);
-    print(6, outcome.answer);
-    outcome.store
+    print(out, 6, outcome.answer)?;
+    Ok(outcome.store)
 }
 
 // One line of cancel, and the store after it.
-fn cancel(store: Store, slot: u32) -> Store {
+fn cancel(out: &mut impl Write, store: Store, slot: u32) -> io::Result<Store> {
     let outcome = searches::cancel(store, slot);
-    print(7, outcome.answer);
-    outcome.store
+    print(out, 7, outcome.answer)?;
+    Ok(outcome.store)
 }
 
 // One line of look.
-fn look(store: Store, key: u32) {
-    print(8, looks::look(store, key));
+fn look(out: &mut impl Write, store: Store, key: u32) -> io::Result<()> {
+    print(out, 8, looks::look(store, key))
 }
 
 // The store after four entries: the keys that differ from the first in the last two bits alone.
@@ -108,6 +111,11 @@ fn two_carries() -> Store {
     carries::carry(with_eight(one, 8), 0, 0).store
 }
 
+// The same, and at the root a copy that replaces one at node 1.
+fn replacing() -> Store {
+    entries::enter(two_carries(), 15, 1).store
+}
+
 // The store of document 01's schedule: key 33 holds 210 at node 1.
 fn worked() -> Store {
     let one = carries::carry(entries::enter(fresh(1), 33, 180).store, 0, 0).store;
@@ -121,44 +129,46 @@ fn withdrawn_above() -> Store {
 }
 
 // Fresh: each plan, and the numbers beside them.
-fn fresh_stores() {
-    freshen(0);
-    freshen(1);
-    freshen(2);
-    freshen(3);
-    freshen(4);
+fn fresh_stores(out: &mut impl Write) -> io::Result<()> {
+    freshen(out, 0)?;
+    freshen(out, 1)?;
+    freshen(out, 2)?;
+    freshen(out, 3)?;
+    freshen(out, 4)
 }
 
 // Enter: DONE twice, BADSTORE, DONE at the last clock but one, CLOCK, FULL, DONE in a full root that has the key, CLOCK before FULL.
-fn entered() {
-    let first = enter(fresh(1), 33, 180);
-    enter(first, 33, 0);
-    enter(broken(), 33, 180);
-    let last = enter(at_clock(fresh(1), LAST - 1), 33, 180);
-    enter(last, 33, 180);
-    enter(full(), 8, 1);
-    enter(full(), 7, 1);
-    enter(at_clock(full(), LAST), 8, 1);
+fn entered(out: &mut impl Write) -> io::Result<()> {
+    let first = enter(out, fresh(1), 33, 180)?;
+    enter(out, first, 33, 0)?;
+    enter(out, broken(), 33, 180)?;
+    let last = enter(out, at_clock(fresh(1), LAST - 1), 33, 180)?;
+    enter(out, last, 33, 180)?;
+    enter(out, full(), 8, 1)?;
+    enter(out, full(), 7, 1)?;
+    enter(out, at_clock(full(), LAST), 8, 1)?;
+    Ok(())
 }
 
 // Withdraw: DONE twice, BADSTORE, CLOCK, FULL, DONE in a full root that has the key.
-fn withdrawn() {
-    let first = withdraw(fresh(1), 33);
-    withdraw(first, LAST);
-    withdraw(broken(), 33);
-    withdraw(at_clock(fresh(1), LAST), 33);
-    withdraw(full(), 8);
-    withdraw(full(), 7);
+fn withdrawn(out: &mut impl Write) -> io::Result<()> {
+    let first = withdraw(out, fresh(1), 33)?;
+    withdraw(out, first, LAST)?;
+    withdraw(out, broken(), 33)?;
+    withdraw(out, at_clock(fresh(1), LAST), 33)?;
+    withdraw(out, full(), 8)?;
+    withdraw(out, full(), 7)?;
+    Ok(())
 }
 
 // Carry: nothing to move; eight carried; one over another, in a target with room and in a full one; a new key left there.
-fn carried() {
-    carry(fresh(1), 0, 0);
-    let eight = carry(full(), 0, 0);
-    carry(entries::enter(eight, 7, 1).store, 0, 0);
-    let replacing = entries::enter(two_carries(), 15, 1).store;
-    carry(replacing, 0, 0);
-    carry(entries::enter(replacing, LAST, 1).store, 0, 0);
+fn carried(out: &mut impl Write) -> io::Result<()> {
+    carry(out, fresh(1), 0, 0)?;
+    let eight = carry(out, full(), 0, 0)?;
+    carry(out, entries::enter(eight, 7, 1).store, 0, 0)?;
+    carry(out, replacing(), 0, 0)?;
+    carry(out, entries::enter(replacing(), LAST, 1).store, 0, 0)?;
+    Ok(())
 }
 
 // Plan 1 with keys 8 to 23 at node 1, and key 0 at the root.
@@ -168,23 +178,28 @@ fn one_early() -> Store {
     entries::enter(two, 0, 1).store
 }
 
+// Plan 2 with a key of its other edge at the root.
+fn one_high() -> Store {
+    entries::enter(fresh(2), HIGH, 1).store
+}
+
 // Carry: nothing moved, one left; a later copy that replaces one though an earlier had no room; plan 2's edges by key.
-fn carried_by_key() {
-    let early = one_early();
-    carry(early, 0, 0);
-    carry(entries::enter(early, 16, 1).store, 0, 0);
-    let high = entries::enter(fresh(2), HIGH, 1).store;
-    carry(high, 0, 0);
-    carry(high, 0, 1);
+fn carried_by_key(out: &mut impl Write) -> io::Result<()> {
+    carry(out, one_early(), 0, 0)?;
+    carry(out, entries::enter(one_early(), 16, 1).store, 0, 0)?;
+    carry(out, one_high(), 0, 0)?;
+    carry(out, one_high(), 0, 1)?;
+    Ok(())
 }
 
 // Carry: BADSTORE, NODE, EDGE, NODE before EDGE.
-fn not_carried() {
-    carry(broken(), 8, 4);
-    carry(fresh(1), 4, 0);
-    carry(fresh(1), 0, 1);
-    carry(fresh(1), 3, 0);
-    carry(fresh(2), 3, 4);
+fn not_carried(out: &mut impl Write) -> io::Result<()> {
+    carry(out, broken(), 8, 4)?;
+    carry(out, fresh(1), 4, 0)?;
+    carry(out, fresh(1), 0, 1)?;
+    carry(out, fresh(1), 3, 0)?;
+    carry(out, fresh(2), 3, 4)?;
+    Ok(())
 }
 
 // The store after four starts of one key.
@@ -201,63 +216,67 @@ fn busy() -> Store {
 }
 
 // Start: the lowest idle slot, SLOTS, BADSTORE.
-fn started() {
-    let first = start(fresh(1), 33);
-    start(first, 33);
-    let all = busy();
-    start(all, 33);
-    start(searches::cancel(all, 5).store, 33);
-    start(broken(), 33);
+fn started(out: &mut impl Write) -> io::Result<()> {
+    let first = start(out, fresh(1), 33)?;
+    start(out, first, 33)?;
+    start(out, busy(), 33)?;
+    start(out, searches::cancel(busy(), 5).store, 33)?;
+    start(out, broken(), 33)?;
+    Ok(())
 }
 
 // Step: GOING, never, IDLE, SLOT, BADSTORE; plan 2's other way.
-fn stepped() {
-    let first = step(searches::start(fresh(2), 33).store, 0);
-    let second = step(first, 0);
-    step(second, 0);
-    step(second, 8);
-    step(broken(), 8);
-    step(searches::start(fresh(2), HIGH).store, 0);
+fn stepped(out: &mut impl Write) -> io::Result<()> {
+    let first = step(out, searches::start(fresh(2), 33).store, 0)?;
+    let second = step(out, first, 0)?;
+    let third = step(out, second, 0)?;
+    step(out, third, 8)?;
+    step(out, broken(), 8)?;
+    step(out, searches::start(fresh(2), HIGH).store, 0)?;
+    Ok(())
 }
 
 // Step: a withdrawn copy ends the search though a result lies below it; 0 is a real result.
-fn stepped_to_a_copy() {
-    step(searches::start(withdrawn_above(), 33).store, 0);
+fn stepped_to_a_copy(out: &mut impl Write) -> io::Result<()> {
+    step(out, searches::start(withdrawn_above(), 33).store, 0)?;
     let zero = entries::enter(fresh(1), 33, 0).store;
-    step(searches::start(zero, 33).store, 0);
+    step(out, searches::start(zero, 33).store, 0)?;
+    Ok(())
 }
 
 // Cancel: DONE, IDLE, SLOT, BADSTORE.
-fn cancelled() {
-    let first = cancel(searches::start(fresh(1), 33).store, 0);
-    cancel(first, 0);
-    cancel(first, 7);
-    cancel(first, 8);
-    cancel(broken(), 8);
+fn cancelled(out: &mut impl Write) -> io::Result<()> {
+    let first = cancel(out, searches::start(fresh(1), 33).store, 0)?;
+    let second = cancel(out, first, 0)?;
+    let third = cancel(out, second, 7)?;
+    cancel(out, third, 8)?;
+    cancel(out, broken(), 8)?;
+    Ok(())
 }
 
 // Look: never by each plan's path, withdrawn, a result, the result 0, BADSTORE.
-fn looked() {
-    look(fresh(1), 33);
-    look(fresh(2), 33);
-    look(fresh(3), 33);
-    look(withdrawn_above(), 33);
-    look(worked(), 33);
-    look(entries::enter(fresh(1), 33, 0).store, 33);
-    look(broken(), 33);
+fn looked(out: &mut impl Write) -> io::Result<()> {
+    look(out, fresh(1), 33)?;
+    look(out, fresh(2), 33)?;
+    look(out, fresh(3), 33)?;
+    look(out, withdrawn_above(), 33)?;
+    look(out, worked(), 33)?;
+    look(out, entries::enter(fresh(1), 33, 0).store, 33)?;
+    look(out, broken(), 33)
 }
 
 // The examples, in the order of the calls' numbers.
-fn main() {
-    fresh_stores();
-    entered();
-    withdrawn();
-    carried();
-    carried_by_key();
-    not_carried();
-    started();
-    stepped();
-    stepped_to_a_copy();
-    cancelled();
-    looked();
+fn main(rt: HostRuntime) -> io::Result<()> {
+    let mut out = rt.stdout();
+    fresh_stores(&mut out)?;
+    entered(&mut out)?;
+    withdrawn(&mut out)?;
+    carried(&mut out)?;
+    carried_by_key(&mut out)?;
+    not_carried(&mut out)?;
+    started(&mut out)?;
+    stepped(&mut out)?;
+    stepped_to_a_copy(&mut out)?;
+    cancelled(&mut out)?;
+    looked(&mut out)
 }

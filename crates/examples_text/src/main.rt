@@ -1,46 +1,50 @@
 // Further examples of a schedule's text: refused schedules, no bytes at all, more bytes than a program reads, and 256 steps.
-use libc::STDOUT_FILENO;
+#![tactic(auto)]
+
+use std::io;
+use std::io::Write;
 
 // Prints the text of some bytes.
-fn print(bytes: &[u8]) {
+fn print(out: &mut impl Write, bytes: &[u8]) -> io::Result<()> {
     let mut text = [0; transcript::ROOM];
     let length = transcript::transcribe(bytes, &mut text);
-    io::write_all(STDOUT_FILENO, &text[..length]);
+    out.write_all(&text[..length])
 }
 
 // CUT of no bytes and inside a step, NUMBER of a longer form and of more than 32 bits.
-fn not_read() {
-    print(b"");
+fn not_read(out: &mut impl Write) -> io::Result<()> {
+    print(out, b"")?;
     let cut = [1, 1, 33, 180];
-    print(&cut);
+    print(out, &cut)?;
     let longer = [1, 1, 33, 180, 129, 0];
-    print(&longer);
+    print(out, &longer)?;
     let above = [1, 2, 255, 255, 255, 255, 16];
-    print(&above);
+    print(out, &above)
 }
 
 // PLAN, OP after a step that is not done, MANY after 256 steps and for more than 65,536 bytes.
-fn not_decoded() {
+fn not_decoded(out: &mut impl Write) -> io::Result<()> {
     let plan = [0];
-    print(&plan);
+    print(out, &plan)?;
     let op = [1, 2, 33, 7];
-    print(&op);
+    print(out, &op)?;
     let many = [2; 514];
-    print(&many);
+    print(out, &many)?;
     let beyond = [2; 65537];
-    print(&beyond);
+    print(out, &beyond)
 }
 
 // No step; 256 of them.
-fn decoded() {
+fn decoded(out: &mut impl Write) -> io::Result<()> {
     let none = [3];
-    print(&none);
+    print(out, &none)?;
     let most = [2; 513];
-    print(&most);
+    print(out, &most)
 }
 
-fn main() {
-    not_read();
-    not_decoded();
-    decoded();
+fn main(rt: HostRuntime) -> io::Result<()> {
+    let mut out = rt.stdout();
+    not_read(&mut out)?;
+    not_decoded(&mut out)?;
+    decoded(&mut out)
 }

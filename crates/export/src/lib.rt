@@ -1,5 +1,7 @@
-// The C interface (include/olipranj.h): the public calls over a store behind a pointer. A call that leaves the store as it is lends its columns
-// where they lie; a step and a load lend them to be written there.
+// What stands behind the C interface (include/olipranj.h): the public calls over a store behind a reference. A call that leaves the store as it is
+// lends its columns where they lie; a step and a load lend them to be written there. The functions for C are export_c's.
+#![tactic(auto)]
+
 ghost use Rattle.std.specs.Prelude.{◌≡◌};
 ghost use Rattle.store.specs.Workers.{LentSized, lent_store};
 ghost use Rattle.store.specs.Promises.{Checks};
@@ -14,16 +16,14 @@ use store::{Answer, Slot, Store};
 pub const LAYOUT: u32 = 1;
 
 // The library's own layout number.
-#[unsafe(no_mangle)]
-pub extern "C" fn olipranj_layout() -> u32
+pub fn olipranj_layout() -> u32
     ensures { result ≡ layout_number }
 {
     LAYOUT
 }
 
 // A fresh store of the plan, or PLAN and a fresh store of plan 1, over what stood there.
-#[unsafe(no_mangle)]
-pub extern "C" fn olipranj_fresh(into: &mut Store, plan: u32) -> Answer
+pub fn olipranj_fresh(into: &mut Store, plan: u32) -> Answer
     ensures { FreshensBehind plan result into.new }
 {
     let outcome = Store::fresh(plan);
@@ -33,8 +33,7 @@ pub extern "C" fn olipranj_fresh(into: &mut Store, plan: u32) -> Answer
 
 // One step by its number: the columns are lent where they lie, to be written there; then the clock and the slots are. An unknown number is OP
 // with a 0, after BADSTORE.
-#[unsafe(no_mangle)]
-pub extern "C" fn olipranj_step(store: &mut Store, number: u32, x: u32, y: u32) -> Answer
+pub fn olipranj_step(store: &mut Store, number: u32, x: u32, y: u32) -> Answer
     ensures { StepsBehind store.old number x y result store.new }
 {
     let done = runner::do_lent(
@@ -52,7 +51,8 @@ pub extern "C" fn olipranj_step(store: &mut Store, number: u32, x: u32, y: u32) 
         0,
     );
     store.clock = done.clock;
-    store.slots = done.slots;
+    let slots = done.slots;
+    store.slots = slots;
     done.answer
 }
 
@@ -77,8 +77,7 @@ fn good_lent<'a>(
 }
 
 // The check of all store rules alone.
-#[unsafe(no_mangle)]
-pub extern "C" fn olipranj_good(store: &Store) -> Answer
+pub fn olipranj_good(store: &Store) -> Answer
     ensures { Checks store.now result }
 {
     good_lent(
@@ -94,8 +93,7 @@ pub extern "C" fn olipranj_good(store: &Store) -> Answer
 }
 
 // A whole search at once.
-#[unsafe(no_mangle)]
-pub extern "C" fn olipranj_look(store: &Store, key: u32) -> Answer
+pub fn olipranj_look(store: &Store, key: u32) -> Answer
     ensures { Looks store.now key result }
 {
     looks::look_lent(
@@ -112,8 +110,7 @@ pub extern "C" fn olipranj_look(store: &Store, key: u32) -> Answer
 }
 
 // The store's image into the buffer.
-#[unsafe(no_mangle)]
-pub extern "C" fn olipranj_save(store: &Store, buffer: &mut [u8]) -> Answer
+pub fn olipranj_save(store: &Store, buffer: &mut [u8]) -> Answer
     ensures { Saves store.now buffer.old result buffer.new }
 {
     image::save_lent(
@@ -130,8 +127,7 @@ pub extern "C" fn olipranj_save(store: &Store, buffer: &mut [u8]) -> Answer
 }
 
 // The store of an image, or the first fault and a fresh store of plan 1, over what stood there.
-#[unsafe(no_mangle)]
-pub extern "C" fn olipranj_load(into: &mut Store, bytes: &[u8]) -> Answer
+pub fn olipranj_load(into: &mut Store, bytes: &[u8]) -> Answer
     ensures { LoadsBehind bytes.now result into.new }
 {
     let loaded = image::load_lent(
@@ -144,13 +140,13 @@ pub extern "C" fn olipranj_load(into: &mut Store, bytes: &[u8]) -> Answer
     );
     into.plan = loaded.plan;
     into.clock = loaded.clock;
-    into.slots = loaded.slots;
+    let slots = loaded.slots;
+    into.slots = slots;
     loaded.answer
 }
 
 // The page of a sample into the buffer.
-#[unsafe(no_mangle)]
-pub extern "C" fn olipranj_page(store: &Store, sample: u32, buffer: &mut [u8]) -> Answer
+pub fn olipranj_page(store: &Store, sample: u32, buffer: &mut [u8]) -> Answer
     ensures { Pages store.now sample buffer.old result buffer.new }
 {
     page::page_lent(
@@ -168,8 +164,7 @@ pub extern "C" fn olipranj_page(store: &Store, sample: u32, buffer: &mut [u8]) -
 }
 
 // How many bytes of the kept page to show; none: the notice is due.
-#[unsafe(no_mangle)]
-pub extern "C" fn olipranj_serve(store: &Store, sample: u32, kept: &[u8]) -> usize
+pub fn olipranj_serve(store: &Store, sample: u32, kept: &[u8]) -> usize
     ensures { ServesLength store.now sample kept.now result }
 {
     page::served_length_lent(

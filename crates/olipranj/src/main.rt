@@ -1,7 +1,16 @@
 // Prints the text of the schedule on standard input. Document 01, "A schedule in full".
+#![tactic(auto)]
+
+ghost use Rattle.std.specs.Prelude.{◌≡◌, ◌<◌, length, take, IsFalse, OnOk, IfErr};
+ghost use Rattle.std.specs.Io.KnownBytes.{Consumes, IsAtEnd, Keeps};
+ghost use Rattle.olipranj.specs.Printing.{PrintsFirst};
 ghost use Rattle.io.specs.Counts.{IsPrefixLen};
 
-use libc::{STDERR_FILENO, STDIN_FILENO, STDOUT_FILENO};
+use std::io::{Read, Write};
+use std::process::ExitCode;
+
+// "The program reads a schedule on standard input, its first 65,536 bytes".
+const MOST: usize = 65536;
 
 // How many bytes were read, and whether a read failed before the input's end or the buffer's.
 #[derive(Clone, Copy)]
@@ -10,21 +19,29 @@ struct Input {
     failed: bool,
 }
 
-// Reads standard input into the buffer. A read of no bytes is the end of the input; a read that fails is not.
-fn read_input(buffer: &mut [u8]) -> Input
-    ensures { IsPrefixLen result.length buffer.new }
+// Reads the input into the buffer. A read of no bytes is the end of the input; a read that fails is not.
+fn read_input<R: Read>(input: &mut R, buffer: &mut [u8]) -> Input
+    ensures within { IsPrefixLen result.length buffer.new }
+    ensures bytes { Consumes (R.remaining input.old) (R.remaining input.new) (take result.length buffer.new) }
+    ensures whole { IsFalse result.failed → result.length < length buffer.new → IsAtEnd (R.remaining input.new) }
 {
     let mut n = 0;
     while n < buffer.len() {
-        let got = libc::read(STDIN_FILENO, &mut buffer[n..]);
-        let more = io::count(got, &buffer[n..]);
-        if more == 0 {
-            return Input {
-                length: n,
-                failed: got < 0,
-            };
+        match input.read(&mut buffer[n..]) {
+            Ok(0) => {
+                return Input {
+                    length: n,
+                    failed: false,
+                };
+            }
+            Ok(more) => n += more,
+            Err(_) => {
+                return Input {
+                    length: n,
+                    failed: true,
+                };
+            }
         }
-        n += more;
     }
     Input {
         length: n,
@@ -32,19 +49,42 @@ fn read_input(buffer: &mut [u8]) -> Input
     }
 }
 
-// "The program reads a schedule on standard input, its first 65,536 bytes". Where the text cannot be written, there is nobody to tell.
-fn main() {
-    let mut input = io::large_buffer();
-    let read = read_input(&mut input);
+// Why a run ended before the whole text was written.
+#[derive(Clone, Copy)]
+enum Fault {
+    Unread,
+    Unwritten,
+}
+
+// Writes the text of the input's first bytes; of an input that cannot be read, nothing.
+fn print_text<R: Read, W: Write>(input: &mut R, out: &mut W) -> Result<(), Fault>
+    ensures text { OnOk result (PrintsFirst (R.remaining input.old) (W.contents out.old) (W.contents out.new)) }
+    ensures unread { IfErr result (λ fault. fault ≡ Fault.Unread → Keeps (W.contents out.old) (W.contents out.new)) }
+{
+    let mut bytes = [0; MOST];
+    let read = read_input(input, &mut bytes);
     if read.failed {
-        io::write_all(
-            STDERR_FILENO,
-            b"olipranj: standard input could not be read\n",
-        );
-        return;
+        return Err(Fault::Unread);
     }
     let length = read.length;
     let mut text = [0; transcript::ROOM];
-    let written = transcript::transcribe(&input[..length], &mut text);
-    io::write_all(STDOUT_FILENO, &text[..written]);
+    let written = transcript::transcribe(&bytes[..length], &mut text);
+    match out.write_all(&text[..written]) {
+        Ok(()) => Ok(()),
+        Err(_) => Err(Fault::Unwritten),
+    }
+}
+
+// Status 1: the input could not be read, which standard error says too, or the text could not be written.
+fn main(rt: HostRuntime) -> ExitCode {
+    match print_text(&mut rt.stdin(), &mut rt.stdout()) {
+        Ok(()) => ExitCode::SUCCESS,
+        Err(Fault::Unread) => {
+            let _ = rt
+                .stderr()
+                .write_all(b"olipranj: standard input could not be read\n");
+            ExitCode::FAILURE
+        }
+        Err(Fault::Unwritten) => ExitCode::FAILURE,
+    }
 }

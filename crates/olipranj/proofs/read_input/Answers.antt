@@ -1,0 +1,31 @@
+-- What one more read put behind the bytes before it.
+use Rattle.std.proofs.Common.{◌≡◌, ℕ, ◌+◌, ◌-◌, ◌≤◌, List, ◌++◌, rules, arith, length, take, slice_range, sym, ap, ◌∙◌, subst, le_refl, drop_at, length-take-le}
+use Rattle.std.proofs.lemmas.Slice.{take-put_mid_below}
+use Rattle.std.specs.Io.KnownBytes.{Consumes}
+use Rattle.std.proofs.KnownBytes.{Consumes-trans}
+use borrow.Rule.Slice.PartMut.{put_mid, post_of}
+use lib.Seq.{take-add, take-append-le}
+use Rattle.olipranj.proofs.read_input.Goals as goal
+
+-- The first b are the first a and those from a to b.
+take_split : (a b : ℕ) (old new : List ℕ) → a ≤ b → take a new ≡ take a old → take a old ++ slice_range new a b ≡ take b new
+take_split a b old new h front =
+    let same : a + (b - a) ≡ b = omega arith in
+    ap (λ l. l ++ slice_range new a b) (sym front) ∙ sym (take-add a (b - a) new) ∙ ap (λ n. take n new) same
+
+-- Where a part is put back, the part's first n stand there.
+put_part : (a k n : ℕ) (xs ys : List ℕ) → a ≤ length xs → n ≤ length ys → slice_range (put_mid a k xs ys) a (a + n) ≡ take n ys
+put_part a k n xs ys within fits =
+    let same : (a + n) - a ≡ n = omega arith in
+    let after = post_of a k xs in
+    ap (take ((a + n) - a)) (drop_at (take a xs) (ys ++ after) a (length-take-le a xs within)) ∙ ap (λ m. take m (ys ++ after)) same ∙ take-append-le n ys after fits
+
+pub loop-n-preserved : goal.loop-n-preserved
+loop-n-preserved g c =
+    let n = c.loop-n.n in
+    let more = c.in-Ok.more in
+    let room = length c.loop-n.buffer - n in
+    let within = c.loop-n.invariant.0 in
+    let part = put_part n room more c.loop-n.buffer c.read.new.buf within c.in-Ok.ensures.bound.0 in
+    let joined = take_split n (n + more) c.loop-n.buffer (put_mid n room c.loop-n.buffer c.read.new.buf) (omega arith) (take-put_mid_below _ _ _ _ _ (le_refl _) within) in
+    (search rules, subst (Consumes _ _) (ap (λ l. take n c.loop-n.buffer ++ l) (sym part) ∙ joined) (Consumes-trans _ _ _ _ _ c.loop-n.invariant.1 c.in-Ok.ensures.bytes.0))
