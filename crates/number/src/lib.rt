@@ -1,4 +1,6 @@
 // Numbers as bytes: groups of seven bits, lowest first, one per byte, the top bit set while more follow.
+#![tactic(auto)]
+
 ghost use Rattle.std.specs.Prelude.{◌≡◌, ◌+◌, ◌≤◌, ◌<◌, length};
 ghost use Rattle.lists.specs.Stands.{Wrote};
 ghost use Rattle.number.specs.Number.{narrow, form, read_at};

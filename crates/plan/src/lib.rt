@@ -1,4 +1,6 @@
 // Plans: their edges, next steps and sizes, and the readers of a plan's rows. Document 01, "Lines, copies, plans".
+#![tactic(auto)]
+
 pub mod arrays; // arrays.rt: a plan's rows, lent
 
 // "2 to 8 nodes", "capacity 1 to 64", "up to four edges".

@@ -18,7 +18,7 @@ pub struct StepRead {
 }
 
 // A decoded schedule by value: the answer, the number of steps and their records; a refused one has none.
-#[derive(Drop)]
+#[derive(Clone, Copy)]
 pub struct Decoded {
     pub answer: Answer,
     pub count: usize,

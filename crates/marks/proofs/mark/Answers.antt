@@ -3,7 +3,6 @@ use mathlib.Core.Path.{refl}
 use Prim.Native.Nat.{◌%◌, ◌<◌}
 use native.Mathlib.Omega.{arith}
 use native.Mathlib.Nat.{mod-lt}
-use borrow.Author.Rules.{rules}
 use Rattle.marks.specs.Marks.{bit_of, bit_set, has_mark, with_mark}
 use Rattle.marks.proofs.Bits.{one_shifted}
 use Rattle.marks.proofs.mark.Goals as goal

@@ -1,6 +1,6 @@
 -- `number::length_of` meets its contract. The loop keeps `Counting`; its measure is the rest.
 use borrow.Author.Rules.{rules}
-use Rattle.number.proofs.Writer.{Counting, count_starts, count_turns, count_ends}
+use Rattle.number.proofs.Writer.{count_starts, count_turns, count_ends}
 use Rattle.number.proofs.length_of.Goals as goal
 
 pub loop-rest-init : goal.loop-rest-init

@@ -1,6 +1,5 @@
 -- `number::length_of` meets its contract. The loop keeps `Counting`; its measure is the rest.
-use borrow.Author.Rules.{rules}
-use Rattle.number.proofs.Writer.{Counting, count_starts, count_turns, count_ends}
+use Rattle.number.proofs.Writer.{Counting}
 use Rattle.number.proofs.length_of.Given as goal
 
 abbrev pub invariant-loop-rest : goal.invariant-loop-rest

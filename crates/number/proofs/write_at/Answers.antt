@@ -1,6 +1,6 @@
 -- `number::write_at` meets its contract. The loop keeps `Writing`; its measure is the rest.
 use borrow.Author.Rules.{rules}
-use Rattle.number.proofs.Writer.{Writing, write_starts, write_room, write_turns, write_ends}
+use Rattle.number.proofs.Writer.{write_starts, write_room, write_turns, write_ends}
 use Rattle.number.proofs.write_at.Goals as goal
 
 pub loop-rest-init : goal.loop-rest-init

@@ -1,6 +1,5 @@
 -- `number::write_at` meets its contract. The loop keeps `Writing`; its measure is the rest.
-use borrow.Author.Rules.{rules}
-use Rattle.number.proofs.Writer.{Writing, write_starts, write_room, write_turns, write_ends}
+use Rattle.number.proofs.Writer.{Writing}
 use Rattle.number.proofs.write_at.Given as goal
 
 abbrev pub invariant-loop-rest : goal.invariant-loop-rest

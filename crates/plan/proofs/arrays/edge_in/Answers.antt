@@ -2,7 +2,6 @@
 use mathlib.Core.Path.{sym}
 use native.Mathlib.Omega.{arith}
 use Rattle.plan.proofs.ArrayLaws.{counted_within, edge_is, edge_past}
-use borrow.Author.Rules.{rules}
 use Rattle.plan.proofs.arrays.edge_in.Goals as goal
 
 pub returns-then-edge_count_in-edge : goal.returns-then-edge_count_in-edge

@@ -1,17 +1,10 @@
 -- `plan::arrays::next_in` meets its contract. The loop's invariant: what is left of the edges gives the key's next step. The measure is their number.
-use mathlib.Core.Path.{◌≡◌, sym, ◌∙◌}
-use mathlib.Core.Logic.{⊎_elim}
-use Prim.Native.Nat.{ℕ, ◌-◌, ◌≤◌}
-use native.Mathlib.Omega.{arith}
-use borrow.Author.Tests.{leb-true, leb-false}
+use mathlib.Core.Path.{◌≡◌}
+use Prim.Native.Nat.{◌-◌, ◌≤◌}
 use Rattle.lists.specs.Indexed.{tabulate}
-use Rattle.plan.specs.declared.Edge.{Edge}
 use Rattle.plan.specs.Sizes.{most_edges}
 use Rattle.plan.specs.Plan.{first_edge}
 use Rattle.plan.specs.PlanArrays.{edge_in, edge_count_in, edges_in}
-use Rattle.plan.proofs.NextLaws.{below_lowest, above_highest}
-use Rattle.plan.proofs.ArrayLaws.{counted_within, looks_from, looked, found, looks_on}
-use borrow.Author.Rules.{rules}
 use Rattle.plan.proofs.arrays.next_in.Given as goal
 
 abbrev pub invariant-loop-e : goal.invariant-loop-e
