@@ -1,4 +1,6 @@
 // Carry: a node's copies move to a child. Document 01, "What each step does".
+#![tactic(auto)]
+
 ghost use Rattle.std.specs.Prelude.{◌≡◌, ◌<◌, length, set};
 ghost use Rattle.plan.specs.Sizes.{most_nodes};
 ghost use Rattle.steps.specs.Promises.{Carries};

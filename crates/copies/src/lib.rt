@@ -1,4 +1,6 @@
 // A copy's bytes: how many they are, writing them and reading them. Document 01, "Bytes".
+#![tactic(auto)]
+
 ghost use Rattle.std.specs.Prelude.{◌≡◌, length};
 ghost use Rattle.store.specs.Copies.{copy};
 ghost use Rattle.wire.specs.Reading.{fault, num_of};

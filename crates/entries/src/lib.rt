@@ -1,4 +1,6 @@
 // Enter and withdraw. Document 01, "What each step does": "an entry either way".
+#![tactic(auto)]
+
 ghost use Rattle.std.specs.Prelude.{◌≡◌};
 ghost use Rattle.steps.specs.Promises.{entry_numbered, Enters, Withdraws};
 ghost use Rattle.store.specs.Answers.{bare};

@@ -1,4 +1,6 @@
 // Reading an image from the left: its head, and its nodes into lent columns. The first fault wins.
+#![tactic(auto)]
+
 ghost use Rattle.std.specs.Prelude.{◌≡◌, false, ◌-◌, ◌*◌, ◌≤◌, ◌<◌, length};
 ghost use Rattle.plan.specs.Sizes.{most_nodes};
 ghost use Rattle.store.specs.Layout.{width, places};

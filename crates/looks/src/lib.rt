@@ -1,4 +1,6 @@
 // Look: a whole search at once, down one line's path. Document 01, "What each step does".
+#![tactic(auto)]
+
 ghost use Rattle.std.specs.Prelude.{◌≡◌, ℕ};
 ghost use Rattle.std.proofs.Math.Option.{none, some};
 ghost use Rattle.store.specs.Workers.{LentSized, LentLookable, lent_store};

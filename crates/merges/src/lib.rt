@@ -1,5 +1,7 @@
 // Which copies a carry moves, by the keys alone: the places whose copies stay in the node, and those whose copies the target then has.
 // The two nodes are walked through once, side by side, by rising key.
+#![tactic(auto)]
+
 ghost use Rattle.std.specs.Prelude.{◌≡◌, ◌+◌, ◌-◌, ◌<◌, ◌≤◌, length, set, take};
 ghost use Rattle.plan.specs.Plan.{holds as heldBy};
 ghost use Rattle.store.specs.Layout.{width, places};

@@ -1,4 +1,6 @@
 // A column after a carry, written in place by the two lists of places: those that stay in the node, and those that the target gets.
+#![tactic(auto)]
+
 ghost use Rattle.std.specs.Prelude.{◌≡◌, ◌-◌, ◌≤◌, length, replicate};
 ghost use Rattle.std.proofs.lemmas.List.Edits.{sets};
 ghost use Rattle.store.specs.Layout.{places};

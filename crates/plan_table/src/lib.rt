@@ -1,4 +1,6 @@
 // The fixed table of plans, and what it says of a plan by its number. Document 01, "Lines, copies, plans".
+#![tactic(auto)]
+
 ghost use Rattle.std.specs.Prelude.{◌≡◌};
 ghost use Rattle.plan.specs.Plan.{size};
 ghost use Rattle.plan.specs.PlanArrays.{capacities_row, counts_row, grid_of};

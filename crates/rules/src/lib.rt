@@ -1,4 +1,6 @@
 // The check of all store rules, on lent columns. Document 01, "Store rules". Its three parts are crates of their own.
+#![tactic(auto)]
+
 ghost use Rattle.std.specs.Prelude.{◌≡◌};
 ghost use Rattle.store.specs.StoreRules.{good_store};
 ghost use Rattle.store.specs.Workers.{LentSized, lent_store};

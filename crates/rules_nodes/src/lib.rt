@@ -1,4 +1,6 @@
 // The rules of a node's own numbers, on lent columns: its count, its used places and the others.
+#![tactic(auto)]
+
 ghost use Rattle.std.specs.Prelude.{◌≡◌, ◌<◌, ◌≤◌};
 ghost use Rattle.plan.specs.Sizes.{most_nodes};
 ghost use Rattle.store.specs.Layout.{places};

@@ -1,4 +1,6 @@
 // The rules of paths: of the search slots and of the copies. Document 01, "Store rules".
+#![tactic(auto)]
+
 ghost use Rattle.std.specs.Prelude.{◌≡◌};
 ghost use Rattle.plan.specs.PlanArrays.{EachPlan};
 ghost use Rattle.store.specs.Workers.{LentLookable};

@@ -1,6 +1,8 @@
 // Searches: start, step, cancel. Document 01, "What each step does".
 // They alter nothing of a store but its slots. The check and the work are done on its columns, lent where they lie. Each has one way out, so
 // that the slots, and the store of a call by value, are moved into the outcome once.
+#![tactic(auto)]
+
 ghost use Rattle.store.specs.Workers.{LentSized, lent_store};
 ghost use Rattle.steps.specs.Promises.{Starts, Steps, Cancels};
 ghost use Rattle.searches.specs.Workers.{StartMoves, StepMoves, CancelMoves};

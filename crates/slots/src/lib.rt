@@ -1,4 +1,6 @@
 // What start, step and cancel decide: an answer, and what one search slot holds after it. Document 01, "What each step does".
+#![tactic(auto)]
+
 ghost use Rattle.std.specs.Prelude.{◌≡◌, ◌<◌};
 ghost use Rattle.store.specs.State.{slot_count, idle};
 ghost use Rattle.steps.specs.Searches.{running, start_step, cancel_step};

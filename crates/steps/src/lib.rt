@@ -1,1 +1,3 @@
+#![tactic(auto)]
+
 // What each step does to a state, and its laws: definitions and theorems, no code.

@@ -1,4 +1,6 @@
 // The store: its data, its sizes, the answers, and the making of a fresh store. Document 01, "Lines, copies, plans".
+#![tactic(auto)]
+
 ghost use Rattle.std.specs.Prelude.{◌≡◌, replicate};
 ghost use Rattle.store.specs.Answers.{answer, bare};
 ghost use Rattle.store.specs.Copies.{has_value};

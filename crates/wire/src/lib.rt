@@ -1,4 +1,6 @@
 // Numbers read one after another, where the first fault wins. What a lent buffer holds after a call is defined in specs/Writing.antt.
+#![tactic(auto)]
+
 ghost use Rattle.std.specs.Prelude.{◌≡◌};
 ghost use Rattle.number.specs.Number.{narrow};
 ghost use Rattle.wire.specs.Reading.{number_at, num_of};

@@ -1,5 +1,4 @@
 -- `carries::carry_lent` meets its contract.
-use borrow.Author.Rules.{rules}
 use Rattle.carries.proofs.Carrying.{kept_long, got_long, settled_out}
 use Rattle.carries.proofs.carry_lent.Goals as goal
 use Rattle.carries.proofs.carry_lent.Goals.{After-settle_lent-s, Start}

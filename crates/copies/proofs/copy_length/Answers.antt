@@ -3,7 +3,6 @@ use native.Mathlib.Omega.{arith}
 use Rattle.number.proofs.Forms.{form-length}
 use Rattle.store.specs.Copies.{copy}
 use Rattle.copies.proofs.CopyLengths.{value_short, copy-length}
-use borrow.Author.Rules.{rules}
 use Rattle.copies.proofs.copy_length.Goals as goal
 
 pub overflow_add-result : goal.overflow_add-result

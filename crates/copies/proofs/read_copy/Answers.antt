@@ -4,7 +4,6 @@ use borrow.Author.Tests.{not-true, not-false}
 use Rattle.wire.proofs.Chains.{num_got, num_fault}
 use Rattle.copies.specs.CopyBytes.{copy_read_of}
 use Rattle.copies.proofs.CopyReading.{copy_no_key, copy_no_kind, copy_bad_kind, copy_no_value, copy_no_stamp, copy_whole}
-use borrow.Author.Rules.{rules}
 use Rattle.copies.proofs.read_copy.Goals as goal
 
 pub returns-then-not-key : goal.returns-then-not-key

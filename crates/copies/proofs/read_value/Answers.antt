@@ -2,7 +2,6 @@
 use mathlib.Core.Path.{sym, ◌∙◌}
 use Rattle.wire.specs.Reading.{num_of}
 use Rattle.copies.proofs.CopyReading.{value_read, value_none}
-use borrow.Author.Rules.{rules}
 use Rattle.copies.proofs.read_value.Goals as goal
 
 pub returns-then-has_value : goal.returns-then-has_value

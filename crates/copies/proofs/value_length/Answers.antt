@@ -2,7 +2,6 @@
 use mathlib.Core.Path.{sym, ap, ◌∙◌}
 use lib.ListN.{length}
 use Rattle.copies.proofs.CopyLengths.{value_written, value_left_out}
-use borrow.Author.Rules.{rules}
 use Rattle.copies.proofs.value_length.Goals as goal
 
 pub returns-then-has_value : goal.returns-then-has_value

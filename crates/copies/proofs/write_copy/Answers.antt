@@ -1,7 +1,6 @@
 -- `copies::write_copy` meets its contract.
 use Rattle.store.specs.Copies.{copy}
 use Rattle.copies.proofs.CopyWriting.{key_fits, kind_fits, value_part_fits, stamp_fits, wrote_copy}
-use borrow.Author.Rules.{rules}
 use Rattle.copies.proofs.write_copy.Goals as goal
 
 pub write_at-after_key-requires : goal.write_at-after_key-requires

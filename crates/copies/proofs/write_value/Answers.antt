@@ -1,7 +1,6 @@
 -- `copies::write_value` meets its contract.
 use mathlib.Core.Path.{sym, ◌∙◌}
 use Rattle.copies.proofs.CopyWriting.{value_fits, wrote_value, wrote_no_value}
-use borrow.Author.Rules.{rules}
 use Rattle.copies.proofs.write_value.Goals as goal
 
 pub write_at-requires : goal.write_at-requires

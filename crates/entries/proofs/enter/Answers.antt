@@ -1,7 +1,6 @@
 -- `entries::enter` meets its contract.
 use mathlib.Core.Path.{refl}
 use Rattle.entries.proofs.Entering.{enters_held}
-use borrow.Author.Rules.{rules}
 use Rattle.entries.proofs.enter.Goals as goal
 
 pub returns : goal.returns

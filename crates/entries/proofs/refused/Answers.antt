@@ -1,6 +1,5 @@
 -- `entries::refused` meets its contract.
 use mathlib.Core.Path.{ap}
-use borrow.Author.Rules.{rules}
 use Rattle.store.specs.declared.Answer.{Answer}
 use Rattle.entries.proofs.refused.Goals as goal
 

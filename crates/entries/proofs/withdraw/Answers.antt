@@ -1,7 +1,6 @@
 -- `entries::withdraw` meets its contract.
 use native.Mathlib.Omega.{arith}
 use Rattle.entries.proofs.Entering.{withdraws_held}
-use borrow.Author.Rules.{rules}
 use Rattle.entries.proofs.withdraw.Goals as goal
 
 pub returns : goal.returns

@@ -1,9 +1,5 @@
 -- `image_reading::read_copies` meets its contract.
-use Prim.Native.Nat.{◌-◌, ◌≤◌}
 use borrow.Author.Tests.{not-true, not-false}
-use Rattle.wire.specs.declared.Num.{Num}
-use Rattle.image_reading.specs.ImageReading.{read_copies}
-use Rattle.image_reading.specs.Workers.{Columns, columns, no_number, Lays}
 use Rattle.copies.proofs.CopyReading.{copy_got, copy_fault}
 use Rattle.image_reading.proofs.ReadWays.{lays_end, lays_fault, lays_turn}
 use borrow.Author.Rules.{rules}

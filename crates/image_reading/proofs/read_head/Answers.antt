@@ -3,7 +3,6 @@ use mathlib.Core.Path.{sym, ◌∙◌}
 use borrow.Author.Tests.{not-true, not-false}
 use Rattle.wire.proofs.Chains.{num_got, num_fault}
 use Rattle.image_reading.proofs.HeadWays.{head_stops, no_format, bad_format, no_plan, bad_plan, no_clock, bad_clock, head_goes}
-use borrow.Author.Rules.{rules}
 use Rattle.image_reading.proofs.read_head.Goals as goal
 
 pub returns-then-not-format : goal.returns-then-not-format

@@ -2,7 +2,6 @@
 use borrow.Author.Tests.{not-true, not-false}
 use Rattle.wire.proofs.Chains.{num_got}
 use Rattle.image_reading.proofs.NodeWays.{node_no_count, node_over, node_stops, node_whole}
-use borrow.Author.Rules.{rules}
 use Rattle.image_reading.proofs.read_node.Goals as goal
 
 pub returns-then-not-count : goal.returns-then-not-count

@@ -1,15 +1,11 @@
 -- `image_reading::read_nodes` meets its contract.
-use mathlib.Core.Path.{◌≡◌}
-use Prim.Native.Nat.{◌-◌, ◌<◌, ◌≤◌}
+use Prim.Native.Nat.{◌<◌, ◌≤◌}
 use native.Mathlib.Omega.{arith}
 use borrow.Author.Tests.{not-true, not-false}
-use Rattle.plan.specs.Plan.{Plan, size}
-use Rattle.plan.specs.PlanArrays.{capacities_row}
 use Rattle.plan.specs.Sizes.{most_nodes}
 use Rattle.store.specs.Layout.{width}
-use Rattle.image_reading.specs.Workers.{columns}
 use Rattle.store.proofs.Widths.{at_fits}
-use Rattle.image_reading.proofs.NodeWays.{capacity_here, Sofar, sofar_none, sofar_end, sofar_stops, sofar_turn}
+use Rattle.image_reading.proofs.NodeWays.{capacity_here, sofar_none, sofar_end, sofar_stops, sofar_turn}
 use borrow.Author.Rules.{rules}
 use Rattle.image_reading.proofs.read_nodes.Goals as goal
 use Rattle.image_reading.proofs.read_nodes.Goals.{Else-not-read}

@@ -1,7 +1,6 @@
 -- `looks::held` meets its contract.
 use mathlib.Core.Path.{◌∙◌}
 use Rattle.looks.proofs.Descending.{held-answer}
-use borrow.Author.Rules.{rules}
 use Rattle.looks.proofs.held.Goals as goal
 
 pub returns : goal.returns

@@ -1,11 +1,10 @@
 -- `looks::look_down` meets its contract. The loop's invariant: the look that goes on from the node is the whole look. Nodes have rising
 -- numbers, so the measure is how many are left.
-use Prim.Native.Nat.{◌-◌, ◌<◌, ◌≤◌}
+use Prim.Native.Nat.{◌<◌}
 use native.Mathlib.Omega.{arith}
 use Rattle.plan.specs.Sizes.{most_nodes}
 use Rattle.plan.proofs.RowsLent.{own_count}
-use Rattle.looks.proofs.Descending.{Looking, looking_starts, looking_held, looking_never, looking_on, looking_down}
-use borrow.Author.Rules.{rules}
+use Rattle.looks.proofs.Descending.{looking_starts, looking_held, looking_never, looking_on, looking_down}
 use Rattle.looks.proofs.look_down.Goals as goal
 use Rattle.looks.proofs.look_down.Goals.{At-loop-copy}
 

@@ -1,7 +1,6 @@
 -- `looks::look_lent` meets its contract.
 use mathlib.Core.Path.{◌≡◌, refl, sym, ◌∙◌}
 use mathlib.Core.Bool.{true, false}
-use borrow.Author.Tests.{not-true, not-false}
 use Rattle.plan.specs.Plan.{size}
 use Rattle.plan.specs.PlanArrays.{RowsOf}
 use Rattle.plan.proofs.RowsLent.{own_count}
@@ -13,7 +12,6 @@ use Rattle.store.proofs.WhichPlan.{rows_known}
 use Rattle.store.proofs.Lifting.{plan_good}
 use Rattle.store.proofs.GoodNodes.{good_lookable}
 use Rattle.looks.proofs.Descending.{look_lent, look_refused}
-use borrow.Author.Rules.{rules}
 use Rattle.looks.proofs.look_lent.Goals as goal
 use Rattle.looks.proofs.look_lent.Goals.{After-targets_of-targets, Else-not-good, Start, Then-not-good}
 

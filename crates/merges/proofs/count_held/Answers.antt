@@ -1,14 +1,10 @@
 -- `merges::count_held` meets its contract.
-use mathlib.Core.Path.{◌≡◌, sym, ◌∙◌}
-use mathlib.Core.Logic.{⊎_elim}
-use Prim.Native.Nat.{◌+◌, ◌-◌, ◌<◌, ◌≤◌}
+use mathlib.Core.Path.{sym, ◌∙◌}
+use Prim.Native.Nat.{◌<◌}
 use native.Mathlib.Omega.{arith}
-use lib.ListN.{take}
-use lib.Seq.{slice}
 use borrow.Author.Rules.{rules}
 use Rattle.store.specs.Layout.{places}
 use Rattle.store.specs.Workers.{number_in}
-use Rattle.steps.specs.Carries.{count_held}
 use Rattle.merges.proofs.Deciding.{first_within, count_one, count_none, count_end}
 use Rattle.merges.proofs.count_held.Goals as goal
 use Rattle.merges.proofs.count_held.Goals.{After-place-1, else-holds, then-holds}

@@ -1,10 +1,7 @@
 -- `merges::decide` meets its contract.
-use mathlib.Core.Path.{◌≡◌, ◌∙◌}
+use mathlib.Core.Path.{◌≡◌}
 use Prim.Native.Nat.{◌+◌, ◌-◌}
-use native.Mathlib.Omega.{arith}
-use borrow.Author.Rules.{rules}
 use Rattle.merges.specs.Decisions.{places_merged, outcome, Going}
-use Rattle.merges.proofs.Deciding.{start_going, start_outcome_lem, decided}
 use Rattle.merges.proofs.decide.Given as goal
 
 abbrev pub invariant-loop-m : goal.invariant-loop-m

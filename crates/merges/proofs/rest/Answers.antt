@@ -1,12 +1,8 @@
 -- `merges::rest` meets its contract.
-use mathlib.Core.Path.{◌≡◌, refl, ap, ◌∙◌}
-use Prim.Native.Nat.{◌+◌, ◌-◌, ◌≤◌}
+use mathlib.Core.Path.{refl, ap, ◌∙◌}
 use native.Mathlib.Omega.{arith}
-use lib.ListN.{length}
 use borrow.Author.Rules.{rules}
-use Rattle.store.specs.Layout.{width}
 use Rattle.merges.specs.declared.Merge.{Merge}
-use Rattle.merges.specs.Decisions.{standing}
 use Rattle.merges.proofs.Deciding.{rest_turn, rest_end}
 use Rattle.merges.proofs.rest.Goals as goal
 

@@ -1,13 +1,9 @@
 -- `merges::rest` meets its contract.
-use mathlib.Core.Path.{◌≡◌, refl, ap, ◌∙◌}
+use mathlib.Core.Path.{◌≡◌}
 use Prim.Native.Nat.{◌+◌, ◌-◌, ◌≤◌}
-use native.Mathlib.Omega.{arith}
 use lib.ListN.{length}
-use borrow.Author.Rules.{rules}
 use Rattle.store.specs.Layout.{width}
-use Rattle.merges.specs.declared.Merge.{Merge}
 use Rattle.merges.specs.Decisions.{standing}
-use Rattle.merges.proofs.Deciding.{rest_turn, rest_end}
 use Rattle.merges.proofs.rest.Given as goal
 
 abbrev pub invariant-loop-m : goal.invariant-loop-m

@@ -1,10 +1,7 @@
 -- `merges::turn` meets its contract.
 use mathlib.Core.Path.{◌≡◌, sym, ◌∙◌}
-use mathlib.Core.Logic.{⊎_elim}
 use Prim.Native.Nat.{◌<◌, ◌≤◌}
 use native.Mathlib.Omega.{arith}
-use borrow.Author.Rules.{rules}
-use borrow.Author.Tests.{not-true, not-false, ltb-true, ltb-false, eqb-true, eqb-false}
 use Rattle.store.specs.Workers.{number_in}
 use Rattle.merges.proofs.Turning.{own_first, replaces, adds, stays_outside, stays_full}
 use Rattle.merges.proofs.turn.Goals as goal

@@ -1,6 +1,5 @@
 -- `moves::carry_column` meets its contract.
 use native.Mathlib.Omega.{arith}
-use borrow.Author.Rules.{rules}
 use Rattle.store.specs.Layout.{places}
 use Rattle.moves.proofs.Gathering.{long_after, column-carried}
 use Rattle.moves.proofs.carry_column.Goals as goal

@@ -1,11 +1,7 @@
 -- `moves::clear` meets its contract.
-use mathlib.Core.Path.{◌≡◌, refl, ◌∙◌}
-use Prim.Native.Nat.{◌-◌, ◌≤◌}
+use mathlib.Core.Path.{refl, ◌∙◌}
 use native.Mathlib.Omega.{arith}
-use lib.ListN.{replicate}
-use lib.Seq.{sets}
 use borrow.Author.Rules.{rules}
-use Rattle.store.specs.Layout.{places}
 use Rattle.moves.proofs.Gathering.{clear_turn, clear_end}
 use Rattle.moves.proofs.clear.Goals as goal
 

@@ -1,12 +1,9 @@
 -- `moves::clear` meets its contract.
-use mathlib.Core.Path.{◌≡◌, refl, ◌∙◌}
+use mathlib.Core.Path.{◌≡◌}
 use Prim.Native.Nat.{◌-◌, ◌≤◌}
-use native.Mathlib.Omega.{arith}
 use lib.ListN.{replicate}
 use lib.Seq.{sets}
-use borrow.Author.Rules.{rules}
 use Rattle.store.specs.Layout.{places}
-use Rattle.moves.proofs.Gathering.{clear_turn, clear_end}
 use Rattle.moves.proofs.clear.Given as goal
 
 abbrev pub invariant-loop-i : goal.invariant-loop-i

@@ -1,9 +1,8 @@
 -- `moves::gather_back` meets its contract.
 use mathlib.Core.Path.{◌≡◌, refl, ap, ◌∙◌}
 use mathlib.Core.List.{List}
-use Prim.Native.Nat.{ℕ, ◌+◌, ◌-◌, ◌<◌, ◌≤◌}
+use Prim.Native.Nat.{ℕ, ◌-◌, ◌<◌}
 use native.Mathlib.Omega.{arith}
-use lib.ListN.{length, take}
 use lib.Seq.{sets, take-length}
 use borrow.Author.Rules.{rules}
 use Rattle.store.specs.Layout.{places}

@@ -1,15 +1,11 @@
 -- `moves::gather_back` meets its contract.
-use mathlib.Core.Path.{◌≡◌, refl, ap, ◌∙◌}
-use mathlib.Core.List.{List}
-use Prim.Native.Nat.{ℕ, ◌+◌, ◌-◌, ◌<◌, ◌≤◌}
-use native.Mathlib.Omega.{arith}
+use mathlib.Core.Path.{◌≡◌}
+use Prim.Native.Nat.{ℕ, ◌+◌, ◌<◌, ◌≤◌}
 use lib.ListN.{length, take}
-use lib.Seq.{sets, take-length}
-use borrow.Author.Rules.{rules}
+use lib.Seq.{sets}
 use Rattle.store.specs.Layout.{places}
 use Rattle.store.specs.Workers.{number_in}
 use Rattle.moves.specs.Writings.{gather}
-use Rattle.moves.proofs.Gathering.{back_turn}
 use Rattle.moves.proofs.gather_back.Given as goal
 
 abbrev pub invariant-loop-i : goal.invariant-loop-i

@@ -1,13 +1,10 @@
 -- `moves::gather_front` meets its contract.
-use mathlib.Core.Path.{◌≡◌, refl, ap, ◌∙◌}
-use Prim.Native.Nat.{ℕ, ◌+◌, ◌-◌, ◌≤◌}
+use mathlib.Core.Path.{refl, ap, ◌∙◌}
+use Prim.Native.Nat.{ℕ}
 use native.Mathlib.Omega.{arith}
 use native.Mathlib.Nat.{add-zero}
-use lib.ListN.{length, drop}
 use lib.Seq.{sets}
 use borrow.Author.Rules.{rules}
-use Rattle.store.specs.Layout.{places}
-use Rattle.store.specs.Workers.{number_in}
 use Rattle.moves.specs.Writings.{gather}
 use Rattle.moves.proofs.Gathering.{front_turn, front_end}
 use Rattle.moves.proofs.gather_front.Goals as goal

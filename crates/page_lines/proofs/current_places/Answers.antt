@@ -33,6 +33,7 @@ loop-laid-preserved c =
 
 pub returns : goal.returns
 returns c =
+    λ p paths.
     let a = c.args in
     let root : a.nodes - c.loop-laid.laid ≡ 0 = omega arith in
     nodes_end a.nodes a.counts.now a.keys.now p paths a.sample c.loop-laid.current (rw root at c.loop-laid.invariant.2)

@@ -13,7 +13,7 @@ use Rattle.page_lines.specs.Workers.{OnPaths}
 use Rattle.page_lines.proofs.Gathering.{Gathered, gather_starts, gather_turns, gather_ends}
 use Rattle.page_lines.proofs.Gathering.Turn.{never, other, valued}
 use Rattle.page_lines.proofs.gather.Goals as goal
-use Rattle.page_lines.proofs.gather.Goals.{Start}
+use Rattle.page_lines.proofs.gather.Goals.{Start, then-place-lt-PLACES+then-has_value, else-place-lt-PLACES, else-place-lt-PLACES-via-then-place-lt-PLACES+else-has_value, else-place-lt-PLACES-via-else-place-lt-PLACES}
 
 -- The state of the columns lent.
 abbrev lent : Start → State
@@ -37,9 +37,14 @@ loop-analyte-preserved c =
       gather_turns (asked (goal.at.loop-analyte-preserved c).Start) (lent (goal.at.loop-analyte-preserved c).Start) a.sample a.keys.now a.kinds.now a.values.now a.stamps.now c.loop-analyte.analyte
           place c.loop-analyte.lines c.if-place-lt-PLACES.lines h
           (λ p q. places.ensures p q a.kinds.now a.values.now a.stamps.now c.loop-analyte.analyte h) c.loop-analyte.invariant.1
-          (⊎_elim (λ w. valued w.0.taken (sym w.2.ensures ∙ w.3.taken) w.6)
-          (λ w. ⊎_elim (λ v. other v.0.taken (sym v.2.ensures ∙ v.3.left) w.1) (λ v. never v.left w.1) w.0.came)
-          c.if-place-lt-PLACES.either),
+          (elim c.if-place-lt-PLACES.branch [
+            | then-place-lt-PLACES+then-has_value w ↦ valued w.if-place-lt-PLACES.true (sym w.has_value.ensures ∙ w.if-has_value.true) w.lines-is
+            | else-place-lt-PLACES w ↦
+                elim w.else-place-lt-PLACES.branch [
+                  | else-place-lt-PLACES-via-then-place-lt-PLACES+else-has_value v ↦ other v.if-place-lt-PLACES.true (sym v.has_value.ensures ∙ v.if-has_value.false) w.lines-is
+                  | else-place-lt-PLACES-via-else-place-lt-PLACES v ↦ never v.if-place-lt-PLACES.false w.lines-is
+                ]
+          ]),
     )
 
 pub returns : goal.returns

@@ -28,7 +28,7 @@ low : (c : Else-last-key)
 low c =
     let s = first (goal.at.Else-last-key c).At-loop-at in
     let a = s.args in
-    lay_low a.keys.now (from s) (end s) a.sample (omega arith) s.pre.1.rises a.current.now c.loop-at.at c.loop-at.current
+    lay_low a.keys.now (from s) (end s) a.sample (omega arith) s.requires.1.rises a.current.now c.loop-at.at c.loop-at.current
     c.loop-at.invariant c.loop-at.at (omega arith) (search rules)
 
 pub loop-at-init : goal.loop-at-init
@@ -47,14 +47,14 @@ pub loop-at-preserved : goal.loop-at-preserved
 loop-at-preserved c =
     let s = first (goal.at.loop-at-preserved c).At-loop-at in
     let a = s.args in
-    lay_turns a.keys.now (from s) (end s) a.sample (omega arith) s.pre.1.rises a.current.now c.loop-at.at c.loop-at.current
+    lay_turns a.keys.now (from s) (end s) a.sample (omega arith) s.requires.1.rises a.current.now c.loop-at.at c.loop-at.current
     c.loop-at.invariant (search rules) c.if-last-key.false
 
 pub returns-after-loop-at : goal.returns-after-loop-at
 returns-after-loop-at c =
     let s = first (goal.at.returns-after-loop-at c).At-loop-at in
     let a = s.args in
-    lay_ends a.keys.now (from s) (end s) a.sample (omega arith) s.pre.1.rises a.current.now c.loop-at.at c.loop-at.current
+    lay_ends a.keys.now (from s) (end s) a.sample (omega arith) s.requires.1.rises a.current.now c.loop-at.at c.loop-at.current
     c.loop-at.invariant (search rules)
     ∙ node-laid a.counts.now a.keys.now a.node a.sample a.current.now
 
@@ -62,6 +62,6 @@ pub returns-then-last-key : goal.returns-then-last-key
 returns-then-last-key c =
     let s = first (goal.at.returns-then-last-key c).At-loop-at in
     let a = s.args in
-    lay_stops a.keys.now (from s) (end s) a.sample (omega arith) s.pre.1.rises a.current.now c.loop-at.at c.loop-at.current
+    lay_stops a.keys.now (from s) (end s) a.sample (omega arith) s.requires.1.rises a.current.now c.loop-at.at c.loop-at.current
     c.loop-at.invariant (search rules) c.if-last-key.true
     ∙ node-laid a.counts.now a.keys.now a.node a.sample a.current.now

@@ -1,14 +1,9 @@
 -- `plan_table::highest_of` meets its contract: the highest keys of the table are those of the plans, computed.
-use mathlib.Core.Path.{◌≡◌, refl, ◌∙◌}
-use mathlib.Core.List.{[]}
-use mathlib.Core.Logic.{⊎_elim}
+use mathlib.Core.Path.{◌≡◌}
 use Prim.Native.Nat.{◌-◌, ◌≤◌}
-use native.Mathlib.Omega.{arith}
-use Rattle.lists.specs.Indexed.{tabulate}
 use Rattle.plan.specs.PlanArrays.{grid_of}
-use Rattle.plan_table.specs.PlanTable.{plan_table, plans}
-use Rattle.plan_table.proofs.TableRows.{among, no_row, own_row, other_row, last_row}
-use borrow.Author.Rules.{rules}
+use Rattle.plan_table.specs.PlanTable.{plans}
+use Rattle.plan_table.proofs.TableRows.{among}
 use Rattle.plan_table.proofs.highest_of.Given as goal
 
 abbrev pub invariant-loop-row : goal.invariant-loop-row

@@ -1,13 +1,11 @@
 -- `plan_table::lowest_of` meets its contract: the lowest keys of the table are those of the plans, computed.
-use mathlib.Core.Path.{◌≡◌, refl, ◌∙◌}
+use mathlib.Core.Path.{refl, ◌∙◌}
 use mathlib.Core.List.{[]}
-use mathlib.Core.Logic.{⊎_elim}
-use Prim.Native.Nat.{◌-◌, ◌≤◌}
 use native.Mathlib.Omega.{arith}
 use Rattle.lists.specs.Indexed.{tabulate}
 use Rattle.plan.specs.PlanArrays.{grid_of}
 use Rattle.plan_table.specs.PlanTable.{plan_table, plans}
-use Rattle.plan_table.proofs.TableRows.{among, no_row, own_row, other_row, last_row}
+use Rattle.plan_table.proofs.TableRows.{no_row, own_row, other_row, last_row}
 use borrow.Author.Rules.{rules}
 use Rattle.plan_table.proofs.lowest_of.Goals as goal
 use Rattle.plan_table.proofs.lowest_of.Goals.{else-row-plan, then-row-plan}

@@ -1,11 +1,9 @@
 -- `plan_table::nodes` meets its contract: the numbers of nodes of the table are those of the plans, computed.
-use mathlib.Core.Path.{◌≡◌, refl, ◌∙◌}
-use mathlib.Core.Logic.{⊎_elim}
-use Prim.Native.Nat.{◌-◌, ◌≤◌}
+use mathlib.Core.Path.{refl, ◌∙◌}
 use native.Mathlib.Omega.{arith}
 use Rattle.plan.specs.Plan.{size}
 use Rattle.plan_table.specs.PlanTable.{plan_table, plans}
-use Rattle.plan_table.proofs.TableRows.{among, no_row, own_row, other_row, last_row}
+use Rattle.plan_table.proofs.TableRows.{no_row, own_row, other_row, last_row}
 use borrow.Author.Rules.{rules}
 use Rattle.plan_table.proofs.nodes.Goals as goal
 use Rattle.plan_table.proofs.nodes.Goals.{else-row-plan, then-row-plan}

@@ -3,7 +3,6 @@ use mathlib.Core.Path.{◌≡◌, sym, ◌∙◌}
 use mathlib.Core.Bool.{true}
 use native.Mathlib.Omega.{arith}
 use lib.ListN.{length}
-use borrow.Author.Tests.{not-true, not-false}
 use Rattle.plan.specs.PlanArrays.{RowsOf, capacities_row}
 use Rattle.store.specs.declared.Store.{Store}
 use Rattle.store.specs.State.{slot_count}

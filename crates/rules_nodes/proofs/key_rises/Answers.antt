@@ -1,7 +1,6 @@
 -- `rules_nodes::key_rises` meets its contract.
 use native.Mathlib.Omega.{arith}
 use Rattle.rules_nodes.proofs.Marking.{rises_last, rises_next}
-use borrow.Author.Rules.{rules}
 use Rattle.rules_nodes.proofs.key_rises.Goals as goal
 
 pub returns-then-end-i : goal.returns-then-end-i

@@ -1,6 +1,5 @@
 -- `rules_nodes::kind_good` meets its contract.
 use mathlib.Core.Path.{sym, ◌∙◌}
-use borrow.Author.Rules.{rules}
 use native.Mathlib.Omega.{arith}
 use Rattle.rules_nodes.proofs.Marking.{kind_strange, kind_valued, kind_bare}
 use Rattle.rules_nodes.proofs.kind_good.Goals as goal

@@ -1,9 +1,7 @@
 -- `rules_nodes::mark_good` meets its contract.
 use mathlib.Core.Path.{sym, ◌∙◌}
 use native.Mathlib.Omega.{arith}
-use borrow.Author.Tests.{not-true, not-false}
 use Rattle.rules_nodes.proofs.Marking.{mark_kind, mark_never, mark_clock}
-use borrow.Author.Rules.{rules}
 use Rattle.rules_nodes.proofs.mark_good.Goals as goal
 
 pub returns-then-not-kind_good : goal.returns-then-not-kind_good

@@ -3,11 +3,9 @@ use mathlib.Core.Path.{refl, sym, ◌∙◌}
 use Prim.Native.Nat.{◌+◌, ◌*◌}
 use native.Mathlib.Omega.{arith}
 use lib.ListN.{get_or}
-use borrow.Author.Tests.{not-true, not-false}
 use Rattle.store.specs.Layout.{width}
 use Rattle.store.proofs.Widths.{at_fits}
 use Rattle.rules_nodes.proofs.Tidying.{node_over, node_used, node_unused}
-use borrow.Author.Rules.{rules}
 use Rattle.rules_nodes.proofs.node_tidy.Goals as goal
 
 pub returns-then-capacity_in-count : goal.returns-then-capacity_in-count

@@ -1,12 +1,7 @@
 -- `rules_nodes::nodes_tidy` meets its contract. The loop's invariant: all nodes pass if those from this one on do. The measure is their number.
-use mathlib.Core.Path.{◌≡◌, refl, sym, ◌∙◌}
-use mathlib.Core.Bool.{Bool}
-use Prim.Native.Nat.{ℕ, ◌-◌, ◌≤◌}
-use native.Mathlib.Omega.{arith}
-use borrow.Author.Rules.{rules}
-use borrow.Author.Tests.{not-true, not-false}
+use mathlib.Core.Path.{◌≡◌}
+use Prim.Native.Nat.{◌-◌, ◌≤◌}
 use Rattle.lists.specs.Indexed.{all_from, all_below}
-use Rattle.lists.proofs.Tabulating.{all_stop, all_turn, all_end}
 use Rattle.plan.specs.Sizes.{most_nodes}
 use Rattle.rules_nodes.specs.Workers.{tidy_test}
 use Rattle.rules_nodes.proofs.nodes_tidy.Given as goal

@@ -1,8 +1,6 @@
 -- `rules_nodes::unused_good` meets its contract.
 use mathlib.Core.Path.{sym, ◌∙◌}
-use borrow.Author.Tests.{not-true, not-false}
 use Rattle.rules_nodes.proofs.Tidying.{keys_fail, kinds_fail, values_fail, stamps_decide}
-use borrow.Author.Rules.{rules}
 use Rattle.rules_nodes.proofs.unused_good.Goals as goal
 
 pub returns-then-not-all_zero : goal.returns-then-not-all_zero

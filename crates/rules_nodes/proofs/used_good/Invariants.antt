@@ -1,14 +1,8 @@
 -- `rules_nodes::used_good` meets its contract. The loop's invariant: all places pass if those from i on do. The measure is their number.
-use mathlib.Core.Path.{◌≡◌, refl, sym, ◌∙◌}
-use mathlib.Core.Bool.{Bool}
-use Prim.Native.Nat.{ℕ, ◌-◌, ◌≤◌}
-use native.Mathlib.Omega.{arith}
-use borrow.Author.Rules.{rules}
-use borrow.Author.Tests.{not-true, not-false}
+use mathlib.Core.Path.{◌≡◌}
+use Prim.Native.Nat.{◌-◌, ◌≤◌}
 use Rattle.lists.specs.Indexed.{all_from}
-use Rattle.lists.proofs.Tabulating.{all_stop, all_turn, all_end}
 use Rattle.rules_nodes.specs.Workers.{used_test}
-use Rattle.rules_nodes.proofs.Marking.{used_order, used_mark}
 use Rattle.rules_nodes.proofs.used_good.Given as goal
 
 abbrev pub invariant-loop-i : goal.invariant-loop-i

@@ -1,7 +1,5 @@
 -- `rules_paths::on_their_paths` meets its contract.
 use mathlib.Core.Path.{sym, ◌∙◌}
-use borrow.Author.Tests.{not-true, not-false}
-use borrow.Author.Rules.{rules}
 use Rattle.rules_paths.proofs.on_their_paths.Goals as goal
 
 pub returns-then-not-slots_good : goal.returns-then-not-slots_good

@@ -1,11 +1,9 @@
 -- `rules_stamps::stamps_differ` meets its contract. The loop's invariant: the stamps of the nodes from n on are taken. The measure is n.
 use mathlib.Core.Path.{◌≡◌, sym, subst, ◌∙◌}
 use mathlib.Core.Bool.{true}
-use Prim.Native.Nat.{suc, ◌-◌, ◌≤◌}
+use Prim.Native.Nat.{suc, ◌-◌}
 use native.Mathlib.Omega.{arith}
 use borrow.Author.Rules.{rules}
-use borrow.Author.Tests.{not-true, not-false}
-use Rattle.plan.specs.Sizes.{most_nodes}
 use Rattle.store.specs.Copies.{different}
 use Rattle.rules_stamps.specs.Workers.{from_node, Taken}
 use Rattle.rules_stamps.proofs.Taking.{takes_nothing, fails_all}

@@ -1,14 +1,11 @@
 -- `rules_stamps::stands` meets its contract. The loop's invariant: the stamp was found, or stands at the places from i on, exactly if it
 -- stands at all. The measure is how many are left.
-use mathlib.Core.Path.{◌≡◌, refl, ◌∙◌}
+use mathlib.Core.Path.{◌≡◌}
 use mathlib.Core.Bool.{◌||◌}
 use Prim.Native.Nat.{◌-◌, ◌≤◌}
-use native.Mathlib.Omega.{arith}
-use borrow.Author.Rules.{rules}
 use Rattle.lists.specs.Indexed.{tabulate}
 use Rattle.store.specs.Copies.{member}
 use Rattle.store.specs.Workers.{number_in}
-use Rattle.rules_stamps.proofs.Taking.{stands_turn, stands_end}
 use Rattle.rules_stamps.proofs.stands.Given as goal
 
 abbrev pub invariant-loop-i : goal.invariant-loop-i

@@ -2,7 +2,6 @@
 use mathlib.Core.Path.{sym, ◌∙◌}
 use Prim.Native.Nat.{◌≤◌}
 use native.Mathlib.Omega.{arith}
-use borrow.Author.Rules.{rules}
 use Rattle.store.specs.Layout.{places}
 use Rattle.rules_stamps.specs.Workers.{end_of}
 use Rattle.rules_stamps.proofs.Taking.{node_within, behind_rest, behind_later}

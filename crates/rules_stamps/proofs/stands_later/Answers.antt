@@ -1,13 +1,10 @@
 -- `rules_stamps::stands_later` meets its contract. The loop's invariant: the stamp stands in the nodes from n on exactly if it stands at
 -- all. The measure is how many are left.
-use mathlib.Core.Path.{◌≡◌, refl, sym, ◌∙◌}
-use Prim.Native.Nat.{◌-◌, ◌≤◌}
+use mathlib.Core.Path.{sym, ◌∙◌}
+use Prim.Native.Nat.{◌≤◌}
 use native.Mathlib.Omega.{arith}
-use borrow.Author.Rules.{rules}
-use Rattle.plan.specs.Sizes.{most_nodes}
-use Rattle.store.specs.Copies.{member}
 use Rattle.store.specs.Layout.{places}
-use Rattle.rules_stamps.specs.Workers.{end_of, from_node}
+use Rattle.rules_stamps.specs.Workers.{end_of}
 use Rattle.rules_stamps.proofs.Taking.{node_within, in_node, in_later, in_none}
 use Rattle.rules_stamps.proofs.stands_later.Goals as goal
 use Rattle.rules_stamps.proofs.stands_later.Goals.{After-stands-arg-1}

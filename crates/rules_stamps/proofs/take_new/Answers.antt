@@ -1,10 +1,6 @@
 -- `rules_stamps::take_new` meets its contract. The loop's invariant: the stamps from this place on are taken. The measure is this place.
-use mathlib.Core.Path.{◌≡◌, sym, ◌∙◌}
-use Prim.Native.Nat.{◌-◌, ◌≤◌}
+use mathlib.Core.Path.{sym, ◌∙◌}
 use native.Mathlib.Omega.{arith}
-use lib.ListN.{length}
-use borrow.Author.Rules.{rules}
-use Rattle.rules_stamps.specs.Workers.{mark_words, TakenDown}
 use Rattle.rules_stamps.proofs.Taking.{down_none, down_new, stops_set, stops_first}
 use Rattle.rules_stamps.proofs.take_new.Goals as goal
 

@@ -1,12 +1,11 @@
 -- `rules_stamps::take_node` meets its contract. The loop's invariant: the stamps from this place on are taken, and the mark of the one before
 -- it is set. The measure is this place.
-use mathlib.Core.Path.{◌≡◌, refl, sym, ◌∙◌}
-use Prim.Native.Nat.{◌-◌, ◌*◌, ◌≤◌}
+use mathlib.Core.Path.{refl, sym, ◌∙◌}
+use Prim.Native.Nat.{◌≤◌}
 use native.Mathlib.Omega.{arith}
-use borrow.Author.Rules.{rules}
-use Rattle.store.specs.Layout.{width, places}
+use Rattle.store.specs.Layout.{places}
 use Rattle.rules_stamps.specs.Workers.{end_of}
-use Rattle.rules_stamps.proofs.Taking.{node_within, Reached, reach_first, reach_next, fails_node, takes_node}
+use Rattle.rules_stamps.proofs.Taking.{node_within, reach_first, reach_next, fails_node, takes_node}
 use Rattle.rules_stamps.proofs.take_node.Goals as goal
 use Rattle.rules_stamps.proofs.take_node.Goals.{Start}
 

@@ -1,12 +1,10 @@
 -- `searches::start_lent` meets its contract.
-use mathlib.Core.Logic.{⊎_elim}
 use Rattle.store.specs.declared.Store.{Store}
 use Rattle.store.specs.Layout.{plan_of, state_of}
 use Rattle.store.specs.Workers.{of_parts}
 use Rattle.steps.specs.Searches.{start_step}
 use Rattle.steps.proofs.LineSteps.{start_still}
 use Rattle.searches.proofs.Moving.{Changes, decided_good, refused_bad, change_done}
-use borrow.Author.Rules.{rules}
 use Rattle.searches.proofs.start_lent.Goals as goal
 use Rattle.searches.proofs.start_lent.Goals.{Joined-good, Start, else-good, then-good}
 

@@ -1,6 +1,5 @@
 -- `searches::step_lent` meets its contract.
 use mathlib.Core.Path.{refl, sym, ◌∙◌}
-use mathlib.Core.Logic.{⊎_elim}
 use Rattle.plan.proofs.RowsLent.{own_count}
 use Rattle.store.specs.declared.Store.{Store}
 use Rattle.store.specs.Workers.{of_parts}
@@ -8,7 +7,6 @@ use Rattle.store.proofs.WhichPlan.{rows_known}
 use Rattle.store.proofs.Lifting.{plan_good}
 use Rattle.steps.specs.Searches.{step_step}
 use Rattle.searches.proofs.Moving.{Changes, good_steppable, stepped_good, refused_bad, change_done}
-use borrow.Author.Rules.{rules}
 use Rattle.searches.proofs.step_lent.Goals as goal
 use Rattle.searches.proofs.step_lent.Goals.{Joined-good, Start, else-good, then-good}
 

@@ -1,7 +1,6 @@
 -- `slots::freed` meets its contract.
 use mathlib.Core.Path.{ap}
 use Rattle.store.specs.declared.Slot.{Slot}
-use borrow.Author.Rules.{rules}
 use Rattle.slots.proofs.freed.Goals as goal
 
 pub returns : goal.returns

@@ -3,7 +3,6 @@ use mathlib.Core.Path.{ap}
 use lib.ListN.{get_or}
 use Rattle.store.specs.declared.Answer.{Answer}
 use Rattle.store.specs.State.{idle}
-use borrow.Author.Rules.{rules}
 use Rattle.slots.proofs.refused.Goals as goal
 
 pub returns : goal.returns

@@ -1,15 +1,10 @@
 -- `slots::started` meets its contract. The loop's invariant: the slots from n on say which is the lowest idle one. The measure is how many
 -- are left.
-use mathlib.Core.Path.{◌≡◌, sym, ◌∙◌}
+use mathlib.Core.Path.{◌≡◌}
 use Prim.Native.Nat.{◌-◌, ◌≤◌}
-use native.Mathlib.Nat.{zero-add}
-use native.Mathlib.Omega.{arith}
-use lib.ListN.{length}
 use Rattle.store.specs.State.{slot_count}
 use Rattle.steps.specs.Searches.{lowest_idle}
-use Rattle.slots.proofs.Idling.{idle_from, idle_none, idle_here, idle_later}
-use Rattle.slots.proofs.Slotting.{starts_none, starts_at}
-use borrow.Author.Rules.{rules}
+use Rattle.slots.proofs.Idling.{idle_from}
 use Rattle.slots.proofs.started.Given as goal
 
 abbrev pub invariant-loop-n : goal.invariant-loop-n

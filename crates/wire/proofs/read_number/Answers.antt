@@ -2,7 +2,6 @@
 use Rattle.number.specs.Number.{narrow}
 use Rattle.wire.specs.Reading.{numbered, num_of}
 use Rattle.wire.proofs.Chains.{told}
-use borrow.Author.Rules.{rules}
 use Rattle.wire.proofs.read_number.Goals as goal
 
 pub returns-in-Value : goal.returns-in-Value

@@ -1,7 +1,5 @@
 -- `carries::settling::along` meets its contract.
-use native.Mathlib.Omega.{arith}
-use borrow.Author.Rules.{rules}
-use Rattle.carries.proofs.Carrying.{source_few, goal_few, fits, ready, counts_move, stay_there, settled_along}
+use Rattle.carries.proofs.Carrying.{source_few, goal_few, ready, counts_move, stay_there, settled_along}
 use Rattle.carries.proofs.settling.along.Goals as goal
 
 pub bounds-counts-n : goal.bounds-counts-n

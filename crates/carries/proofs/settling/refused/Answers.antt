@@ -1,6 +1,5 @@
 -- `carries::settling::refused` meets its contract.
 use mathlib.Core.Path.{ap}
-use borrow.Author.Rules.{rules}
 use Rattle.store.specs.declared.Answer.{Answer}
 use Rattle.carries.proofs.settling.refused.Goals as goal
 

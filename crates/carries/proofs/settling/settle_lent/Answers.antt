@@ -1,8 +1,6 @@
 -- `carries::settling::settle_lent` meets its contract.
 use mathlib.Core.Path.{◌≡◌, refl, sym, ◌∙◌}
 use mathlib.Core.Bool.{true, false}
-use borrow.Author.Rules.{rules}
-use borrow.Author.Tests.{not-true, not-false}
 use Rattle.store.specs.declared.Store.{Store}
 use Rattle.store.specs.Answers.{BADSTORE, NODE, EDGE, bare}
 use Rattle.store.specs.StoreRules.{good_store}

@@ -1,11 +1,9 @@
 -- `entries::decision::decide` meets its contract.
 use mathlib.Core.Path.{◌≡◌}
-use mathlib.Core.Logic.{⊎_elim}
 use Prim.Native.Nat.{◌<◌}
 use native.Mathlib.Omega.{arith}
 use lib.ListN.{get_or}
 use borrow.Author.Rules.{rules}
-use borrow.Author.Tests.{eqb-true, eqb-false}
 use Rattle.entries.proofs.Entering.{decides_replaced, decides_added, decides_full}
 use Rattle.entries.proofs.decision.decide.Goals as goal
 use Rattle.entries.proofs.decision.decide.Goals.{Joined-else-at-end, else-at-end-via-else-at-end, else-at-end-via-then-at-end+else-keys-at}

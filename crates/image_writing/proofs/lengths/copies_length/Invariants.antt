@@ -1,14 +1,10 @@
 -- `image_writing::lengths::copies_length` meets its contract.
 use mathlib.Core.Path.{◌≡◌}
 use Prim.Native.Nat.{◌+◌, ◌-◌, ◌≤◌}
-use native.Mathlib.Omega.{arith}
 use lib.ListN.{length}
 use Rattle.lists.specs.Indexed.{tabulate}
-use Rattle.lists.proofs.Tabulating.{length-tabulate}
 use Rattle.store.specs.Layout.{copy_in}
 use Rattle.image_writing.specs.Image.{copies_bytes}
-use Rattle.image_writing.proofs.ImageLengths.{copies_short, copies_count, copies_counted_all}
-use borrow.Author.Rules.{rules}
 use Rattle.image_writing.proofs.lengths.copies_length.Given as goal
 
 abbrev pub invariant-loop-i : goal.invariant-loop-i

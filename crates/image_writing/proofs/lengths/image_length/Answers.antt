@@ -8,7 +8,6 @@ use Rattle.store.specs.State.{State}
 use mathlib.Core.List.{[]}
 use Rattle.image_writing.specs.Image.{format_number}
 use Rattle.image_writing.proofs.ImageLengths.{longest_node, nodes_in_short, image_adds, image_adds_few}
-use borrow.Author.Rules.{rules}
 use Rattle.image_writing.proofs.lengths.image_length.Goals as goal
 use Rattle.image_writing.proofs.lengths.image_length.Goals.{After-length_of-3, Start}
 

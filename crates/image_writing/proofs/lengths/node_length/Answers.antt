@@ -3,7 +3,6 @@ use Prim.Native.Nat.{◌*◌}
 use native.Mathlib.Omega.{arith}
 use Rattle.store.specs.Layout.{width, copy_in}
 use Rattle.image_writing.proofs.ImageLengths.{node_adds, node_adds_few}
-use borrow.Author.Rules.{rules}
 use Rattle.image_writing.proofs.lengths.node_length.Goals as goal
 
 pub overflow_add-result : goal.overflow_add-result

@@ -1,14 +1,10 @@
 -- `image_writing::lengths::nodes_length` meets its contract.
 use mathlib.Core.Path.{◌≡◌}
 use Prim.Native.Nat.{◌+◌, ◌-◌, ◌≤◌}
-use native.Mathlib.Omega.{arith}
-use native.Mathlib.Nat.{zero-add, sub-zero}
 use lib.ListN.{length}
 use Rattle.lists.specs.Indexed.{tabulate}
 use Rattle.store.specs.Layout.{node_in}
 use Rattle.image_writing.specs.Image.{nodes_bytes}
-use Rattle.image_writing.proofs.ImageLengths.{nodes_in_short, nodes_count, nodes_counted_all}
-use borrow.Author.Rules.{rules}
 use Rattle.image_writing.proofs.lengths.nodes_length.Given as goal
 
 abbrev pub invariant-loop-n : goal.invariant-loop-n

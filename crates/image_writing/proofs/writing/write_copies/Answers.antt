@@ -1,10 +1,6 @@
 -- `image_writing::writing::write_copies` meets its contract.
-use Prim.Native.Nat.{◌-◌, ◌≤◌}
-use Rattle.lists.specs.Indexed.{tabulate}
-use Rattle.store.specs.Layout.{copy_in}
 use Rattle.wire.proofs.Parts.{write_room, write_on, write_off}
-use Rattle.image_writing.specs.Image.{copies_bytes}
-use Rattle.image_writing.proofs.WriteWays.{WritesCopies, copies_begin}
+use Rattle.image_writing.proofs.WriteWays.{copies_begin}
 use borrow.Author.Rules.{rules}
 use Rattle.image_writing.proofs.writing.write_copies.Goals as goal
 

@@ -3,7 +3,6 @@ use mathlib.Core.List.{[]}
 use Rattle.store.specs.State.{State}
 use Rattle.store.specs.Layout.{state_in}
 use Rattle.image_writing.proofs.WriteWays.{format_fits, plan_fits, clock_fits, nodes_fit, wrote_image}
-use borrow.Author.Rules.{rules}
 use Rattle.image_writing.proofs.writing.write_image.Goals as goal
 use Rattle.image_writing.proofs.writing.write_image.Goals.{Start}
 

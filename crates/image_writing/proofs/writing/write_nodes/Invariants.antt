@@ -1,12 +1,9 @@
 -- `image_writing::writing::write_nodes` meets its contract.
 use Prim.Native.Nat.{◌-◌, ◌≤◌}
-use native.Mathlib.Omega.{arith}
 use Rattle.lists.specs.Indexed.{tabulate}
 use Rattle.store.specs.Layout.{node_in}
-use Rattle.wire.proofs.Parts.{write_room, write_on, write_off}
 use Rattle.image_writing.specs.Image.{nodes_bytes}
-use Rattle.image_writing.proofs.WriteWays.{WritesNodes, nodes_begin}
-use borrow.Author.Rules.{rules}
+use Rattle.image_writing.proofs.WriteWays.{WritesNodes}
 use Rattle.image_writing.proofs.writing.write_nodes.Given as goal
 
 abbrev pub invariant-loop-n : goal.invariant-loop-n

@@ -1,10 +1,8 @@
 -- `rules_paths::paths::copy_placed` meets its contract.
 use mathlib.Core.Path.{sym, ◌∙◌}
-use borrow.Author.Tests.{not-true, not-false}
 use Rattle.store.specs.State.{State}
 use Rattle.rules_paths.specs.Workers.{keyed}
 use Rattle.rules_paths.proofs.Placing.{placed_off, placed_falls}
-use borrow.Author.Rules.{rules}
 use Rattle.rules_paths.proofs.paths.copy_placed.Goals as goal
 use Rattle.rules_paths.proofs.paths.copy_placed.Goals.{Start}
 

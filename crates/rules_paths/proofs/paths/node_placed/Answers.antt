@@ -1,18 +1,14 @@
 -- `rules_paths::paths::node_placed` meets its contract. The loop's invariant: all copies pass if those from i on do. The measure is their number.
-use mathlib.Core.Path.{◌≡◌, refl, sym, ◌∙◌}
+use mathlib.Core.Path.{refl, sym, ◌∙◌}
 use mathlib.Core.Bool.{Bool}
-use Prim.Native.Nat.{ℕ, ◌+◌, ◌-◌, ◌*◌, ◌≤◌}
+use Prim.Native.Nat.{ℕ, ◌+◌, ◌*◌}
 use native.Mathlib.Omega.{arith}
-use borrow.Author.Rules.{rules}
-use borrow.Author.Tests.{not-true, not-false}
-use Rattle.lists.specs.Indexed.{all_from}
 use Rattle.lists.proofs.Tabulating.{all_stop, all_turn, all_end}
 use Rattle.plan.specs.Plan.{Plan}
-use Rattle.plan.specs.PlanArrays.{RowsOf}
 use Rattle.store.specs.State.{State}
-use Rattle.store.specs.Layout.{width, places}
+use Rattle.store.specs.Layout.{width}
 use Rattle.store.specs.Workers.{number_in}
-use Rattle.rules_paths.specs.Workers.{keyed, placed_test, paths_test}
+use Rattle.rules_paths.specs.Workers.{keyed, placed_test}
 use Rattle.rules_paths.proofs.Placing.{paths_within}
 use Rattle.rules_paths.proofs.paths.node_placed.Goals as goal
 use Rattle.rules_paths.proofs.paths.node_placed.Goals.{Start}

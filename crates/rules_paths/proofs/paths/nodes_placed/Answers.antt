@@ -1,16 +1,13 @@
 -- `rules_paths::paths::nodes_placed` meets its contract. The loop's invariant: all nodes pass if those from this one on do. The measure is their
 -- number.
-use mathlib.Core.Path.{◌≡◌, refl, sym, ◌∙◌}
+use mathlib.Core.Path.{refl, sym, ◌∙◌}
 use mathlib.Core.Bool.{Bool}
-use Prim.Native.Nat.{ℕ, ◌-◌, ◌≤◌}
+use Prim.Native.Nat.{ℕ}
 use native.Mathlib.Omega.{arith}
 use borrow.Author.Rules.{rules}
-use borrow.Author.Tests.{not-true, not-false}
-use Rattle.lists.specs.Indexed.{all_from, all_below}
 use Rattle.lists.proofs.Tabulating.{all_stop, all_turn, all_end}
 use Rattle.plan.specs.Sizes.{most_nodes}
 use Rattle.plan.specs.Plan.{Plan}
-use Rattle.plan.specs.PlanArrays.{RowsOf}
 use Rattle.rules_paths.specs.Workers.{keyed, paths_test}
 use Rattle.rules_paths.proofs.paths.nodes_placed.Goals as goal
 use Rattle.rules_paths.proofs.paths.nodes_placed.Goals.{Start}

@@ -1,23 +1,12 @@
 -- `rules_paths::paths::stamp_below` meets its contract. The loop's invariant: the next step leads to a node of the plan, and the stamp in reach is
 -- the one in reach from there. The measure is how many nodes may come.
-use mathlib.Core.Path.{◌≡◌, sym, ap, ◌∙◌}
-use mathlib.Core.Logic.{⊎_elim}
-use Prim.Native.Nat.{◌+◌, ◌-◌, ◌*◌, ◌<◌}
-use native.Mathlib.Omega.{arith}
-use borrow.Author.Rules.{rules}
-use borrow.Author.Tests.{eqb-true, eqb-false}
-use Rattle.plan.specs.declared.Hop.{Hop}
-use Rattle.plan.specs.Sizes.{most_nodes}
+use mathlib.Core.Path.{◌≡◌}
 use Rattle.plan.specs.Plan.{Plan, next}
 use Rattle.plan.specs.PlanArrays.{RowsOf}
 use Rattle.store.specs.Copies.{stamp_of}
 use Rattle.store.specs.State.{in_reach}
-use Rattle.store.specs.Layout.{width}
-use Rattle.store.specs.Workers.{number_in, Ordered}
-use Rattle.store.proofs.Halving.{place_bounds}
 use Rattle.rules_paths.specs.Workers.{keyed}
-use Rattle.plan.proofs.RowsLent.{next_here}
-use Rattle.rules_paths.proofs.Reaching.{LeadsOn, leads_on, stamp_on, reach_starts, reach_out, reach_ends, reach_held, reach_on}
+use Rattle.rules_paths.proofs.Reaching.{LeadsOn, stamp_on}
 use Rattle.rules_paths.proofs.paths.stamp_below.Given as goal
 
 abbrev pub invariant-loop-left : goal.invariant-loop-left

@@ -1,16 +1,9 @@
 -- `rules_paths::paths::stands_at` meets its contract. The loop's invariant: the node stands on the path, with so many nodes above it, if it does
 -- among the nodes to come, with those left. The measure is how many may come.
-use mathlib.Core.Path.{◌≡◌, sym, ap, ◌∙◌}
-use mathlib.Core.List.{List}
-use Prim.Native.Nat.{ℕ, ◌-◌}
-use native.Mathlib.Omega.{arith}
-use borrow.Author.Rules.{rules}
-use Rattle.plan.specs.declared.Hop.{Hop}
+use mathlib.Core.Path.{◌≡◌}
 use Rattle.plan.specs.Plan.{Plan, walk, path}
 use Rattle.plan.specs.PlanArrays.{RowsOf}
 use Rattle.store.specs.StoreRules.{stands_at}
-use Rattle.plan.proofs.RowsLent.{next_here}
-use Rattle.rules_paths.proofs.Walking.{path-walk, stands_out, stands_ends, stands_here, stands_later}
 use Rattle.rules_paths.proofs.paths.stands_at.Given as goal
 
 abbrev pub invariant-loop-left : goal.invariant-loop-left

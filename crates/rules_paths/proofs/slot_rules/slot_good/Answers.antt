@@ -2,7 +2,6 @@
 use mathlib.Core.Path.{sym, ◌∙◌}
 use native.Mathlib.Omega.{arith}
 use Rattle.rules_paths.proofs.Resting.{slot_rests, slot_strange, slot_runs}
-use borrow.Author.Rules.{rules}
 use Rattle.rules_paths.proofs.slot_rules.slot_good.Goals as goal
 
 pub returns-then-slot-eq-IDLE : goal.returns-then-slot-eq-IDLE

@@ -1,19 +1,9 @@
 -- `rules_paths::slot_rules::slots_good` meets its contract. The loop's invariant: all slots pass if those from i on do. The measure is their number.
-use mathlib.Core.Path.{◌≡◌, refl, sym, ◌∙◌}
-use mathlib.Core.Bool.{Bool}
-use mathlib.Core.List.{List}
-use Prim.Native.Nat.{ℕ, ◌-◌, ◌≤◌}
+use mathlib.Core.Path.{refl, sym, ◌∙◌}
 use native.Mathlib.Omega.{arith}
-use lib.ListN.{get_or}
 use borrow.Author.Rules.{rules}
-use borrow.Author.Tests.{not-true, not-false}
-use Rattle.lists.specs.Indexed.{all_from, all_below}
 use Rattle.lists.proofs.Tabulating.{all_stop, all_turn, all_end}
-use Rattle.plan.specs.Plan.{Plan}
-use Rattle.plan.specs.PlanArrays.{RowsOf}
-use Rattle.store.specs.declared.Slot.{Slot}
-use Rattle.store.specs.State.{slot_count, idle}
-use Rattle.store.specs.StoreRules.{slot_test}
+use Rattle.store.specs.State.{slot_count}
 use Rattle.rules_paths.proofs.slot_rules.slots_good.Goals as goal
 use Rattle.rules_paths.proofs.slot_rules.slots_good.Invariants.{each_slot}
 

@@ -1,14 +1,10 @@
 -- `rules_paths::slot_rules::slots_good` meets its contract. The loop's invariant: all slots pass if those from i on do. The measure is their number.
-use mathlib.Core.Path.{◌≡◌, refl, sym, ◌∙◌}
+use mathlib.Core.Path.{◌≡◌}
 use mathlib.Core.Bool.{Bool}
 use mathlib.Core.List.{List}
 use Prim.Native.Nat.{ℕ, ◌-◌, ◌≤◌}
-use native.Mathlib.Omega.{arith}
 use lib.ListN.{get_or}
-use borrow.Author.Rules.{rules}
-use borrow.Author.Tests.{not-true, not-false}
 use Rattle.lists.specs.Indexed.{all_from, all_below}
-use Rattle.lists.proofs.Tabulating.{all_stop, all_turn, all_end}
 use Rattle.plan.specs.Plan.{Plan}
 use Rattle.plan.specs.PlanArrays.{RowsOf}
 use Rattle.store.specs.declared.Slot.{Slot}

@@ -1,6 +1,5 @@
 -- `store::Store::empty` meets its contract.
 use mathlib.Core.Path.{sym}
-use borrow.Author.Rules.{rules}
 use Rattle.store.proofs.Freshening.{fresh_store_is}
 use Rattle.store.proofs.Store.empty.Goals as goal
 

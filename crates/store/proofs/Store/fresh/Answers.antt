@@ -1,6 +1,5 @@
 -- `store::Store::fresh` meets its contract.
 use mathlib.Core.Path.{sym, ◌∙◌}
-use borrow.Author.Rules.{rules}
 use Rattle.store.proofs.Freshening.{fresh-done, fresh-refused}
 use Rattle.store.proofs.Store.fresh.Goals as goal
 

@@ -1,7 +1,6 @@
 -- `store::Store::idle_slots` meets its contract.
 use mathlib.Core.Path.{ap}
 use lib.ListN.{replicate}
-use borrow.Author.Rules.{rules}
 use Rattle.store.specs.State.{slot_count}
 use Rattle.store.proofs.Store.idle_slots.Goals as goal
 

@@ -1,14 +1,9 @@
 -- `store::columns::all_zero` meets its contract.
-use mathlib.Core.Path.{◌≡◌, refl, sym, ap, ◌∙◌}
+use mathlib.Core.Path.{refl, sym, ap, ◌∙◌}
 use mathlib.Core.Bool.{◌&&◌, and-true}
-use Prim.Native.Nat.{◌-◌, ◌≤◌}
 use native.Mathlib.Omega.{arith}
 use lib.Dec.{eqb}
-use lib.ListN.{length}
-use lib.Seq.{slice}
 use borrow.Author.Rules.{rules}
-use Rattle.store.specs.Layout.{places}
-use Rattle.store.specs.StoreRules.{all_zero}
 use Rattle.store.proofs.Zeros.{zero_turn, zero_end}
 use Rattle.store.proofs.columns.all_zero.Goals as goal
 

@@ -1,8 +1,7 @@
 -- `store::columns::look_among` meets its contract.
-use Prim.Native.Nat.{◌+◌, ◌-◌, ◌/◌, ◌≤◌, ◌<◌}
+use Prim.Native.Nat.{◌+◌, ◌-◌, ◌/◌}
 use native.Mathlib.Omega.{arith}
 use borrow.Author.Rules.{rules}
-use Rattle.store.specs.Workers.{number_in, place_in}
 use Rattle.store.proofs.Halving.{place_bounds, half_up, half_down, look_held, look_nothing}
 use Rattle.store.proofs.columns.look_among.Goals as goal
 

@@ -1,9 +1,6 @@
 -- `store::columns::look_among` meets its contract.
-use Prim.Native.Nat.{◌+◌, ◌-◌, ◌/◌, ◌≤◌, ◌<◌}
-use native.Mathlib.Omega.{arith}
-use borrow.Author.Rules.{rules}
+use Prim.Native.Nat.{◌-◌, ◌≤◌, ◌<◌}
 use Rattle.store.specs.Workers.{number_in, place_in}
-use Rattle.store.proofs.Halving.{place_bounds, half_up, half_down, look_held, look_nothing}
 use Rattle.store.proofs.columns.look_among.Given as goal
 
 -- The place of the key lies between low and high, and the key at high is greater.

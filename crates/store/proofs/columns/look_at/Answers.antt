@@ -1,6 +1,5 @@
 -- `store::columns::look_at` meets its contract.
 use mathlib.Core.Path.{◌∙◌}
-use borrow.Author.Rules.{rules}
 use Rattle.store.proofs.Laying.{node_looked}
 use Rattle.store.proofs.columns.look_at.Goals as goal
 

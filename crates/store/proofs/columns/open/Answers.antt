@@ -1,11 +1,7 @@
 -- `store::columns::open` meets its contract.
 use mathlib.Core.Path.{◌≡◌}
-use Prim.Native.Nat.{◌≤◌, ◌<◌}
 use native.Mathlib.Omega.{arith}
-use lib.ListN.{length, get_or}
 use borrow.Author.Rules.{rules}
-use Rattle.store.specs.Layout.{places}
-use Rattle.store.specs.Workers.{opened}
 use Rattle.store.proofs.Opening.{opened_start, opened-set, opened_turn}
 use Rattle.store.proofs.columns.open.Goals as goal
 

@@ -1,12 +1,9 @@
 -- `store::columns::open` meets its contract.
 use mathlib.Core.Path.{◌≡◌}
 use Prim.Native.Nat.{◌≤◌, ◌<◌}
-use native.Mathlib.Omega.{arith}
 use lib.ListN.{length, get_or}
-use borrow.Author.Rules.{rules}
 use Rattle.store.specs.Layout.{places}
 use Rattle.store.specs.Workers.{opened}
-use Rattle.store.proofs.Opening.{opened_start, opened-set, opened_turn}
 use Rattle.store.proofs.columns.open.Given as goal
 
 -- Those from the hole up to the end have moved, and what stood in the hole still stands there.

@@ -1,8 +1,7 @@
 -- `store::columns::seek` meets its contract.
-use Prim.Native.Nat.{◌+◌, ◌-◌, ◌/◌, ◌≤◌}
+use Prim.Native.Nat.{◌+◌, ◌-◌, ◌/◌}
 use native.Mathlib.Omega.{arith}
 use borrow.Author.Rules.{rules}
-use Rattle.store.specs.Workers.{place_in}
 use Rattle.store.proofs.Halving.{place_bounds, half_up, half_down}
 use Rattle.store.proofs.columns.seek.Goals as goal
 

@@ -1,9 +1,6 @@
 -- `store::columns::seek` meets its contract.
-use Prim.Native.Nat.{◌+◌, ◌-◌, ◌/◌, ◌≤◌}
-use native.Mathlib.Omega.{arith}
-use borrow.Author.Rules.{rules}
+use Prim.Native.Nat.{◌-◌, ◌≤◌}
 use Rattle.store.specs.Workers.{place_in}
-use Rattle.store.proofs.Halving.{place_bounds, half_up, half_down}
 use Rattle.store.proofs.columns.seek.Given as goal
 
 -- The place of the key lies between low and high.

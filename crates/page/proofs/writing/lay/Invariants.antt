@@ -1,0 +1,14 @@
+-- `page::writing::lay` meets its contract. The loop's invariant: the page's first i bytes were written.
+use Prim.Native.Nat.{◌-◌, ◌≤◌}
+use borrow.Author.Rules.{rules}
+use lib.ListN.{length, take, length-set}
+use Rattle.lists.specs.Stands.{Wrote}
+use Rattle.lists.proofs.Standing.{wrote_nil, wrote_length}
+use Rattle.page.proofs.PageWriting.{lay_turns, lay_ends}
+use Rattle.page.proofs.writing.lay.Given as goal
+
+abbrev pub invariant-loop-i : goal.invariant-loop-i
+invariant-loop-i l = (l.i ≤ length l.page) × (length l.page ≤ length l.buffer) × Wrote l.initial.buffer 0 (take l.i l.page) l.i l.buffer
+
+abbrev pub decreases-loop-i : goal.decreases-loop-i
+decreases-loop-i l = length l.page - l.i
