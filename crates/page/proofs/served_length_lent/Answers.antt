@@ -22,10 +22,9 @@ use Rattle.page.proofs.PageWays.{
   length_bad_sample,
   length_stale,
   length-fresh,
+}
 use Rattle.page.proofs.served_length_lent.Goals as goal
 use Rattle.page.proofs.served_length_lent.Goals.{After-nodes-nodes, After-write_now-n, Else-not-good, Start}
-
-}
 
 -- The store of what is lent and given.
 abbrev asked : Start → Store
@@ -42,7 +41,7 @@ abbrev test : After-nodes-nodes → Else-not-good
 test c = (goal.at.After-nodes-nodes c).Else-not-good
 
 abbrev entry : After-nodes-nodes → Start
-entry c = (test c).before.before.before
+entry c = (goal.at.After-nodes-nodes c).Start
 
 all_here : (c : After-nodes-nodes) → c.nodes-nodes.result ≡ size (plan_of (asked (entry c)))
 all_here c = nodes_known (asked (entry c)) c.nodes-nodes.result c.nodes-nodes.ensures
@@ -59,8 +58,8 @@ held : (w : After-write_now-n)
 held w =
     let c = counted w in
     let z = asked (entry c) in
-    page_held z (entry c).args.sample c.nodes.result (small w) (search rules) (all_here c)
-    (w.write_now-n.ensures (plan_of z) (good_on_paths z (good-here (test c)) c.nodes.result (all_here c)))
+    page_held z (entry c).args.sample c.nodes-nodes.result (small w) (search rules) (all_here c)
+    (w.write_now-n.ensures (plan_of z) (good_on_paths z (good-here (test c)) c.nodes-nodes.result (all_here c)))
 
 pub returns-then-not-good : goal.returns-then-not-good
 returns-then-not-good c =
