@@ -10,6 +10,7 @@ not the same then, with both texts; at the end how many are the same. Comments, 
 """
 
 import collections
+import difflib
 import importlib.util
 import os
 import re
@@ -18,7 +19,7 @@ import sys
 
 sys.setrecursionlimit(100000)
 # Names of the library that the port turned.
-LIBRARY = {"RefT": "Bor", "getD": "get_or", "bitOr": "bit_or", "Counts": "IsPrefixLen"}
+LIBRARY = {"RefT": "Bor", "getD": "get_or", "bitOr": "bit_or"}
 PATHS = {"List·Memᴰ": "Memᴰ", "Option·map": "Option.map", "_≡_": "◌≡◌", "_∷_": "◌∷◌"}
 FIELDS = {"ptr": "ref_ptr"}
 NAME = r"([^\s(){};,.:=]+)"
@@ -123,7 +124,8 @@ def tree(text, names):
                 out.append(w)
         return out
 
-    return tuple(group(None))
+    out = tuple(group(None))
+    return out[0][1] if len(out) == 1 and out[0][0] == "(" else out
 
 
 def today(clause, kind, sign):
@@ -164,7 +166,9 @@ def antt(part, whole, tops, names):
             if any(tree(t, names) == tree(u, None) for u in beside):
                 same += 1
             else:
-                show(part, f"{f} {names.get(n, n)}", [t], beside or ["gone"])
+                # (of some with one name the nearest)
+                near = sorted(beside, key=lambda u: -difflib.SequenceMatcher(None, t, u, False).ratio())[:1]
+                show(part, f"{f} {names.get(n, n)}", [t], near or ["gone"])
     print(f"{part}: {count} {'declarations' if whole else 'statements'}, {same} the same")
 
 
