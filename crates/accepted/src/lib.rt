@@ -1,1 +1,3 @@
+#![tactic(auto)]
+
 // What an accepted call gives: theorems, no code.

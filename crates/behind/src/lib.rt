@@ -1,1 +1,3 @@
+#![tactic(auto)]
+
 // The sequences of calls of the C interface, as sequences of public calls. No code.

@@ -117,7 +117,7 @@ module _ (z : Store) (good : good_store z ≡ true) (i : ℕ) where
                         (event_answer (starts w.0) y good_y
                         ∙ subst (λ (d : Event). answer_of p d (state_of y) ≡ answer DONE i 0 0 0) w.1 w.2);
                     stays = unfold same_store in refl;
-                    still_runs_lem = unfold still_runs events_of in refl;
+                    still_running = unfold still_runs events_of in refl;
                   };
             })
 
@@ -172,9 +172,9 @@ module _ (z : Store) (good : good_store z ≡ true) (i : ℕ) where
                     is_start = r.runs.is_start;
                     starting = r.runs.starting;
                     stays = same_more r.between c r.runs.stays e;
-                    still_runs_lem =
+                    still_running =
                         rw (events_append r.between c)
-                        (still_runs_more (plan_of z₁) i (events_of r.between) (event_of c) (state_of z₂) r.runs.still_runs_lem (through t));
+                        (still_runs_more (plan_of z₁) i (events_of r.between) (event_of c) (state_of z₂) r.runs.still_running (through t));
                   };
             })
 

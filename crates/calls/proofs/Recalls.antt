@@ -198,7 +198,7 @@ module _ (z : Store) (good : good_store z ≡ true) (before : List Call) (c : Ca
     on_states =
         search_recency q (plan_good z₁ good₁) (state_of z₁) (state_good z₁ good₁) [] es k i
         (state_starts z₁ good₁ c k i runs.is_start runs.starting)
-        (subst (λ (s : State). still_runs q i es s ≡ true) (state_y z₁ good₁ c k i runs.is_start runs.starting) runs.still_runs_lem)
+        (subst (λ (s : State). still_runs q i es s ≡ true) (state_y z₁ good₁ c k i runs.is_start runs.starting) runs.still_running)
         (ap (λ (a : Answer). a.number) (one_some says₃ done.1) ∙ done.2)
 
     -- The history at the search's start, and since.

@@ -42,7 +42,7 @@ pub record SearchRuns (z : Store) (before : List Call) (c : Call) (between : Lis
   pub is_start : event_of c ≡ starts k
   pub starting : answer_to c (at_start z before) ≡ some (answer DONE i 0 0 0)
   pub stays : same_store between ≡ true
-  pub still_runs_lem : still_runs (plan_of (at_start z before)) i (events_of between) (state_of (started z before c)) ≡ true
+  pub still_running : still_runs (plan_of (at_start z before)) i (events_of between) (state_of (started z before c)) ≡ true
 
 -- What is said of a search whose last step is the call d.
 pub record StoreRecency (z : Store) (before : List Call) (c : Call) (between : List Call) (d : Call) (k i : ℕ) : Type 0 where

@@ -1,1 +1,3 @@
+#![tactic(auto)]
+
 // The demands, proved over all sequences of calls. No code.

@@ -1,4 +1,6 @@
 // The evening's bytes: save and load. Document 01, "Bytes".
+#![tactic(auto)]
+
 ghost use Rattle.std.specs.Prelude.{◌≡◌};
 ghost use Rattle.store.specs.Workers.{LentSized, lent_store};
 ghost use Rattle.image_loading.specs.Loading.{load_outcome};

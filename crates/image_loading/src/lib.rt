@@ -1,4 +1,6 @@
 // What loading does after an image's head: its nodes are read into lent columns, and the load ends with DONE or a refusal.
+#![tactic(auto)]
+
 ghost use Rattle.std.specs.Prelude.{◌≡◌, true, length};
 ghost use Rattle.plan.specs.Sizes.{most_nodes};
 ghost use Rattle.store.specs.StoreRules.{plan_number_test};

@@ -156,13 +156,13 @@ module _ (z : Store) (good : good_store z ≡ true) (declared : Declared z) (cs 
       → ServedAfterCalls z cs sample kept notice
   served-after_calls sample h kept notice begun =
       record {
-        served_if_again = λ again. record { handed_back_lem = e.page_if_same (same.1 again); length_given = l.page_exactly.1 (same.1 again) };
+        served_if_again = λ again. record { hands_back = e.page_if_same (same.1 again); length_given = l.page_exactly.1 (same.1 again) };
         page_only_if_again = λ other q. same.0 (e.page_only_if_same other q);
         length_only_if_again = λ q. same.0 (l.page_exactly.0 q);
         notice_otherwise =
             λ no.
             record {
-              handed_back_lem = e.notice_otherwise (λ all. no (same.0 all));
+              hands_back = e.notice_otherwise (λ all. no (same.0 all));
               length_given = l.none_exactly.1 (λ all. no (same.0 all));
             };
       }

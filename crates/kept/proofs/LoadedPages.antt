@@ -83,7 +83,7 @@ served-after_load z good declared cs ds on sample h none-of-it kept notice begun
     let l = saved_and_loaded (store_after_all cs z) (calls_keep_good cs z good) (calls_keep_declared cs ds z declared) in
     let w = served_while_untouched z good declared cs ds on sample h kept notice begun none-of-it in
     record {
-      handed_back_lem = (l.serves_same other sample).served_same kept notice ∙ w.handed_back_lem;
+      hands_back = (l.serves_same other sample).served_same kept notice ∙ w.hands_back;
       length_given = (l.serves_same other sample).length_same kept.now ∙ w.length_given;
     }
 
@@ -114,4 +114,4 @@ evening_and_morning z declared sample before r after paged done cs ds on none-of
         ap (λ (w : Store). served w sample kept notice) is
         ∙ (served-after_load z d.good declared cs ds on sample d.sample_known none-of-it kept notice
         (page_is_kept z sample r after d kept.now begun) y
-        ).handed_back_lem
+        ).hands_back

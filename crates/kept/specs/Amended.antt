@@ -111,12 +111,12 @@ SampleShowsAgain z cs sample = (a : ℕ) → a < analytes → ShowsAgain z cs (k
 
 -- The store y serves z's page, of the kept bytes.
 pub record PageServed (z y : Store) (sample : ℕ) (kept notice : Bor (List ℕ)) : Type 0 where
-  pub handed_back_lem : ServesPage z y sample kept notice
+  pub hands_back : ServesPage z y sample kept notice
   pub length_given : served_length y sample kept.now ≡ length (page_now z sample)
 
 -- The store y serves none of the kept bytes.
 pub record PageNotServed (y : Store) (sample : ℕ) (kept notice : Bor (List ℕ)) : Type 0 where
-  pub handed_back_lem : ServesNotice y sample kept notice
+  pub hands_back : ServesNotice y sample kept notice
   pub length_given : served_length y sample kept.now ≡ 0
 
 -- After calls on the store z through which it goes on: bytes kept from z are served exactly when every line of the sample shows again what

@@ -60,7 +60,7 @@ pub record Examples : Type 0 where
   pub after_withdrawal : served_after kept_page (entering 180 ∷ withdrawing ∷ []) ≡ 0
   pub entered_again : served_after kept_page (entering 180 ∷ withdrawing ∷ entering 180 ∷ []) ≡ 0
   -- A line that was not shown, entered and then withdrawn: the page is again what it was, and so it is served again.
-  pub entered_since_lem : served_after empty_page (entering 180 ∷ []) ≡ 0
+  pub once_entered : served_after empty_page (entering 180 ∷ []) ≡ 0
   pub hidden_again : served_after empty_page (entering 180 ∷ withdrawing ∷ []) ≡ 2
   -- Served after the store's own image is loaded, and after an older one is loaded in place of the store.
   pub the_image : image (after_fresh 1 (entering 180 ∷ [])) ≡ saved_image

@@ -1,4 +1,6 @@
 // Printed lines: six numbers in decimal with single spaces, and a line feed. Document 01, "A schedule in full".
+#![tactic(auto)]
+
 ghost use Rattle.std.specs.Prelude.{[], ◌∷◌, ◌++◌, ◌+◌, ◌≤◌, length};
 ghost use Rattle.lists.specs.Stands.{Wrote};
 ghost use Rattle.lines.specs.Text.{decimal, most_text};

@@ -1,4 +1,6 @@
 // The household's bytes: page and serve. Document 01, "Bytes".
+#![tactic(auto)]
+
 ghost use Rattle.std.specs.Prelude.{◌≤◌};
 ghost use Rattle.store.specs.Workers.{LentSized, lent_store};
 ghost use Rattle.page_lines.specs.PageLine.{last_sample};

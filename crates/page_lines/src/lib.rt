@@ -1,4 +1,6 @@
 // The lines of a sample's page, node by node: in a node the copies of a sample's lines stand side by side.
+#![tactic(auto)]
+
 ghost use Rattle.std.specs.Prelude.{◌≡◌, [], ◌<◌, ◌≤◌, length};
 ghost use Rattle.plan.specs.Sizes.{most_nodes};
 ghost use Rattle.store.specs.Workers.{Ordered};

@@ -68,7 +68,7 @@ unfolding opened
 shown =
     record {
       lower_key_first = refl;
-      three_entries_lem = refl;
+      counts_three = refl;
       one_held = refl;
       one_discarded = refl;
       one_replaced = refl;

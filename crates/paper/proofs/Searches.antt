@@ -34,7 +34,7 @@ use Rattle.paper.proofs.Upserts.{others_keep, mcs_all}
 -- (4), from a search's start with any history that the structure has there.
 module _ (p : Plan) (rules : PlanRules p) (s : State) (t₀ : ℕ) (H₀ : CopySet) (m : MCS p s t₀ H₀) (k i : ℕ)
     (started : answer_of p (starts k) s ≡ answer DONE i 0 0 0) (between : List Event)
-    (still_runs_lem : still_runs p i between (after p (starts k) s) ≡ true)
+    (still_running : still_runs p i between (after p (starts k) s) ≡ true)
     (done : (answer_of p (steps i) (state_after_all p between (after p (starts k) s))).number ≡ DONE) where
   good : StateRules p s
   good = m.state_rules
@@ -50,7 +50,7 @@ module _ (p : Plan) (rules : PlanRules p) (s : State) (t₀ : ℕ) (H₀ : CopyS
 
   recency : SearchRecency p s [] between k i
   recency =
-      search_recency p rules s good [] between k i (unfold state_after_all in started) (unfold state_after_all in still_runs_lem)
+      search_recency p rules s good [] between k i (unfold state_after_all in started) (unfold state_after_all in still_running)
       (unfold state_after_all in done)
 
   -- The structure at its last step.
@@ -130,7 +130,7 @@ module _ (p : Plan) (rules : PlanRules p) (s : State) (good : StateRules p s) (k
       one_path (λ j. next p j k) (path_is p rules k n (on_path_in_plan p rules k n visits on_path)) rest in
       omega (arith, ap length same, length-drop visits (path p k), on_path.inside)
 
-  module _ (between : List Event) (still_runs_lem : still_runs p i between s ≡ true) where
+  module _ (between : List Event) (still_running : still_runs p i between s ≡ true) where
     abbrev s' : State
     s' = state_after_all p between s
 
@@ -138,7 +138,7 @@ module _ (p : Plan) (rules : PlanRules p) (s : State) (good : StateRules p s) (k
     good_then = events_keep p rules between s good
 
     still : Searches p k t₀ i (own_steps i between + visits) s'
-    still = goes_through_all p rules k t₀ i between s good visits now still_runs_lem
+    still = goes_through_all p rules k t₀ i between s good visits now still_running
 
     -- It has taken fewer own steps than nodes remained,
     pub running_in_time : suc (own_steps i between) ≤ length (path_from p k n)

@@ -68,7 +68,7 @@ pub record Shown : Type 0 where
   -- "taken in rising key order": of two new lines for one free place the lower key is carried.
   pub lower_key_first : (after one_place (carries 0 0) two_new).nodes ≡ (copy 2 RESULT 7 2 ∷ []) ∷ (copy 1 RESULT 7 1 ∷ []) ∷ []
   -- 0 held + 3 entries = 1 held + 1 discarded + 1 replaced
-  pub three_entries_lem : entries chain 5 three_entries (fresh chain) ≡ 3
+  pub counts_three : entries chain 5 three_entries (fresh chain) ≡ 3
   pub one_held : held_of 5 (state_after_all chain three_entries (fresh chain)) ≡ 1
   pub one_discarded : discarded chain 5 three_entries (fresh chain) ≡ 1
   pub one_replaced : replaced_at_root chain 5 three_entries (fresh chain) ≡ 1

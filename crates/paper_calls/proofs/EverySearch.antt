@@ -50,7 +50,7 @@ module _ (z : Store) (good : good_store z ≡ true) (i : ℕ) where
             (record {
               in_slot = r.in_slot;
               stays = same_more cs c r.stays e;
-              still_runs_lem = rw (events_append cs c) (still_runs_more (plan_of z) i (events_of cs) (event_of c) (state_of z) r.still_runs_lem t);
+              still_running = rw (events_append cs c) (still_runs_more (plan_of z) i (events_of cs) (event_of c) (state_of z) r.still_running t);
             })
         go (inr t) =
             let f = follows_events cs z good r.stays in
@@ -79,7 +79,7 @@ module _ (z : Store) (good : good_store z ≡ true) (i : ℕ) where
     from_running at cs d is_step done = go (all_calls_more [] cs (inl begins))
       where
         begins : RunsAtHand z [] k n visits i
-        begins = record { in_slot = at; stays = unfold same_store in refl; still_runs_lem = unfold still_runs events_of in refl }
+        begins = record { in_slot = at; stays = unfold same_store in refl; still_running = unfold still_runs events_of in refl }
 
         go : StillOrNot cs → Finished z cs d i ⊎ FinishedAtHand z cs d i
         go (inr w) = inl (ends_search z good i cs w d is_step done)

@@ -62,7 +62,7 @@ module _ (z : Store) (good : good_store z ≡ true) (between : List Call) (k n v
   on_states : RunningSearch p (state_of z) es k n visits i
   on_states =
       running_search p (plan_good z good) (state_of z) (state_good z good) k n visits i
-      (in_state z i ∙ runs.in_slot) es runs.still_runs_lem
+      (in_state z i ∙ runs.in_slot) es runs.still_running
       (ap (λ (a : Answer). a.number) (one_some says done.1) ∙ done.2)
 
   pub running_recency : RunningRecency z between d k n visits i

@@ -55,7 +55,7 @@ pub record CallSearch (z : Store) (before : List Call) (c : Call) (between : Lis
 pub record RunsAtHand (z : Store) (between : List Call) (k n visits i : ℕ) : Type 0 where
   pub in_slot : get_or z.slots i idle ≡ running k n visits
   pub stays : same_store between ≡ true
-  pub still_runs_lem : still_runs (plan_of z) i (events_of between) (state_of z) ≡ true
+  pub still_running : still_runs (plan_of z) i (events_of between) (state_of z) ≡ true
 
 -- What is said of it when the call d ends it.
 pub record RunningRecency (z : Store) (between : List Call) (d : Call) (k n visits i : ℕ) : Type 0 where

@@ -1,4 +1,6 @@
 // Decoding into a lent list of step records.
+#![tactic(auto)]
+
 ghost use Rattle.std.specs.Prelude.{◌≡◌, ◌≤◌, ◌<◌, length, get_or};
 ghost use Rattle.schedule.specs.Schedule.{most_steps};
 ghost use Rattle.schedule.specs.Running.{no_step};

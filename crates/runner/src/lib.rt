@@ -1,4 +1,6 @@
 // The runner: it does the record at a place of a lent list. Document 01, "Bytes": "The schedule is lent as a list of step records".
+#![tactic(auto)]
+
 ghost use Rattle.std.specs.Prelude.{◌≡◌, get_or};
 ghost use Rattle.store.specs.Workers.{Sized};
 ghost use Rattle.schedule.specs.Schedule.{step_record};

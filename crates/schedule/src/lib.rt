@@ -1,4 +1,6 @@
 // Schedules: step records and their decoding. What running one means is in specs/Running.antt.
+#![tactic(auto)]
+
 pub mod decoding; // decoding.rt: a schedule's bytes into a list of records by value
 
 // "step number and two more, 0 where unused"

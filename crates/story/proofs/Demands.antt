@@ -39,9 +39,9 @@ demand_1 =
       page_buffer_left = page_refused;
       list_left = decode_refused;
       refused-fresh = fresh-refused;
-      refused_load_lem = load_refused;
+      load_refusal = load_refused;
       bad_store = call_on_bad;
-      good_store_lem = call_keeps_good;
+      good_stays = call_keeps_good;
       returns_behind = call_returns;
       behind_the_pointer = calls_behind;
     }

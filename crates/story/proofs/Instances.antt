@@ -154,7 +154,7 @@ is_edge = record { node = lit≤ tt; edge = lit≤ tt }
 
 runs : SearchRuns (fresh_store 1) before_search (start line_key) while_it_runs line_key 0
 unfolding opened
-runs = record { is_start = refl; starting = refl; stays = refl; still_runs_lem = refl }
+runs = record { is_start = refl; starting = refl; stays = refl; still_running = refl }
 
 start_result : current_in (after_fresh 1 before_search) line_key ≡ some older_copy
 unfolding opened

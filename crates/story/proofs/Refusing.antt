@@ -66,7 +66,7 @@ one_outcome =
       fresh_behind = fresh_behind_once;
       step_behind = step_behind_once;
       load_behind = load_behind_once;
-      serve_length_lem = serve_length_once;
+      length_served = serve_length_once;
     }
 
 pub each_refusal : EachRefusal

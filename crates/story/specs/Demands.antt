@@ -81,12 +81,12 @@ pub record Demand1 : Type 0 where
   -- "A refused fresh or load returns a fresh store of plan 1", with its number, and of a load the offset.
   pub refused-fresh :
       (plan : ℕ) → 2 ≤ (fresh_outcome plan).answer.number → fresh_outcome plan ≡ record { answer = bare PLAN; store = fresh_store 1 }
-  pub refused_load_lem :
+  pub load_refusal :
       (bytes : List ℕ) → 2 ≤ (load_outcome bytes).answer.number
       → load_outcome bytes ≡ refused_load (load_outcome bytes).answer.number (load_outcome bytes).answer.a
   -- Every call leaves a bad store as it is, or replaces it by a good one; a good store it keeps good.
   pub bad_store : (c : Call) (z : Store) → good_store z ≡ false → (store_after c z ≡ z) ⊎ (good_store (store_after c z) ≡ true)
-  pub good_store_lem : (c : Call) (z : Store) → good_store z ≡ true → good_store (store_after c z) ≡ true
+  pub good_stays : (c : Call) (z : Store) → good_store z ≡ true → good_store (store_after c z) ≡ true
   -- From C: what each call gives is what the public call returns on the store that it found, refused or not;
   pub returns_behind : (c : CallBehind) (z leaves : Store) → MeetsPromise c z leaves → ReturnsAs c z leaves
   -- the store behind the pointer is what the public calls in their places leave: `fresh 1` for a fresh or load at the pointer itself, if refused.

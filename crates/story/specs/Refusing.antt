@@ -103,7 +103,7 @@ pub record OneOutcome : Type 0 where
   pub load_behind :
       (bytes : List ℕ) (r q : Answer) (after other : Store) → LoadsBehind bytes r after → LoadsBehind bytes q other
       → (r ≡ q) × (after ≡ other)
-  pub serve_length_lem :
+  pub length_served :
       (store : Store) (sample : ℕ) (kept : List ℕ) (r q : ℕ) → ServesLength store sample kept r → ServesLength store sample kept q → r ≡ q
 
 -- "A refusal is given exactly when its line holds and none earlier in the order does."

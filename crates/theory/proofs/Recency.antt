@@ -71,7 +71,7 @@ latest_is p s H c k o i late =
 
 module _ (p : Plan) (rules : PlanRules p) (s : State) (good : StateRules p s) (before between : List Event) (k i : ℕ)
     (started : answer_of p (starts k) (state_after_all p before s) ≡ answer DONE i 0 0 0)
-    (still_runs_lem : still_runs p i between (after p (starts k) (state_after_all p before s)) ≡ true) where
+    (still_running : still_runs p i between (after p (starts k) (state_after_all p before s)) ≡ true) where
   -- The state at the search's start, after it, and at its last step.
   abbrev s₁ : State
   s₁ = state_after_all p before s
@@ -94,7 +94,7 @@ module _ (p : Plan) (rules : PlanRules p) (s : State) (good : StateRules p s) (b
   searches : Searches p k (stamp_of (current p s₁ k)) i (own_steps i between) s₃
   searches =
       rw add-zero at
-      (goes_through_all p rules k (stamp_of (current p s₁ k)) i between s₂ good₂ 0 (just_started p rules s₁ good₁ k i started) still_runs_lem)
+      (goes_through_all p rules k (stamp_of (current p s₁ k)) i between s₂ good₂ 0 (just_started p rules s₁ good₁ k i started) still_running)
 
   -- A search that goes on has made fewer own steps than its key's path has nodes,
   pub fewer_steps : own_steps i between < length (path p k)

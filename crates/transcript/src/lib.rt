@@ -1,4 +1,6 @@
 // The text of a schedule: its bytes are decoded, its steps are run, and their printed lines are written. Document 01, "A schedule in full".
+#![tactic(auto)]
+
 ghost use Rattle.std.specs.Prelude.{◌+◌, ◌*◌, ◌^◌, ◌≤◌, ◌<◌, ◌≡◌, length};
 ghost use Rattle.store.specs.Answers.{DONE};
 ghost use Rattle.store.specs.Promises.{fresh_outcome};

@@ -1,1 +1,3 @@
+#![tactic(auto)]
+
 // Save and load, there and back: theorems, no code.

@@ -44,7 +44,7 @@ ready c =
     let good = sound (goal.at.After-capacity_in c).Else-not-good in
     record {
       good = good;
-      early = omega (arith, c.if-clock-ge-LAST_CLOCK.false);
+      early = omega arith;
       counts_are = refl;
       keys_are = refl;
       capacity_is =
@@ -67,7 +67,7 @@ pub returns-then-clock-ge-LAST_CLOCK : goal.returns-then-clock-ge-LAST_CLOCK
 returns-then-clock-ge-LAST_CLOCK c =
     let a = c.args in
     refused_out (entry a.kind a.key a.value) (lent (goal.at.returns-then-clock-ge-LAST_CLOCK c).Start) CLOCK c.refused-then-clock-ge-LAST_CLOCK.result c.refused-then-clock-ge-LAST_CLOCK.ensures
-    (clock_out (lent (goal.at.returns-then-clock-ge-LAST_CLOCK c).Start) (sound (goal.at.returns-then-clock-ge-LAST_CLOCK c).Else-not-good) a.kind a.key a.value (omega (arith, c.if-clock-ge-LAST_CLOCK.true)))
+    (clock_out (lent (goal.at.returns-then-clock-ge-LAST_CLOCK c).Start) (sound (goal.at.returns-then-clock-ge-LAST_CLOCK c).Else-not-good) a.kind a.key a.value (omega arith))
 
 pub decide-decision-requires : goal.decide-decision-requires
 decide-decision-requires c =
@@ -102,7 +102,7 @@ open-requires-4 c =
     (p.0, omega (arith, p.1), c.requires.stamps_long)
 
 pub overflow_add-result : goal.overflow_add-result
-overflow_add-result c = omega (arith, c.if-clock-ge-LAST_CLOCK.false)
+overflow_add-result c = omega arith
 
 pub returns : goal.returns
 returns c =

@@ -2,7 +2,6 @@
 use mathlib.Core.Path.{◌∙◌}
 use borrow.Author.Tests.{not-true, not-false}
 use Rattle.image_loading.proofs.LoadEnds.{head_refused, head_loads}
-use borrow.Author.Rules.{rules}
 use Rattle.image.proofs.load_lent.Goals as goal
 
 pub returns-then-not-head : goal.returns-then-not-head

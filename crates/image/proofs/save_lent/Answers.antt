@@ -2,13 +2,11 @@
 use mathlib.Core.Path.{◌≡◌, sym, ◌∙◌}
 use mathlib.Core.Bool.{true}
 use native.Mathlib.Omega.{arith}
-use borrow.Author.Tests.{not-true, not-false}
 use Rattle.store.specs.declared.Store.{Store}
 use Rattle.store.specs.StoreRules.{good_store}
 use Rattle.store.specs.Workers.{of_parts}
 use Rattle.store.proofs.GoodNodes.{counts_fit}
 use Rattle.image.proofs.SaveWays.{save_bad, good_nodes, save_small, save_done}
-use borrow.Author.Rules.{rules}
 use Rattle.image.proofs.save_lent.Goals as goal
 use Rattle.image.proofs.save_lent.Goals.{After-good, Else-not-good, Start}
 

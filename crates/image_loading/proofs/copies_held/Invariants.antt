@@ -1,14 +1,10 @@
 -- `image_loading::copies_held` meets its contract.
 use mathlib.Core.Path.{◌≡◌}
 use Prim.Native.Nat.{◌+◌, ◌-◌, ◌*◌, ◌≤◌}
-use native.Mathlib.Omega.{arith}
-use native.Mathlib.Nat.{zero-add}
 use lib.ListN.{drop}
 use Rattle.plan.specs.Sizes.{most_nodes}
 use Rattle.store.specs.Layout.{width}
 use Rattle.image_loading.specs.Loading.{copies_held}
-use Rattle.image_loading.proofs.LoadEnds.{held_turn, held_end}
-use borrow.Author.Rules.{rules}
 use Rattle.image_loading.proofs.copies_held.Given as goal
 
 abbrev pub invariant-loop-n : goal.invariant-loop-n

@@ -1,7 +1,6 @@
 -- `image_loading::finish` meets its contract.
 use mathlib.Core.Path.{◌≡◌, refl, sym, ◌∙◌}
 use mathlib.Core.Bool.{true}
-use borrow.Author.Tests.{not-true, not-false}
 use Rattle.store.specs.declared.Store.{Store}
 use Rattle.store.specs.StoreRules.{good_store}
 use Rattle.store.proofs.Ruling.{good_rules}
@@ -9,7 +8,6 @@ use Rattle.wire.specs.Reading.{got}
 use Rattle.image_loading.specs.Workers.{idle_store}
 use Rattle.store.proofs.GoodNodes.{counts_fit}
 use Rattle.image_loading.proofs.LoadEnds.{finish_trails, finish_breaks, good_idle, finish_done}
-use borrow.Author.Rules.{rules}
 use Rattle.image_loading.proofs.finish.Goals as goal
 use Rattle.image_loading.proofs.finish.Goals.{After-good, Else-not-good, Start}
 

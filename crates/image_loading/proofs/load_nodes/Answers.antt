@@ -3,7 +3,6 @@ use mathlib.Core.Path.{◌∙◌}
 use borrow.Author.Tests.{not-true, not-false}
 use Rattle.plan_table.specs.PlanTable.{plan_numbered}
 use Rattle.image_loading.proofs.LoadEnds.{plan_places, nodes_refused, nodes_loaded, nodes_sized}
-use borrow.Author.Rules.{rules}
 use Rattle.image_loading.proofs.load_nodes.Goals as goal
 
 pub read_nodes-end-requires : goal.read_nodes-end-requires

@@ -1,6 +1,5 @@
 -- `image_loading::refuse` meets its contract.
 use Rattle.image_loading.proofs.LoadEnds.{refused_is}
-use borrow.Author.Rules.{rules}
 use Rattle.image_loading.proofs.refuse.Goals as goal
 
 pub returns : goal.returns

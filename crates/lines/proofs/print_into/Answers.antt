@@ -1,7 +1,6 @@
 -- `lines::print_into` meets its contract.
 use native.Mathlib.Omega.{arith}
 use Rattle.lines.proofs.LineLaws.{line-printed}
-use borrow.Author.Rules.{rules}
 use Rattle.lines.proofs.print_into.Goals as goal
 
 pub returns : goal.returns

@@ -4,7 +4,7 @@ use Prim.Native.Nat.{◌+◌, ◌-◌, ◌≤◌}
 use native.Mathlib.Omega.{arith}
 use borrow.Author.Rules.{rules}
 use Rattle.plan.specs.Sizes.{most_nodes}
-use Rattle.page_lines.proofs.NodeByNode.{LaidFrom, nodes_start, nodes_turn, nodes_end}
+use Rattle.page_lines.proofs.NodeByNode.{nodes_start, nodes_turn, nodes_end}
 use Rattle.page_lines.proofs.current_places.Goals as goal
 
 pub loop-laid-init : goal.loop-laid-init

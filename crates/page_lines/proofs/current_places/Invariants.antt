@@ -1,10 +1,7 @@
 -- `page_lines::current_places` meets its contract. The loop's invariant: so many nodes, from the last on, are laid over.
-use mathlib.Core.Path.{◌≡◌}
-use Prim.Native.Nat.{◌+◌, ◌-◌, ◌≤◌}
-use native.Mathlib.Omega.{arith}
-use borrow.Author.Rules.{rules}
+use Prim.Native.Nat.{◌-◌, ◌≤◌}
 use Rattle.plan.specs.Sizes.{most_nodes}
-use Rattle.page_lines.proofs.NodeByNode.{LaidFrom, nodes_start, nodes_turn, nodes_end}
+use Rattle.page_lines.proofs.NodeByNode.{LaidFrom}
 use Rattle.page_lines.proofs.current_places.Given as goal
 
 abbrev pub invariant-loop-laid : goal.invariant-loop-laid

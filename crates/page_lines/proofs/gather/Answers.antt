@@ -1,7 +1,6 @@
 -- `page_lines::gather` meets its contract. The loop's invariant: the lines gathered, and those of the analytes still to come, are all.
 use mathlib.Core.Path.{sym, ◌∙◌}
-use mathlib.Core.Logic.{⊎_elim}
-use Prim.Native.Nat.{◌-◌, ◌<◌, ◌≤◌}
+use Prim.Native.Nat.{◌<◌}
 use lib.ListN.{get_or}
 use borrow.Author.Rules.{rules}
 use mathlib.Core.List.{[]}
@@ -10,7 +9,7 @@ use Rattle.store.specs.Layout.{state_in}
 use Rattle.store.specs.State.{State}
 use Rattle.page_lines.specs.PageLine.{analytes}
 use Rattle.page_lines.specs.Workers.{OnPaths}
-use Rattle.page_lines.proofs.Gathering.{Gathered, gather_starts, gather_turns, gather_ends}
+use Rattle.page_lines.proofs.Gathering.{gather_starts, gather_turns, gather_ends}
 use Rattle.page_lines.proofs.Gathering.Turn.{never, other, valued}
 use Rattle.page_lines.proofs.gather.Goals as goal
 use Rattle.page_lines.proofs.gather.Goals.{Start, then-place-lt-PLACES+then-has_value, else-place-lt-PLACES, else-place-lt-PLACES-via-then-place-lt-PLACES+else-has_value, else-place-lt-PLACES-via-else-place-lt-PLACES}

@@ -1,17 +1,11 @@
 -- `page_lines::gather` meets its contract. The loop's invariant: the lines gathered, and those of the analytes still to come, are all.
-use mathlib.Core.Path.{sym, ◌∙◌}
-use mathlib.Core.Logic.{⊎_elim}
-use Prim.Native.Nat.{◌-◌, ◌<◌, ◌≤◌}
-use lib.ListN.{get_or}
-use borrow.Author.Rules.{rules}
+use Prim.Native.Nat.{◌-◌, ◌≤◌}
 use mathlib.Core.List.{[]}
 use Rattle.plan.specs.Plan.{Plan}
 use Rattle.store.specs.Layout.{state_in}
-use Rattle.store.specs.State.{State}
 use Rattle.page_lines.specs.PageLine.{analytes}
 use Rattle.page_lines.specs.Workers.{OnPaths}
-use Rattle.page_lines.proofs.Gathering.{Gathered, gather_starts, gather_turns, gather_ends}
-use Rattle.page_lines.proofs.Gathering.Turn.{never, other, valued}
+use Rattle.page_lines.proofs.Gathering.{Gathered}
 use Rattle.page_lines.proofs.gather.Given as goal
 
 abbrev pub invariant-loop-analyte : goal.invariant-loop-analyte

@@ -1,13 +1,13 @@
 -- `page_lines::lay_node` meets its contract. The loop's invariant: what is laid over, with what is still to come, is the whole node's.
 use mathlib.Core.Path.{◌∙◌}
-use Prim.Native.Nat.{ℕ, ◌+◌, ◌-◌, ◌*◌, ◌≤◌}
+use Prim.Native.Nat.{ℕ, ◌+◌, ◌*◌, ◌≤◌}
 use native.Mathlib.Omega.{arith}
 use lib.ListN.{get_or}
 use borrow.Author.Rules.{rules}
 use Rattle.store.specs.Layout.{width}
 use Rattle.store.specs.Workers.{number_in}
 use Rattle.page_lines.specs.PageLine.{analytes}
-use Rattle.page_lines.proofs.NodePlaces.{Laying, lay_starts, lay_low, lay_ends, lay_stops, lay_turns, node-laid}
+use Rattle.page_lines.proofs.NodePlaces.{lay_starts, lay_low, lay_ends, lay_stops, lay_turns, node-laid}
 use Rattle.page_lines.proofs.lay_node.Goals as goal
 use Rattle.page_lines.proofs.lay_node.Goals.{At-loop-at, Else-last-key, Start}
 

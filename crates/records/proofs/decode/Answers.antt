@@ -1,10 +1,6 @@
 -- `records::decode` meets its contract.
-use mathlib.Core.Path.{ap, ◌∙◌, sym}
-use Prim.Native.Nat.{◌≤◌}
-use mathlib.Core.Path.{subst}
-use lib.ListN.{length}
+use mathlib.Core.Path.{ap, ◌∙◌}
 use Rattle.schedule.specs.declared.decoding.Decoded.{Decoded}
-use Rattle.schedule.specs.Schedule.{most_steps}
 use Rattle.records.specs.Filling.{filled}
 use Rattle.records.proofs.FillLaws.{decoded_fits, decoded_answer, decoded_list}
 use Rattle.records.proofs.decode.Goals as goal

@@ -1,11 +1,9 @@
 -- `runner::do_lent` meets its contract.
 use mathlib.Core.Path.{sym, ◌∙◌}
-use borrow.Author.Tests.{not-true, not-false}
 use Rattle.store.specs.declared.Store.{Store}
 use Rattle.store.specs.Workers.{of_parts}
 use Rattle.schedule.proofs.StepLaws.{does_enter, does_withdraw, does_carry, does_start, does_step, does_cancel, does_unknown}
 use Rattle.runner.proofs.RunWays.{does_call, unknown_bad, unknown_op}
-use borrow.Author.Rules.{rules}
 use Rattle.runner.proofs.do_lent.Goals as goal
 use Rattle.runner.proofs.do_lent.Goals.{Start}
 

@@ -1,6 +1,5 @@
 -- `transcript::write_decoded` meets its contract.
 use Rattle.transcript.proofs.TextWriting.{refused_wrote, steps_room, accepted_wrote}
-use borrow.Author.Rules.{rules}
 use Rattle.transcript.proofs.write_decoded.Goals as goal
 
 pub returns-then-answer-ne-DONE : goal.returns-then-answer-ne-DONE

@@ -1,7 +1,5 @@
 -- `transcript::write_steps` meets its contract. The loop's invariant: the printed lines from a place on complete all.
-use Prim.Native.Nat.{◌-◌}
-use Rattle.store.specs.Promises.{fresh_outcome}
-use Rattle.transcript.proofs.TextWriting.{WritingSteps, steps_start, step_fits, steps_turn, steps_end}
+use Rattle.transcript.proofs.TextWriting.{steps_start, step_fits, steps_turn, steps_end}
 use borrow.Author.Rules.{rules}
 use Rattle.transcript.proofs.write_steps.Goals as goal
 

@@ -1,9 +1,7 @@
 -- `page::writing::lay` meets its contract. The loop's invariant: the page's first i bytes were written.
-use Prim.Native.Nat.{◌-◌, ◌≤◌}
 use borrow.Author.Rules.{rules}
-use lib.ListN.{length, take, length-set}
-use Rattle.lists.specs.Stands.{Wrote}
-use Rattle.lists.proofs.Standing.{wrote_nil, wrote_length}
+use lib.ListN.{length-set}
+use Rattle.lists.proofs.Standing.{wrote_nil}
 use Rattle.page.proofs.PageWriting.{lay_turns, lay_ends}
 use Rattle.page.proofs.writing.lay.Goals as goal
 

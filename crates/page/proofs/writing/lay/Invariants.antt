@@ -1,10 +1,7 @@
 -- `page::writing::lay` meets its contract. The loop's invariant: the page's first i bytes were written.
 use Prim.Native.Nat.{◌-◌, ◌≤◌}
-use borrow.Author.Rules.{rules}
-use lib.ListN.{length, take, length-set}
+use lib.ListN.{length, take}
 use Rattle.lists.specs.Stands.{Wrote}
-use Rattle.lists.proofs.Standing.{wrote_nil, wrote_length}
-use Rattle.page.proofs.PageWriting.{lay_turns, lay_ends}
 use Rattle.page.proofs.writing.lay.Given as goal
 
 abbrev pub invariant-loop-i : goal.invariant-loop-i

@@ -1,9 +1,6 @@
 -- `page::writing::starts_with` meets its contract. The loop's invariant: all depends on the bytes from i on.
-use mathlib.Core.Path.{◌≡◌, refl}
-use Prim.Native.Nat.{◌-◌, ◌≤◌}
+use mathlib.Core.Path.{refl}
 use borrow.Author.Rules.{rules}
-use lib.ListN.{length, drop}
-use Rattle.page.specs.PageBytes.{begins}
 use Rattle.page.proofs.PageWriting.{begins_short, begins_turn, begins_differs, begins_ends}
 use Rattle.page.proofs.writing.starts_with.Goals as goal
 

@@ -2,7 +2,6 @@
 use native.Mathlib.Omega.{arith}
 use Rattle.page_lines.specs.PageLine.{page_line}
 use Rattle.page.proofs.PageWriting.{line_long, line_wrote}
-use borrow.Author.Rules.{rules}
 use Rattle.page.proofs.writing.write_line.Goals as goal
 
 pub write_at-after_analyte-requires : goal.write_at-after_analyte-requires

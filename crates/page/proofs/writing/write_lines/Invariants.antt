@@ -1,9 +1,7 @@
 -- `page::writing::write_lines` meets its contract. The loop's invariant: the lines from i on fit, and once written they complete all.
-use Prim.Native.Nat.{ℕ, ◌-◌, ◌≤◌}
-use borrow.Author.Rules.{rules}
-use Rattle.page_lines.specs.PageLine.{PageLine}
-use Rattle.page_lines.specs.Workers.{page_line_in, page_lines_in}
-use Rattle.page.proofs.PageWriting.{WritingLines, lines_start, line_fits, lines_turn, lines_end}
+use Prim.Native.Nat.{◌-◌, ◌≤◌}
+use Rattle.page_lines.specs.Workers.{page_line_in}
+use Rattle.page.proofs.PageWriting.{WritingLines}
 use Rattle.page.proofs.writing.write_lines.Given as goal
 
 abbrev pub invariant-loop-i : goal.invariant-loop-i

@@ -1,7 +1,6 @@
 -- `schedule::decoding::decode_into` meets its contract.
 use mathlib.Core.Path.{◌∙◌}
 use Rattle.schedule.proofs.DecodeWays.{into_small, into_list}
-use borrow.Author.Rules.{rules}
 use Rattle.schedule.proofs.decoding.decode_into.Goals as goal
 
 pub returns-then-room-lt-MOST : goal.returns-then-room-lt-MOST

@@ -3,7 +3,6 @@ use mathlib.Core.Path.{sym, ◌∙◌}
 use borrow.Author.Tests.{not-true, not-false}
 use Rattle.wire.proofs.Chains.{num_got, num_fault}
 use Rattle.schedule.proofs.DecodeWays.{schedule_no_plan, schedule_bad_plan, schedule_steps}
-use borrow.Author.Rules.{rules}
 use Rattle.schedule.proofs.decoding.read_schedule.Goals as goal
 
 pub returns-then-not-plan : goal.returns-then-not-plan

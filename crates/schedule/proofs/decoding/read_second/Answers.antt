@@ -2,7 +2,6 @@
 use mathlib.Core.Path.{sym, ◌∙◌}
 use Rattle.wire.specs.Reading.{num_of}
 use Rattle.schedule.proofs.DecodeWays.{second_read, second_none}
-use borrow.Author.Rules.{rules}
 use Rattle.schedule.proofs.decoding.read_second.Goals as goal
 
 pub returns-then-has_two : goal.returns-then-has_two

@@ -4,7 +4,6 @@ use borrow.Author.Tests.{not-true, not-false}
 use Rattle.wire.proofs.Chains.{num_got, num_fault}
 use Rattle.schedule.specs.Workers.{step_read_of}
 use Rattle.schedule.proofs.DecodeWays.{step_no_number, step_unknown, step_no_x, step_no_y, step_whole}
-use borrow.Author.Rules.{rules}
 use Rattle.schedule.proofs.decoding.read_step.Goals as goal
 
 pub returns-then-not-number : goal.returns-then-not-number

@@ -1,11 +1,9 @@
 -- `schedule::decoding::read_steps` meets its contract.
-use mathlib.Core.Path.{◌≡◌, ◌∙◌}
+use mathlib.Core.Path.{◌≡◌}
 use Prim.Native.Nat.{◌-◌, ◌≤◌}
 use lib.ListN.{length}
-use borrow.Author.Tests.{not-true, not-false}
 use Rattle.schedule.specs.Schedule.{most_steps}
-use Rattle.schedule.proofs.DecodeWays.{step_got, step_fault, Sofar, sofar_start, steps_end, steps_many, steps_fault, sofar_turn}
-use borrow.Author.Rules.{rules}
+use Rattle.schedule.proofs.DecodeWays.{Sofar}
 use Rattle.schedule.proofs.decoding.read_steps.Given as goal
 
 abbrev pub invariant-loop-at : goal.invariant-loop-at

@@ -1,6 +1,5 @@
 -- `schedule::decoding::refused` meets its contract.
 use Rattle.schedule.proofs.DecodeWays.{refused_whole}
-use borrow.Author.Rules.{rules}
 use Rattle.schedule.proofs.decoding.refused.Goals as goal
 
 pub returns : goal.returns

@@ -1,5 +1,6 @@
 -- `store::Store::fresh` meets its contract.
 use mathlib.Core.Path.{sym, ◌∙◌}
+use borrow.Author.Rules.{rules}
 use Rattle.store.proofs.Freshening.{fresh-done, fresh-refused}
 use Rattle.store.proofs.Store.fresh.Goals as goal
 
@@ -9,4 +10,4 @@ returns-then-is_plan c =
 
 pub returns : goal.returns
 returns c =
-    fresh-refused c.args.plan c.bare-2.result c.refused.result (sym c.is_plan.ensures ∙ c.if-is_plan.false) c.bare-2.ensures c.refused.ensures
+    fresh-refused c.args.plan _ _ (sym c.is_plan.ensures ∙ c.if-is_plan.false) c.bare-2.ensures (search rules)
