@@ -193,6 +193,11 @@ fn decoded(out: &mut impl Write) -> io::Result<()> {
     print(out, 13, decode_short(&many, [no_step(); 255]))
 }
 
+// The store after the first step of a schedule.
+fn one_run(steps: [Step; Step::MOST]) -> Store {
+    runner::run_list(fresh(1), steps, 0).store
+}
+
 // Run: the steps of a schedule, OP for the record of zeros after them and for a place outside the list, BADSTORE before OP.
 fn ran(out: &mut impl Write) -> io::Result<()> {
     let bytes = [1, 1, 33, 180, 1, 3, 0, 0];
@@ -201,11 +206,9 @@ fn ran(out: &mut impl Write) -> io::Result<()> {
     let steps = read.list;
     let first = runner::run_list(fresh(1), steps, 0);
     print(out, 14, first.answer)?;
-    let second = runner::run_list(first.store, steps, 1);
-    print(out, 14, second.answer)?;
-    let third = runner::run_list(second.store, steps, 2);
-    print(out, 14, third.answer)?;
-    print(out, 14, runner::run_list(third.store, steps, 256).answer)?;
+    print(out, 14, runner::run_list(first.store, steps, 1).answer)?;
+    print(out, 14, runner::run_list(one_run(steps), steps, 2).answer)?;
+    print(out, 14, runner::run_list(one_run(steps), steps, 256).answer)?;
     print(out, 14, runner::run_list(broken(), steps, 256).answer)
 }
 
