@@ -20,6 +20,16 @@ import sys
 sys.setrecursionlimit(100000)
 # Names of the library that the port turned.
 LIBRARY = {"RefT": "Bor", "getD": "get_or", "bitOr": "bit_or"}
+# Names of SPELLED that were changed once more.
+LATER = {
+    "still_runs_lem": "still_running",
+    "handed_back_lem": "hands_back",
+    "entered_since_lem": "once_entered",
+    "three_entries_lem": "counts_three",
+    "refused_load_lem": "load_refusal",
+    "good_store_lem": "good_stays",
+    "serve_length_lem": "length_served",
+}
 PATHS = {"List·Memᴰ": "Memᴰ", "Option·map": "Option.map", "_≡_": "◌≡◌", "_∷_": "◌∷◌"}
 FIELDS = {"ptr": "ref_ptr"}
 NAME = r"([^\s(){};,.:=]+)"
@@ -79,7 +89,7 @@ def renamed(old, new):
             for x, y in zip(a, b):
                 if out.setdefault(x, y) != y:
                     sys.exit(f"{f}: {x} is {out[x]} and {y}")
-    return out
+    return {x: LATER.get(y, y) for x, y in out.items()}
 
 
 def tree(text, names):

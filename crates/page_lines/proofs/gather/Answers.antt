@@ -1,5 +1,4 @@
 -- `page_lines::gather` meets its contract. The loop's invariant: the lines gathered, and those of the analytes still to come, are all.
-use mathlib.Core.Path.{sym, ◌∙◌}
 use Prim.Native.Nat.{◌<◌}
 use lib.ListN.{get_or}
 use borrow.Author.Rules.{rules}
@@ -10,9 +9,10 @@ use Rattle.store.specs.State.{State}
 use Rattle.page_lines.specs.PageLine.{analytes}
 use Rattle.page_lines.specs.Workers.{OnPaths}
 use Rattle.page_lines.proofs.Gathering.{gather_starts, gather_turns, gather_ends}
+use native.Mathlib.Omega.{arith}
 use Rattle.page_lines.proofs.Gathering.Turn.{never, other, valued}
 use Rattle.page_lines.proofs.gather.Goals as goal
-use Rattle.page_lines.proofs.gather.Goals.{Start, then-place-lt-PLACES+then-has_value, else-place-lt-PLACES, else-place-lt-PLACES-via-then-place-lt-PLACES+else-has_value, else-place-lt-PLACES-via-else-place-lt-PLACES}
+use Rattle.page_lines.proofs.gather.Goals.{Start}
 
 -- The state of the columns lent.
 abbrev lent : Start → State
@@ -36,14 +36,7 @@ loop-analyte-preserved c =
       gather_turns (asked (goal.at.loop-analyte-preserved c).Start) (lent (goal.at.loop-analyte-preserved c).Start) a.sample a.keys.now a.kinds.now a.values.now a.stamps.now c.loop-analyte.analyte
           place c.loop-analyte.lines c.if-place-lt-PLACES.lines h
           (λ p q. places.ensures p q a.kinds.now a.values.now a.stamps.now c.loop-analyte.analyte h) c.loop-analyte.invariant.1
-          (elim c.if-place-lt-PLACES.branch [
-            | then-place-lt-PLACES+then-has_value w ↦ valued w.if-place-lt-PLACES.true (sym w.has_value.ensures ∙ w.if-has_value.true) w.lines-is
-            | else-place-lt-PLACES w ↦
-                elim w.else-place-lt-PLACES.branch [
-                  | else-place-lt-PLACES-via-then-place-lt-PLACES+else-has_value v ↦ other v.if-place-lt-PLACES.true (sym v.has_value.ensures ∙ v.if-has_value.false) w.lines-is
-                  | else-place-lt-PLACES-via-else-place-lt-PLACES v ↦ never v.if-place-lt-PLACES.false w.lines-is
-                ]
-          ]),
+          (grind (arith, never, other, valued)),
     )
 
 pub returns : goal.returns
