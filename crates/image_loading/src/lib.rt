@@ -13,7 +13,7 @@ ghost use Rattle.image_loading.specs.Workers.{lent_loaded, LentFinishes};
 use store::{Answer, Slot, Store};
 
 // What a load into lent columns gives beside them.
-#[derive(Drop)]
+#[derive(Clone, Copy)]
 pub struct Loaded {
     pub answer: Answer,
     pub plan: u32,

@@ -16,7 +16,7 @@ const ANALYTES: u32 = 32;
 const MOST_LINES: usize = ANALYTES as usize;
 
 // The lines of a page in three columns, by rising analyte: the first, as many as the count says.
-#[derive(Drop)]
+#[derive(Clone, Copy)]
 pub struct PageColumns {
     pub count: usize,
     pub analytes: [u32; MOST_LINES],

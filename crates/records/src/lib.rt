@@ -41,7 +41,7 @@ pub fn decode(bytes: &[u8], list: &mut [Step]) -> Answer
 }
 
 // A list of records by value, and decode's answer over it.
-#[derive(Drop)]
+#[derive(Clone, Copy)]
 pub struct Listed {
     pub answer: Answer,
     pub list: [Step; Step::MOST],

@@ -13,7 +13,7 @@ use slots::Moved;
 use store::{Answer, Outcome, Slot, Store};
 
 // What a step on lent columns gives: its answer, and the clock and the slots after it.
-#[derive(Drop)]
+#[derive(Clone, Copy)]
 pub struct Done {
     pub answer: Answer,
     pub clock: u32,

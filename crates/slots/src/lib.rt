@@ -10,7 +10,7 @@ use plan::{Hop, arrays};
 use store::{Answer, Found, Slot, Store, columns};
 
 // An answer, and the slots after it.
-#[derive(Drop)]
+#[derive(Clone, Copy)]
 pub struct Moved {
     pub answer: Answer,
     pub slots: [Slot; Store::SLOTS],

@@ -33,7 +33,7 @@ pub struct Slot {
 
 // The places in four columns; node n has those from WIDTH n on, and uses the first, as many as its count says, by rising key.
 #[repr(C)]
-#[derive(Drop)]
+#[derive(Clone, Copy)]
 pub struct Store {
     pub plan: u32,
     pub clock: u32,
@@ -58,7 +58,7 @@ pub struct Answer {
 
 // What a call that may alter the store gives back.
 #[repr(C)]
-#[derive(Drop)]
+#[derive(Clone, Copy)]
 pub struct Outcome {
     pub answer: Answer,
     pub store: Store,
