@@ -111,11 +111,6 @@ fn two_carries() -> Store {
     carries::carry(with_eight(one, 8), 0, 0).store
 }
 
-// The same, and at the root a copy that replaces one at node 1.
-fn replacing() -> Store {
-    entries::enter(two_carries(), 15, 1).store
-}
-
 // The store of document 01's schedule: key 33 holds 210 at node 1.
 fn worked() -> Store {
     let one = carries::carry(entries::enter(fresh(1), 33, 180).store, 0, 0).store;
@@ -166,8 +161,9 @@ fn carried(out: &mut impl Write) -> io::Result<()> {
     carry(out, fresh(1), 0, 0)?;
     let eight = carry(out, full(), 0, 0)?;
     carry(out, entries::enter(eight, 7, 1).store, 0, 0)?;
-    carry(out, replacing(), 0, 0)?;
-    carry(out, entries::enter(replacing(), LAST, 1).store, 0, 0)?;
+    let replacing = entries::enter(two_carries(), 15, 1).store;
+    carry(out, replacing, 0, 0)?;
+    carry(out, entries::enter(replacing, LAST, 1).store, 0, 0)?;
     Ok(())
 }
 
@@ -178,17 +174,14 @@ fn one_early() -> Store {
     entries::enter(two, 0, 1).store
 }
 
-// Plan 2 with a key of its other edge at the root.
-fn one_high() -> Store {
-    entries::enter(fresh(2), HIGH, 1).store
-}
-
 // Carry: nothing moved, one left; a later copy that replaces one though an earlier had no room; plan 2's edges by key.
 fn carried_by_key(out: &mut impl Write) -> io::Result<()> {
-    carry(out, one_early(), 0, 0)?;
-    carry(out, entries::enter(one_early(), 16, 1).store, 0, 0)?;
-    carry(out, one_high(), 0, 0)?;
-    carry(out, one_high(), 0, 1)?;
+    let early = one_early();
+    carry(out, early, 0, 0)?;
+    carry(out, entries::enter(early, 16, 1).store, 0, 0)?;
+    let high = entries::enter(fresh(2), HIGH, 1).store;
+    carry(out, high, 0, 0)?;
+    carry(out, high, 0, 1)?;
     Ok(())
 }
 
@@ -219,8 +212,9 @@ fn busy() -> Store {
 fn started(out: &mut impl Write) -> io::Result<()> {
     let first = start(out, fresh(1), 33)?;
     start(out, first, 33)?;
-    start(out, busy(), 33)?;
-    start(out, searches::cancel(busy(), 5).store, 33)?;
+    let all = busy();
+    start(out, all, 33)?;
+    start(out, searches::cancel(all, 5).store, 33)?;
     start(out, broken(), 33)?;
     Ok(())
 }
@@ -229,8 +223,8 @@ fn started(out: &mut impl Write) -> io::Result<()> {
 fn stepped(out: &mut impl Write) -> io::Result<()> {
     let first = step(out, searches::start(fresh(2), 33).store, 0)?;
     let second = step(out, first, 0)?;
-    let third = step(out, second, 0)?;
-    step(out, third, 8)?;
+    step(out, second, 0)?;
+    step(out, second, 8)?;
     step(out, broken(), 8)?;
     step(out, searches::start(fresh(2), HIGH).store, 0)?;
     Ok(())
@@ -247,9 +241,9 @@ fn stepped_to_a_copy(out: &mut impl Write) -> io::Result<()> {
 // Cancel: DONE, IDLE, SLOT, BADSTORE.
 fn cancelled(out: &mut impl Write) -> io::Result<()> {
     let first = cancel(out, searches::start(fresh(1), 33).store, 0)?;
-    let second = cancel(out, first, 0)?;
-    let third = cancel(out, second, 7)?;
-    cancel(out, third, 8)?;
+    cancel(out, first, 0)?;
+    cancel(out, first, 7)?;
+    cancel(out, first, 8)?;
     cancel(out, broken(), 8)?;
     Ok(())
 }

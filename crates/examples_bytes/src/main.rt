@@ -193,11 +193,6 @@ fn decoded(out: &mut impl Write) -> io::Result<()> {
     print(out, 13, decode_short(&many, [no_step(); 255]))
 }
 
-// The store after the first step of a schedule.
-fn one_run(steps: [Step; Step::MOST]) -> Store {
-    runner::run_list(fresh(1), steps, 0).store
-}
-
 // Run: the steps of a schedule, OP for the record of zeros after them and for a place outside the list, BADSTORE before OP.
 fn ran(out: &mut impl Write) -> io::Result<()> {
     let bytes = [1, 1, 33, 180, 1, 3, 0, 0];
@@ -207,8 +202,8 @@ fn ran(out: &mut impl Write) -> io::Result<()> {
     let first = runner::run_list(fresh(1), steps, 0);
     print(out, 14, first.answer)?;
     print(out, 14, runner::run_list(first.store, steps, 1).answer)?;
-    print(out, 14, runner::run_list(one_run(steps), steps, 2).answer)?;
-    print(out, 14, runner::run_list(one_run(steps), steps, 256).answer)?;
+    print(out, 14, runner::run_list(first.store, steps, 2).answer)?;
+    print(out, 14, runner::run_list(first.store, steps, 256).answer)?;
     print(out, 14, runner::run_list(broken(), steps, 256).answer)
 }
 
@@ -266,11 +261,12 @@ fn ran_entries(out: &mut impl Write) -> io::Result<()> {
 fn ran_searches(out: &mut impl Write) -> io::Result<()> {
     let start = [1, 4, 33];
     run(out, fresh(1), &start)?;
-    run(out, busy(), &start)?;
+    let all = busy();
+    run(out, all, &start)?;
     let step = [1, 5, 0];
-    run(out, busy(), &step)?;
+    run(out, all, &step)?;
     let cancel = [1, 6, 7];
-    run(out, busy(), &cancel)?;
+    run(out, all, &cancel)?;
     run(out, fresh(1), &cancel)?;
     let slot = [1, 6, 8];
     run(out, fresh(1), &slot)
