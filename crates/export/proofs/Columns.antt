@@ -103,12 +103,22 @@ module _ (b o : ℕ) (h : Store) where
   abbrev pub stamps_ref : Bor (List ℕ)
   stamps_ref = record { ref_ptr = (b, o + stamps_at); now = h.stamps }
 
--- What a reference to a part owns, by the part's type; of a `&`, it is this.
-abbrev pub Owning : Type 1
-Owning = (F : RattleType) → Bor F.Denot → Fml
-
-abbrev pub OwnRef : Lft → Owning
+-- What a `&` to a part owns.
+abbrev pub OwnRef : Lft → (F : RattleType) → Bor F.Denot → Fml
 OwnRef κ F x = (ShrRef (named 0) κ F).own_val x (vptr x.ref_ptr.0 x.ref_ptr.1 ∷ [])
+
+-- What references to the five columns own, each; and five `&`.
+abbrev pub Owning : Type 1
+Owning = Fml × (Fml × (Fml × (Fml × Fml)))
+
+abbrev pub OwnRefs : Lft → (b o : ℕ) → Store → Owning
+OwnRefs κ b o h = (
+  OwnRef κ Counts (counts_ref b o h),
+  (
+    OwnRef κ Column (keys_ref b o h),
+    (OwnRef κ Column (kinds_ref b o h), (OwnRef κ Column (values_ref b o h), OwnRef κ Column (stamps_ref b o h))),
+  ),
+)
 
 -- What a `&` to a store holds of it.
 abbrev pub Held : Lft → (b o : ℕ) → Store → Fml
@@ -116,13 +126,11 @@ Held κ b o h = hidden_shr S.the_row κ h b o
 
 module _ {M : Type 1} {𝓤 : Ura M} (𝓛 : Logic 𝓤) where
   -- The five references to the columns.
-  abbrev pub Refs : (own : Owning) (b o : ℕ) (h : Store) → Item 𝓤
-  Refs own b o h =
-      ‵ (own Counts (counts_ref b o h)) ⊛ ‵ (own Column (keys_ref b o h)) ⊛ ‵ (own Column (kinds_ref b o h))
-      ⊛ ‵ (own Column (values_ref b o h)) ⊛ ‵ (own Column (stamps_ref b o h))
+  abbrev pub Refs : Owning → Item 𝓤
+  Refs own = ‵ own.0 ⊛ ‵ own.1.0 ⊛ ‵ own.1.1.0 ⊛ ‵ own.1.1.1.0 ⊛ ‵ own.1.1.1.1
 
   abbrev pub Lent : (κ : Lft) (b o : ℕ) (h : Store) → Item 𝓤
-  Lent κ = Refs (OwnRef κ)
+  Lent κ b o h = Refs (OwnRefs κ b o h)
 
 module _ {M : Type 1} {𝓤 : Ura M} (𝓛 : Logic 𝓤) (κ : Lft) (q : Share) (b o : ℕ) (h : Store) where
   open 𝓛 use {H, A}
@@ -210,18 +218,17 @@ store_vals b o h x = (
 )
 
 -- What a call owns that is given a store so: its plan and clock, the five references, its slots, and the rest.
-abbrev pub OwnsStore : (own : Owning) (b o : ℕ) (h : Store) → Fml → Fml
-OwnsStore own b o h rest =
+abbrev pub OwnsStore : Owning → Store → Fml → Fml
+OwnsStore own h rest =
     fsep (u32.own_val h.plan (vint w32 h.plan ∷ [])) (fsep (u32.own_val h.clock (vint w32 h.clock ∷ []))
-    (fsep (own Counts (counts_ref b o h)) (fsep (own Column (keys_ref b o h)) (fsep (own Column (kinds_ref b o h))
-    (fsep (own Column (values_ref b o h)) (fsep (own Column (stamps_ref b o h)) (fsep (Slots.own_val h.slots (slots_val h ∷ [])) rest)))))))
+    (fsep own.0 (fsep own.1.0 (fsep own.1.1.0 (fsep own.1.1.1.0 (fsep own.1.1.1.1 (fsep (Slots.own_val h.slots (slots_val h ∷ [])) rest)))))))
 
 module _ {M : Type 1} {𝓤 : Ura M} (𝓛 : Logic 𝓤) where
-  pub owns_refs : (own : Owning) (b o : ℕ) (h : Store) → Is S.the_row h (store_val h ∷ []) → (rest : Fml)
-      → ent 𝓤 (sep 𝓤 (mean 𝓛 (Refs 𝓛 own b o h)) (sem 𝓛 rest)) (sem 𝓛 (OwnsStore own b o h rest))
-  owns_refs own b o h is rest =
+  pub owns_refs : (own : Owning) (h : Store) → Is S.the_row h (store_val h ∷ []) → (rest : Fml)
+      → ent 𝓤 (sep 𝓤 (mean 𝓛 (Refs 𝓛 own)) (sem 𝓛 rest)) (sem 𝓛 (OwnsStore own h rest))
+  owns_refs own h is rest =
       let are = LL.owed S.the_type S'.the_laws h _ is in
-      qed 𝓛 (Refs 𝓛 own b o h ∷ ‵ rest ∷ []) ∵
+      qed 𝓛 (Refs 𝓛 own ∷ ‵ rest ∷ []) ∵
       split ! $ move ! (1 ∷ []) $ split ! $ move ! (1 ∷ []) $ split ! $ move ! (1 ∷ []) $ split ! $ move ! (1 ∷ []) $
       -- [what the reference to the stamps owns; to the values; the kinds; the keys; the counts; the rest]
       move ! (5 ∷ []) $
@@ -232,5 +239,5 @@ module _ {M : Type 1} {𝓤 : Ura M} (𝓛 : Logic 𝓤) where
       owned ! u32 (Is u32) (uint_Makes 𝓛 w32) h.plan _ are.0 $ fjoin ! $ done !
 
   pub owns_store : (κ : Lft) (b o : ℕ) (h : Store) → Is S.the_row h (store_val h ∷ []) → (rest : Fml)
-      → ent 𝓤 (sep 𝓤 (mean 𝓛 (Lent 𝓛 κ b o h)) (sem 𝓛 rest)) (sem 𝓛 (OwnsStore (OwnRef κ) b o h rest))
-  owns_store κ = owns_refs (OwnRef κ)
+      → ent 𝓤 (sep 𝓤 (mean 𝓛 (Lent 𝓛 κ b o h)) (sem 𝓛 rest)) (sem 𝓛 (OwnsStore (OwnRefs κ b o h) h rest))
+  owns_store κ b o h = owns_refs (OwnRefs κ b o h) h

@@ -39,7 +39,7 @@ use Rattle.store.proofs.Slot.TheLaws as Q'
 use Rattle.store.specs.contracts.Store as S
 use Rattle.store.proofs.Store.TheLaws as S'
 use Rattle.export.proofs.Values.{store_val, slots_val}
-use Rattle.export.proofs.Columns.{counts_at, keys_at, kinds_at, values_at, stamps_at, sized, slots_are, OwnRef, Held, Lent, AllLent, lends, OwnsStore, owns_store}
+use Rattle.export.proofs.Columns.{counts_at, keys_at, kinds_at, values_at, stamps_at, sized, slots_are, OwnRefs, Held, Lent, AllLent, lends, OwnsStore, owns_store}
 
 -- Where the locals lie: plan, clock, counts, keys, kinds, values, stamps, slots.
 abbrev Blocks : Type 0
@@ -223,7 +223,7 @@ module _ {M : Type 1} {𝓤 : Ura M} {𝓛 : Logic 𝓤} {K : Type 0} {Γ : List
 module _ {M : Type 1} {𝓤 : Ura M} (𝓛 : Logic 𝓤) (κ : Lft) (b o : ℕ) (h : Store) (Tokens : Item 𝓤) (rest : Fml) where
   -- What the worker asks: the tokens, what its parameters own, and that the columns have their lengths.
   abbrev Asked : SProp 𝓤
-  Asked = sep 𝓤 (sep 𝓤 (mean 𝓛 Tokens) (sem 𝓛 (OwnsStore (OwnRef κ) b o h rest)))
+  Asked = sep 𝓤 (sep 𝓤 (mean 𝓛 Tokens) (sem 𝓛 (OwnsStore (OwnRefs κ b o h) h rest)))
       (fact 𝓤 (Sized h.counts h.keys h.kinds h.values h.stamps))
 
   asks : Is S.the_row h (store_val h ∷ []) → ent 𝓤 (⋆ 𝓛 (Tokens ∷ Lent 𝓛 κ b o h ∷ ‵ rest ∷ [])) Asked
