@@ -28,7 +28,7 @@ use Rattle.page.specs.Promises.{page_now, page_answer, page_buffer, Pages, still
 use Rattle.page.proofs.PageLength.{page_length, page_some}
 use Rattle.page.proofs.PageWriting.{begins_long}
 use Rattle.page.proofs.KeptLines.{same-page}
-use Rattle.page.proofs.Served.{serves_notice}
+use Rattle.page.proofs.Served.{still_true_is, serves_notice}
 
 -- ---- the check
 
@@ -119,22 +119,18 @@ module _ (z : Store) (sample : ℕ) (kept : List ℕ) where
   length_page f = rw f
 
   pub length_bad_store : good_store z ≡ false → ServesLength z sample kept 0
-  unfolding still_true
-  length_bad_store bad = sym (length_none (rw bad))
+  length_bad_store bad = sym (length_none (rw (still_true_is z sample kept, bad)))
 
   module _ (good : good_store z ≡ true) where
     pub length_bad_sample : last_sample < sample → ServesLength z sample kept 0
-    unfolding still_true
-    length_bad_sample large = sym (length_none (rw (good, lt-leb sample last_sample large)))
+    length_bad_sample large = sym (length_none (rw (still_true_is z sample kept, good, lt-leb sample last_sample large)))
 
     module _ (small : sample ≤ last_sample) {n : ℕ} {scratch : List ℕ} (h : Holds (page_now z sample) n scratch) where
       pub length_stale : begins kept (take n scratch) ≡ false → ServesLength z sample kept 0
-      unfolding still_true
-      length_stale f = sym (length_none (rw (good, le-leb sample last_sample small, ← h.begin) f))
+      length_stale f = sym (length_none (rw (still_true_is z sample kept, good, le-leb sample last_sample small, ← h.begin) f))
 
       pub length-fresh : begins kept (take n scratch) ≡ true → ServesLength z sample kept n
-      unfolding still_true
-      length-fresh t = h.long ∙ sym (length_page (rw (good, le-leb sample last_sample small, ← h.begin) t))
+      length-fresh t = h.long ∙ sym (length_page (rw (still_true_is z sample kept, good, le-leb sample last_sample small, ← h.begin) t))
 
 -- ---- serve
 
@@ -157,10 +153,9 @@ module _ (z : Store) (sample : ℕ) (kept notice : Bor (List ℕ)) {n : ℕ} (to
       (sym (ap (λ (h : Handed). h.0) e), sym (ap (λ (h : Handed). h.1) e))
 
   pub serve_fits : 0 < n → n ≤ length kept.now
-  unfolding still_true
   serve_fits g =
       let f = some_true g in
-      let b = and_right (good_store z && leb sample last_sample) (begins kept.now (page_now z sample)) f in
+      let b = and_right (good_store z && leb sample last_sample) (begins kept.now (page_now z sample)) (sym (still_true_is z sample kept.now) ∙ f) in
       omega (arith, told, length_page z sample kept.now f, begins_long kept.now (page_now z sample) b)
 
   pub serve_kept : 0 < n → (kept.ref_ptr ≡ (served z sample kept notice).0) × (take n kept.now ≡ (served z sample kept notice).1)
