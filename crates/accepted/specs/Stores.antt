@@ -1,7 +1,7 @@
 -- What an accepted fresh, start, step and cancel give. Document 01, "What each step does" and "Answer numbers".
 use Rattle.std.specs.Prelude.{◌≡◌, [], ◌≢◌, ℕ, suc, ◌<◌, get_or, set}
 use Rattle.std.proofs.Math.Option.{none, some}
-use Rattle.plan.specs.declared.Hop.TheVariants.{To, Ends}
+use Rattle.std.specs.Prelude.{Some, None}
 use Rattle.plan.specs.Plan.{next}
 use Rattle.store.specs.declared.Copy.{Copy}
 use Rattle.store.specs.declared.Outcome.{Outcome}
@@ -46,7 +46,7 @@ pub record WentOn (z : Store) (slot : ℕ) (r : Outcome) : Type 0 where
   pub node : ℕ
   pub visits : ℕ
   pub nothing : line (state_of z) (slot_of z slot).key (slot_of z slot).node ≡ none
-  pub onward : next (plan_of z) (slot_of z slot).node (slot_of z slot).key ≡ To node
+  pub onward : next (plan_of z) (slot_of z slot).node (slot_of z slot).key ≡ Some node
   pub counted : visits ≡ suc (slot_of z slot).visits
   pub answered : r.answer ≡ answer GOING node visits 0 0
   pub stored : OnlySlot z slot (running (slot_of z slot).key node visits) r.store
@@ -57,7 +57,7 @@ pub record EndedSearch (z : Store) (slot : ℕ) (r : Outcome) : Type 0 where
   pub found : (x : Copy) → line (state_of z) (slot_of z slot).key (slot_of z slot).node ≡ some x
       → r.answer ≡ answer DONE (suc x.kind) x.value x.stamp (suc (slot_of z slot).visits)
   pub never : line (state_of z) (slot_of z slot).key (slot_of z slot).node ≡ none → r.answer ≡ answer DONE 0 0 0 (suc (slot_of z slot).visits)
-  pub last : line (state_of z) (slot_of z slot).key (slot_of z slot).node ≡ none → next (plan_of z) (slot_of z slot).node (slot_of z slot).key ≡ Ends
+  pub last : line (state_of z) (slot_of z slot).key (slot_of z slot).node ≡ none → next (plan_of z) (slot_of z slot).node (slot_of z slot).key ≡ None
   pub answered : r.answer ≡ ended (line (state_of z) (slot_of z slot).key (slot_of z slot).node) (suc (slot_of z slot).visits)
   pub stored : OnlySlot z slot idle r.store
 

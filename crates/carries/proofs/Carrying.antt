@@ -4,8 +4,8 @@ use mathlib.Core.Bool.{true}
 use mathlib.Core.List.{List, [], ◌∷◌, ◌++◌, map}
 use Prim.Native.Nat.{ℕ, ◌+◌, ◌-◌, ◌*◌, ◌<◌, ◌≤◌}
 use native.Mathlib.Omega.{arith}
-use lib.ListN.{length, get_or, set, take, replicate, length-map, length-set}
-use lib.Seq.{sets, set_comm, set-get_or, length-take-le, get_or-set_other}
+use lib.ListN.{length, get_or, set, replicate, length-map, length-set}
+use lib.Seq.{sets, set_comm, get_or-set_other}
 use borrow.Author.Tests.{lt-ltb, le-ltb}
 use Rattle.lists.specs.Indexed.{tabulate}
 use Rattle.lists.proofs.Tabulating.{map-tabulate}
@@ -13,8 +13,11 @@ use Rattle.plan.specs.declared.Edge.{Edge}
 use Rattle.plan.specs.Sizes.{most_nodes}
 use Rattle.plan.specs.Plan.{Plan, no_edge, size, capacity_of, edges_of, edge_of}
 use Rattle.plan.specs.PlanRules.{IsEdge}
-use Rattle.plan.specs.PlanArrays.{Grid, RowsOf, at_node, edge_count_in, edges_in, capacities_row, counts_row}
+use Rattle.plan.specs.PlanArrays.{RowsOfPlan, at_node, edge_count_in, row_edges, edge_numbered, rows_of}
+use Rattle.plan.specs.declared.rows.Rows.{Rows}
+use Rattle.plan.proofs.ArrayLaws.{edge_is, edge_some, edge_none}
 use Rattle.plan.proofs.RowsLent.{capacity_of_lem, count_of_lem, edge_here}
+use native.Mathlib.Decide.{dec_lt}
 use Rattle.plan_table.specs.PlanTable.{plan_numbered}
 use Rattle.store.specs.declared.Answer.{Answer}
 use Rattle.store.specs.declared.Copy.{Copy}
@@ -27,27 +30,25 @@ use Rattle.store.specs.StoreRules.{good_store}
 use Rattle.store.specs.Calls.{on_store}
 use Rattle.store.specs.Workers.{Within, number_in, itself}
 use Rattle.store.proofs.Laying.{OneNode, set_one, node-laid, node_grown, counts_written, store_is, state_node, state_count, length_nodes, state_clock, state_slots}
-use Rattle.store.proofs.WhichPlan.{plan_numbered_lem, capacities_known}
+use Rattle.store.proofs.WhichPlan.{rows_here, capacities_here}
 use Rattle.store.proofs.Lifting.{plan_good, state_good, on_way, on_refusal}
 use Rattle.store.proofs.GoodNodes.{counts_fit, node_rises, counts_are, keys_are, kinds_are, values_are, stamps_are}
 use Rattle.steps.specs.Carries.{Merged, count_held, merge_along, carried_to, carried_out, carry_step}
 use Rattle.steps.proofs.Merges.{merging, stay_short, target_long}
 use Rattle.steps.proofs.CarryLaws.{carry_done}
-use Rattle.merges.specs.declared.Merge.{Merge}
-use Rattle.merges.specs.Decisions.{span, places_merged, Ready, Decided}
+use Rattle.merges.specs.declared.Lists.{Lists}
+use Rattle.merges.specs.Decisions.{places_in, places_merged, Ready, Decided}
 use Rattle.merges.proofs.Passing.{span-length}
-use Rattle.carries.specs.declared.settling.Settled.{Settled}
 use Rattle.moves.specs.Writings.{gather, Movable, carried_column}
-use Rattle.carries.specs.Settlings.{nothing, settled_column, settled_store, Settles, Carriable}
+use Rattle.std.specs.Prelude.{Some, None}
+use Rattle.carries.specs.Settlings.{copies_at, settled_store, Settles, Carriable}
 use Rattle.carries.proofs.Mapping.{mapped, merge-map, count_map}
 use Rattle.carries.proofs.InPlace.{together, movable}
 
 -- A node's copies are the copies at its places.
-at_places : (z : Store) (n : ℕ) → node_of z n ≡ map (copy_of z) (span (width * n) (width * n + count_of z n))
+at_places : (z : Store) (n : ℕ) → node_of z n ≡ map (copy_of z) (places_in (copies_at z n))
 unfolding node_in
-at_places z n =
-    let c : width * n + count_of z n - width * n ≡ count_of z n = omega arith in
-    rw c (sym (map-tabulate (copy_of z) itself (width * n) (count_of z n)))
+at_places z n = sym (map-tabulate (copy_of z) itself (width * n) (count_of z n))
 
 -- The numbers of a column at some places are those of the copies there.
 gathered : (part : Copy → ℕ) (copies : ℕ → Copy) (c : List ℕ) → ((j : ℕ) → number_in c j ≡ part (copies j)) → (list : List ℕ)
@@ -118,7 +119,7 @@ module _ (z : Store) (good : good_store z ≡ true) (n i : ℕ) (d : IsEdge (pla
     held_within = omega (arith, capacity_is, (state_good z good).counts_within_capacity t target_there, state_count z t target_there)
 
     -- Its two nodes can be merged.
-    store_ready : Ready z.keys capacity (width * n) (count_of z n) (width * t) (count_of z t)
+    store_ready : Ready z.keys capacity (copies_at z n) (copies_at z t)
     store_ready =
         let few = node_few in
         let fewer = target_few in
@@ -135,7 +136,7 @@ module _ (z : Store) (good : good_store z ≡ true) (n i : ℕ) (d : IsEdge (pla
 
     -- The merge of their places, and of their copies.
     abbrev places_merged_lem : Merged ℕ
-    places_merged_lem = places_merged z.keys capacity e (width * n) (count_of z n) (width * t) (count_of z t)
+    places_merged_lem = places_merged z.keys capacity e (copies_at z n) (copies_at z t)
 
     abbrev copies_merged : Merged Copy
     copies_merged = mapped (copy_of z) places_merged_lem
@@ -144,28 +145,27 @@ module _ (z : Store) (good : good_store z ≡ true) (n i : ℕ) (d : IsEdge (pla
     unfolding merge_along
     copied =
         rw (state_node z n node_there, state_node z t target_there, at_places z n, at_places z t, ← capacity_is)
-        (merge-map key_of (copy_of z) capacity e (span (width * n) (width * n + count_of z n)) (span (width * t) (width * t + count_of z t)))
+        (merge-map key_of (copy_of z) capacity e (places_in (copies_at z n)) (places_in (copies_at z t)))
 
-    module _ {stay target : List ℕ} {m : Merge} (decided : Decided places_merged_lem stay target m) where
-      kept_is : m.kept ≡ length places_merged_lem.stay
-      kept_is =
-          sym (length-take-le m.kept stay (omega (arith, decided.stays.long, decided.stays.counted))) ∙ ap length decided.stays.listed
+    module _ {lists : Lists} (decided : Decided places_merged_lem lists) where
+      abbrev kept : ℕ
+      kept = length lists.stay.items
 
-      got_is : m.got ≡ length places_merged_lem.target
-      got_is =
-          sym (length-take-le m.got target (omega (arith, decided.gets.long, decided.gets.counted))) ∙ ap length decided.gets.listed
+      abbrev got : ℕ
+      got = length lists.target.items
 
-      kept_listed : m.kept ≡ length (take m.kept stay)
-      kept_listed = kept_is ∙ ap length (sym decided.stays.listed)
+      kept_is : kept ≡ length places_merged_lem.stay
+      kept_is = ap length decided.stays
+
+      got_is : got ≡ length places_merged_lem.target
+      got_is = ap length decided.gets
 
       -- The node's count falls, the target's rises, by no more.
-      counts_go : (m.kept ≤ count_of z n) × (count_of z t ≤ m.got) × (m.got - count_of z t ≤ count_of z n - m.kept)
+      counts_go : (kept ≤ count_of z n) × (count_of z t ≤ got) × (got - count_of z t ≤ count_of z n - kept)
       counts_go =
-          let xs = span (width * n) (width * n + count_of z n) in
-          let ys = span (width * t) (width * t + count_of z t) in
-          let w = merging (number_in z.keys) capacity e xs ys in
-          let a = span-length (width * n) (width * n + count_of z n) in
-          let b = span-length (width * t) (width * t + count_of z t) in
+          let w = merging (number_in z.keys) capacity e (places_in (copies_at z n)) (places_in (copies_at z t)) in
+          let a = span-length (width * n) (count_of z n) in
+          let b = span-length (width * t) (count_of z t) in
           let k = kept_is in
           let g = got_is in
           let short = stay_short (number_in z.keys) capacity e w in
@@ -174,13 +174,13 @@ module _ (z : Store) (good : good_store z ≡ true) (n i : ℕ) (d : IsEdge (pla
           (omega arith, omega arith, omega arith)
 
       -- The columns can be written in place.
-      column_movable : Movable (take m.kept stay) (take m.got target) (width * n) (count_of z n) (width * t)
+      column_movable : Movable lists.stay.items lists.target.items (copies_at z n) (width * t)
       column_movable =
-          rw (decided.stays.listed, decided.gets.listed)
-          (movable (number_in z.keys) capacity e (width * n) (count_of z n) (width * t) (count_of z t)
-          (omega (arith, target_below, counts_fit z good n node_few)) (omega (arith, got_is, decided.gets.counted, target_few)))
+          rw (decided.stays, decided.gets)
+          (movable (number_in z.keys) capacity e (copies_at z n) (copies_at z t)
+          (omega (arith, target_below, counts_fit z good n node_few)) (omega (arith, got_is, decided.counted, target_few)))
 
-      stays_within : Within (take m.kept stay) places
+      stays_within : Within lists.stay.items places
       stays_within j h = omega (arith, column_movable.low j h, target_few)
 
       -- The copies that then stay, and those that the target has.
@@ -190,10 +190,10 @@ module _ (z : Store) (good : good_store z ≡ true) (n i : ℕ) (d : IsEdge (pla
       abbrev ys : List Copy
       ys = map (copy_of z) places_merged_lem.target
 
-      stay_count : length xs ≡ m.kept
+      stay_count : length xs ≡ kept
       stay_count = length-map places_merged_lem.stay (copy_of z) ∙ sym kept_is
 
-      target_count : length ys ≡ m.got
+      target_count : length ys ≡ got
       target_count = length-map places_merged_lem.target (copy_of z) ∙ sym got_is
 
       node-apart : n ≡ t → ⊥
@@ -201,111 +201,76 @@ module _ (z : Store) (good : good_store z ≡ true) (n i : ℕ) (d : IsEdge (pla
 
       -- One column after the carry.
       column-after : (part : Copy → ℕ) (c : List ℕ) → part no_copy ≡ 0 → c ≡ column part s.nodes → ((j : ℕ) → number_in c j ≡ part (copy_of z j))
-          → (r : List ℕ) → r ≡ carried_column c (take m.kept stay) (take m.got target) (width * n) (count_of z n) (width * t)
-          → r ≡ column part (set (set s.nodes n xs) t ys)
+          → carried_column c lists.stay.items lists.target.items (copies_at z n) (width * t) ≡ column part (set (set s.nodes n xs) t ys)
       unfolding carried_column
-      column-after part c zero c-is of r r-is =
+      column-after part c zero c-is of =
           let go = counts_go in
           let a = stay_count in
           let b = target_count in
           let l = length_nodes z in
           let there = target_there in
           let here = node_there in
-          r-is
-          ∙ rw (
-            ← kept_listed,
-            decided.stays.listed,
-            decided.gets.listed,
+          let k = kept_is in
+          rw (
+            decided.stays,
+            decided.gets,
             gathered part (copy_of z) c of places_merged_lem.stay,
             gathered part (copy_of z) c of places_merged_lem.target,
             c-is,
           )
-          (column_written s.nodes n t xs ys (omega arith) (omega arith) node-apart part zero (count_of z n - m.kept) node_few target_few
+          (column_written s.nodes n t xs ys (omega arith) (omega arith) node-apart part zero (count_of z n - length places_merged_lem.stay) node_few target_few
           (omega (arith, state_count z n here)) (omega (arith, counts_fit z good n node_few)) (omega (arith, state_count z t there))
-          (omega (arith, decided.gets.counted)))
+          (omega (arith, decided.counted)))
 
       -- The store after the carry, and its answer.
-      carry_is : (a : Answer) (left : ℕ) (keys kinds values stamps : List ℕ)
-          → a ≡ answer DONE (count_of z n - m.kept) (count_of z n - m.kept - (m.got - count_of z t)) left 0
-          → left ≡ count_held (number_in z.keys) e (take m.kept stay)
-          → keys ≡ carried_column z.keys (take m.kept stay) (take m.got target) (width * n) (count_of z n) (width * t)
-          → kinds ≡ carried_column z.kinds (take m.kept stay) (take m.got target) (width * n) (count_of z n) (width * t)
-          → values ≡ carried_column z.values (take m.kept stay) (take m.got target) (width * n) (count_of z n) (width * t)
-          → stamps ≡ carried_column z.stamps (take m.kept stay) (take m.got target) (width * n) (count_of z n) (width * t)
+      carry_is : (a : Answer) (left : ℕ) → a ≡ answer DONE (count_of z n - kept) (count_of z n - kept - (got - count_of z t)) left 0
+          → left ≡ count_held (number_in z.keys) e lists.stay.items
           → record {
             answer = a;
-            store = record {
-              plan = z.plan;
-              clock = z.clock;
-              counts = set (set z.counts n m.kept) t m.got;
-              keys = keys;
-              kinds = kinds;
-              values = values;
-              stamps = stamps;
-              slots = z.slots;
-            };
+            store = settled_store lists (record { answer = a; node = n; copies = copies_at z n; target = t; start = width * t }) z;
           } ≡ on_store (carry_step n i) z
       unfolding carried_to
-      carry_is a left keys kinds values stamps a-is left_is keys-is kinds-is values-is stamps-is =
+      carry_is a left a-is left_is =
           on_way (carry_step n i) z good a (carried_to n t copies_merged s) _
           (carry_done p (plan_good z good) s (state_good z good) n i d
           ∙ ap (λ (f : Edge). carried_out n f (merge_along p n f s) s) (sym e-is)
           ∙ ap (λ (f : Merged Copy). carried_out n e f s) copied
-          ∙ out_is n e copies_merged s (count_of z n) (count_of z t) m.kept m.got left (state_count z n node_there) (state_count z t target_there) stay_count
+          ∙ out_is n e copies_merged s (count_of z n) (count_of z t) kept got left (state_count z n node_there) (state_count z t target_there) stay_count
           target_count counted
           ∙ ap (λ (x : Answer). record { answer = x; after = carried_to n t copies_merged s }) (sym a-is))
           (store_is z.plan (carried_to n t copies_merged s) _ refl (sym (state_clock z)) counts
-          (column-after (λ (x : Copy). x.key) z.keys refl (keys_are z good) (λ j. refl) keys keys-is)
-          (column-after (λ (x : Copy). x.kind) z.kinds refl (kinds_are z good) (λ j. refl) kinds kinds-is)
-          (column-after (λ (x : Copy). x.value) z.values refl (values_are z good) (λ j. refl) values values-is)
-          (column-after (λ (x : Copy). x.stamp) z.stamps refl (stamps_are z good) (λ j. refl) stamps stamps-is)
+          (column-after (λ (x : Copy). x.key) z.keys refl (keys_are z good) (λ j. refl))
+          (column-after (λ (x : Copy). x.kind) z.kinds refl (kinds_are z good) (λ j. refl))
+          (column-after (λ (x : Copy). x.value) z.values refl (values_are z good) (λ j. refl))
+          (column-after (λ (x : Copy). x.stamp) z.stamps refl (stamps_are z good) (λ j. refl))
           (sym (state_slots z)))
         where
           counted : count_held key_of e xs ≡ left
-          counted = count_map key_of (copy_of z) e places_merged_lem.stay ∙ sym (left_is ∙ ap (count_held (number_in z.keys) e) decided.stays.listed)
+          counted = count_map key_of (copy_of z) e places_merged_lem.stay ∙ sym (left_is ∙ ap (count_held (number_in z.keys) e) decided.stays)
 
-          counts : set (set z.counts n m.kept) t m.got ≡ tabulate 0 most_nodes (λ k. length (get_or (set (set s.nodes n xs) t ys) k []))
+          counts : set (set z.counts n kept) t got ≡ tabulate 0 most_nodes (λ k. length (get_or (set (set s.nodes n xs) t ys) k []))
           counts =
               let l = length_nodes z in
               let there = target_there in
               let here = node_there in
-              ap (λ (l : List ℕ). set (set l n m.kept) t m.got) (counts_are z good)
+              ap (λ (l : List ℕ). set (set l n kept) t got) (counts_are z good)
               ∙ ap₂ (λ (j k : ℕ). set (set (tabulate 0 most_nodes (λ l. length (node_at s l))) n j) t k) (sym stay_count) (sym target_count)
               ∙ sym (both_counts s.nodes n t xs ys (omega arith) (omega arith) node-apart)
 
       -- What is settled along the edge.
-      store_settled : (a : Answer) (left : ℕ)
-          → a ≡ answer DONE (count_of z n - m.kept) (count_of z n - m.kept - (m.got - count_of z t)) left 0
-          → left ≡ count_held (number_in z.keys) e (take m.kept stay)
-          → Settles z n i stay target (record {
-            answer = a;
-            node = n;
-            from = width * n;
-            had = count_of z n;
-            kept = m.kept;
-            remains = m.kept;
-            target = t;
-            start = width * t;
-            got = m.got;
-            holds = m.got;
-          })
+      store_settled : (a : Answer) (left : ℕ) → a ≡ answer DONE (count_of z n - kept) (count_of z n - kept - (got - count_of z t)) left 0
+          → left ≡ count_held (number_in z.keys) e lists.stay.items
+          → Settles z n i lists (record { answer = a; node = n; copies = copies_at z n; target = t; start = width * t })
       store_settled a left a-is left_is =
           record {
             nodes = (node_few, target_few);
-            stays = (decided.stays.long, decided.stays.counted);
-            gets = (decided.gets.long, decided.gets.counted);
+            counted = decided.counted;
             movable = column_movable;
-            outcome = carry_is a left _ _ _ _ a-is left_is refl refl refl refl;
+            outcome = carry_is a left a-is left_is;
           }
 
--- The same by the counts and the keys of a store, and an edge of its plan.
-module _ {counts keys : List ℕ} {n i : ℕ} {e : Edge} {capacity : ℕ} {z : Store} (w : Carriable counts keys n i e capacity z) where
-  abbrev had : ℕ
-  had = get_or counts n 0
-
-  abbrev held : ℕ
-  held = get_or counts e.target 0
-
+-- The same by what is known of the edge.
+module _ {z : Store} {n i : ℕ} {e : Edge} {capacity : ℕ} (w : Carriable z n i e capacity) where
   -- The node and the target are nodes of a store,
   pub source_few : n < most_nodes
   source_few = node_few z w.good n i w.is_edge e w.edge_is
@@ -314,169 +279,83 @@ module _ {counts keys : List ℕ} {n i : ℕ} {e : Edge} {capacity : ℕ} {z : S
   goal_few = target_few z w.good n i w.is_edge e w.edge_is
 
   -- hold no more copies than a node has places,
-  pub fits : (m : ℕ) → m < most_nodes → get_or counts m 0 ≤ width
-  fits m h = rw (← w.counts_are) (counts_fit z w.good m h)
+  pub fits : (m : ℕ) → m < most_nodes → count_of z m ≤ width
+  fits m h = counts_fit z w.good m h
 
   -- and can be merged.
-  pub ready : Ready keys capacity (width * n) had (width * e.target) held
-  ready = rw (← w.counts_are, ← w.keys_are) (store_ready z w.good n i w.is_edge e w.edge_is capacity w.capacity_is)
+  pub ready : Ready z.keys capacity (copies_at z n) (copies_at z e.target)
+  ready = store_ready z w.good n i w.is_edge e w.edge_is capacity w.capacity_is
 
-  module _ {stay target : List ℕ} {m : Merge}
-      (decided : Decided (places_merged keys capacity e (width * n) had (width * e.target) held) stay target m) where
-    its_decided : Decided (places_merged z.keys capacity e (width * n) (count_of z n) (width * e.target) (count_of z e.target)) stay target m
-    its_decided = rw (w.counts_are, w.keys_are) decided
-
+  module _ {lists : Lists} (decided : Decided (places_merged z.keys capacity e (copies_at z n) (copies_at z e.target)) lists) where
     -- The node's count falls, the target's rises, by no more.
-    pub counts_move : (m.kept ≤ had) × (held ≤ m.got) × (m.got - held ≤ had - m.kept)
-    counts_move = rw (← w.counts_are) (counts_go z w.good n i w.is_edge e w.edge_is capacity w.capacity_is its_decided)
+    pub counts_move : let kept = length lists.stay.items in let got = length lists.target.items in
+        (kept ≤ count_of z n) × (count_of z e.target ≤ got) × (got - count_of z e.target ≤ count_of z n - kept)
+    counts_move = counts_go z w.good n i w.is_edge e w.edge_is capacity w.capacity_is decided
 
     -- What stays is in the column.
-    pub stay_there : Within (take m.kept stay) places
-    stay_there = stays_within z w.good n i w.is_edge e w.edge_is capacity w.capacity_is its_decided
+    pub stay_there : Within lists.stay.items places
+    stay_there = stays_within z w.good n i w.is_edge e w.edge_is capacity w.capacity_is decided
 
     -- What is settled along the edge.
-    pub settled_along : (a : Answer) (left : ℕ) → a ≡ answer DONE (had - m.kept) (had - m.kept - (m.got - held)) left 0
-        → left ≡ count_held (number_in keys) e (take m.kept stay)
-        → Settles z n i stay target (record {
-          answer = a;
-          node = n;
-          from = width * n;
-          had = had;
-          kept = m.kept;
-          remains = m.kept;
-          target = e.target;
-          start = width * e.target;
-          got = m.got;
-          holds = m.got;
-        })
-    settled_along a left a-is left_is =
-        rw (← w.counts_are)
-        (store_settled z w.good n i w.is_edge e w.edge_is capacity w.capacity_is its_decided a left (rw w.counts_are a-is)
-        (rw w.keys_are left_is))
+    pub settled_along : (a : Answer) (left : ℕ)
+        → (let kept = length lists.stay.items in let got = length lists.target.items in
+        a ≡ answer DONE (count_of z n - kept) (count_of z n - kept - (got - count_of z e.target)) left 0)
+        → left ≡ count_held (number_in z.keys) e lists.stay.items
+        → Settles z n i lists (record { answer = a; node = n; copies = copies_at z n; target = e.target; start = width * e.target })
+    settled_along = store_settled z w.good n i w.is_edge e w.edge_is capacity w.capacity_is decided
 
--- A carry by the rows of a good store's plan, taken by its number. The refusals:
-module _ (z : Store) (good : good_store z ≡ true) (n i : ℕ) {nodes : ℕ} (nodes_are : nodes ≡ size (plan_numbered z.plan)) where
-  its_nodes_lem : nodes ≡ size (plan_of z)
-  its_nodes_lem = nodes_are ∙ ap (λ (p : Plan). size p) (sym (plan_numbered_lem z))
+-- An edge by its number, if the rows have it, is the one there; and if they don't, there are not so many.
+numbered_some : (r : Rows) (n i : ℕ) (e : Edge) → edge_numbered (row_edges r n) i ≡ Some e
+    → (i < edge_count_in r.counts n) × (e ≡ get_or (row_edges r n) i no_edge)
+numbered_some r n i e is = go (dec_lt i (edge_count_in r.counts n))
+  where
+    go : Dec (i < edge_count_in r.counts n) → (i < edge_count_in r.counts n) × (e ≡ get_or (row_edges r n) i no_edge)
+    go (yes h) = let s = edge_some r.counts r.lows r.highs r.targets n i h in let t = edge_is r.counts r.lows r.highs r.targets n i h in (h, cc)
+    go (no h) = let s = edge_none r.counts r.lows r.highs r.targets n i (omega arith) in cc
+
+numbered_none : (r : Rows) (n i : ℕ) → edge_numbered (row_edges r n) i ≡ None → edge_count_in r.counts n ≤ i
+numbered_none r n i is = go (dec_lt i (edge_count_in r.counts n))
+  where
+    go : Dec (i < edge_count_in r.counts n) → edge_count_in r.counts n ≤ i
+    go (yes h) = let s = edge_some r.counts r.lows r.highs r.targets n i h in cc
+    go (no h) = omega arith
+
+-- A carry by the rows of a good store's plan. The refusals:
+module _ (z : Store) (good : good_store z ≡ true) (n i : ℕ) (r : Rows) (r-is : r ≡ rows_of (plan_numbered z.plan)) where
+  rows : RowsOfPlan (plan_of z) r
+  rows = rows_here z (plan_good z good) r r-is
+
+  its_nodes : r.nodes ≡ size (plan_of z)
+  its_nodes = rows.nodes_are
 
   -- NODE: "plan has no such node"
-  pub no_node : nodes ≤ n → record { answer = bare NODE; store = z } ≡ on_store (carry_step n i) z
+  pub no_node : r.nodes ≤ n → record { answer = bare NODE; store = z } ≡ on_store (carry_step n i) z
   unfolding carry_step
-  no_node h = on_refusal (carry_step n i) z good NODE (rw (le-ltb n (size (plan_of z)) (omega (arith, its_nodes_lem))))
+  no_node h = on_refusal (carry_step n i) z good NODE (rw (le-ltb n (size (plan_of z)) (omega (arith, its_nodes))))
 
-  module _ (there : n < nodes) {edges : List ℕ} (edges_are : edges ≡ counts_row (plan_numbered z.plan)) {count : ℕ}
-      (count-is : count ≡ edge_count_in edges n) where
-    its_edges : count ≡ length (edges_of (plan_of z) n)
-    its_edges = count-is ∙ count_of_lem (plan_of z) (plan_good z good) edges (edges_are ∙ ap counts_row (sym (plan_numbered_lem z))) n
+  count_is : edge_count_in r.counts n ≡ length (edges_of (plan_of z) n)
+  count_is = count_of_lem (plan_of z) (plan_good z good) r.counts rows.edges_are n
 
+  module _ (there : n < r.nodes) where
     -- EDGE: "node has no such edge"
-    pub no_edge_lem : count ≤ i → record { answer = bare EDGE; store = z } ≡ on_store (carry_step n i) z
+    pub no_such_edge : edge_numbered (row_edges r n) i ≡ None → record { answer = bare EDGE; store = z } ≡ on_store (carry_step n i) z
     unfolding carry_step
-    no_edge_lem h =
+    no_such_edge e =
+        let past = numbered_none r n i e in
         on_refusal (carry_step n i) z good EDGE
         (rw (
-          lt-ltb n (size (plan_of z)) (omega (arith, its_nodes_lem)),
-          le-ltb i (length (edges_of (plan_of z) n)) (omega (arith, its_edges)),
+          lt-ltb n (size (plan_of z)) (omega (arith, its_nodes)),
+          le-ltb i (length (edges_of (plan_of z) n)) (omega (arith, count_is)),
         ))
 
     -- and the edge and its target's capacity, as the rows have them.
-    pub carriable : i < count → {lows highs targets : Grid} → RowsOf (plan_of z) nodes edges lows highs targets → (e : Edge)
-        → e ≡ get_or (edges_in edges lows highs targets n) i no_edge
-        → (capacities : List ℕ) → capacities ≡ capacities_row (plan_numbered z.plan) → (capacity : ℕ) → capacity ≡ at_node capacities e.target
-        → Carriable z.counts z.keys n i e capacity z
-    carriable h rows e e-is capacities capacities-are capacity capacity_is =
+    pub carriable : (e : Edge) → edge_numbered (row_edges r n) i ≡ Some e → (capacity : ℕ) → capacity ≡ at_node r.capacities e.target
+        → Carriable z n i e capacity
+    carriable e e-is capacity capacity_is =
+        let found = numbered_some r n i e e-is in
         record {
           good = good;
-          counts_are = refl;
-          keys_are = refl;
-          is_edge = record { node = omega (arith, its_nodes_lem); edge = omega (arith, its_edges) };
-          edge_is = edge_here rows n i e e-is;
-          capacity_is = capacity_is ∙ capacity_of_lem (plan_of z) (plan_good z good) capacities (capacities_known z capacities capacities-are) e.target;
+          is_edge = record { node = omega (arith, its_nodes); edge = omega (arith, found.0, count_is) };
+          edge_is = edge_here rows n i e found.1;
+          capacity_is = capacity_is ∙ capacity_of_lem (plan_of z) (plan_good z good) r.capacities (capacities_here z r r-is) e.target;
         }
-
--- A refusal: no place is written, and a count that is there already, so the store stays as it is.
-both_stay : (counts : List ℕ) → set (set counts 0 (get_or counts 0 0)) 0 (get_or counts 0 0) ≡ counts
-both_stay counts = ap (λ (l : List ℕ). set l 0 (get_or counts 0 0)) (set-get_or counts 0 0) ∙ set-get_or counts 0 0
-
-module _ (z : Store) (n i : ℕ) (stay target : List ℕ) (long : length stay ≡ width) (large : length target ≡ width) where
-  none_movable : Movable (take 0 stay) (take 0 target) 0 0 0
-  none_movable =
-      record {
-        stays = omega arith;
-        apart = omega arith;
-        room = omega arith;
-        under = λ j h. omega arith;
-        over = λ j h. omega arith;
-        low = λ j h. omega arith;
-      }
-
-  as_it_was : (number : ℕ) → settled_store stay target (nothing number (get_or z.counts 0 0)) z ≡ z
-  unfolding carried_column
-  as_it_was number =
-      ap (λ (l : List ℕ).
-      record {
-        plan = z.plan;
-        clock = z.clock;
-        counts = l;
-        keys = z.keys;
-        kinds = z.kinds;
-        values = z.values;
-        stamps = z.stamps;
-        slots = z.slots;
-      })
-      (both_stay z.counts)
-
-  pub settled_none : (number : ℕ) → record { answer = bare number; store = z } ≡ on_store (carry_step n i) z
-      → (r : Settled) → r ≡ nothing number (get_or z.counts 0 0) → Settles z n i stay target r
-  settled_none number out r e =
-      rw e
-      (record {
-        nodes = (omega arith, omega arith);
-        stays = (long, omega arith);
-        gets = (large, omega arith);
-        movable = none_movable;
-        outcome = ap (λ (y : Store). record { answer = bare number; store = y }) (as_it_was number) ∙ out;
-      })
-
--- What is settled, once it is written.
-module _ {z : Store} {n i : ℕ} {stay target : List ℕ} {r : Settled} (settled : Settles z n i stay target r) where
-  -- The counts are the lengths of the lists.
-  pub kept_long : r.kept ≡ length (take r.kept stay)
-  kept_long = sym (length-take-le r.kept stay (omega (arith, settled.stays.0, settled.stays.1)))
-
-  pub got_long : r.got ≡ length (take r.got target)
-  got_long = sym (length-take-le r.got target (omega (arith, settled.gets.0, settled.gets.1)))
-
-  pub settled_out : (counts keys kinds values stamps : List ℕ) → counts ≡ set (set z.counts r.node r.remains) r.target r.holds
-      → keys ≡ settled_column stay target r z.keys
-      → kinds ≡ settled_column stay target r z.kinds
-      → values ≡ settled_column stay target r z.values → stamps ≡ settled_column stay target r z.stamps
-      → record {
-        answer = r.answer;
-        store = record {
-          plan = z.plan;
-          clock = z.clock;
-          counts = counts;
-          keys = keys;
-          kinds = kinds;
-          values = values;
-          stamps = stamps;
-          slots = z.slots;
-        };
-      } ≡ on_store (carry_step n i) z
-  settled_out counts keys kinds values stamps e a b c d =
-      (λ j.
-      record {
-        answer = r.answer;
-        store = record {
-          plan = z.plan;
-          clock = z.clock;
-          counts = e j;
-          keys = a j;
-          kinds = b j;
-          values = c j;
-          stamps = d j;
-          slots = z.slots;
-        };
-      })
-      ∙ settled.outcome

@@ -1,6 +1,6 @@
 -- The two lists of a merge of places: a column can be written by them in place.
 use mathlib.Core.List.{List, [], ◌∷◌}
-use Prim.Native.Nat.{ℕ, zero, suc, ◌+◌, ◌-◌, ◌≤◌}
+use Prim.Native.Nat.{ℕ, zero, suc, ◌+◌, ◌≤◌}
 use native.Mathlib.Omega.{arith}
 use native.Mathlib.Nat.{le_refl, le_step, le_of_suc-le-suc, not-suc-le-zero}
 use lib.ListN.{length}
@@ -18,7 +18,8 @@ use Rattle.steps.specs.Carries.{merge}
 use Rattle.steps.proofs.NodeLists.{put_before, put_over, put_behind, put_most}
 use Rattle.steps.proofs.Merges.{Merging, merging, stay_short}
 use Rattle.steps.proofs.Merges.Merging.{through, carry, keep}
-use Rattle.merges.specs.Decisions.{span}
+use Rattle.moves.specs.declared.Span.{Span}
+use Rattle.merges.specs.Decisions.{span, places_in}
 use Rattle.merges.proofs.Passing.{span-length}
 use Rattle.moves.specs.Writings.{Under, Over, Movable}
 
@@ -53,10 +54,10 @@ unfolding tabulate
 tabulated_rises s zero = end
 tabulated_rises s (suc n) = above (le_refl s) (tabulated_rises (suc s) n)
 
-span_within : (a e b : ℕ) → e ≤ b → Within (span a e) b
-span_within a e b h i g =
-    let l = span-length a e in
-    rw (get_d_tabulate itself a (e - a) i 0 (omega arith)) (omega arith)
+span_within : (a n b : ℕ) → a + n ≤ b → Within (span a n) b
+span_within a n b h i g =
+    let l = span-length a n in
+    rw (get_d_tabulate itself a n i 0 (omega arith)) (omega arith)
 
 module _ (key : ℕ → ℕ) (capacity : ℕ) (e : Edge) where
   put_climbs : (x : ℕ) {s : ℕ} {ys : List ℕ} → x ≤ s → Climbing s ys → Climbing s (put key x ys)
@@ -93,18 +94,17 @@ module _ (key : ℕ → ℕ) (capacity : ℕ) (e : Edge) where
   together (carry {x = x} {ys = ys} t m) = omega (arith, together m, put_most key x ys)
   together (keep t m) = omega (arith, together m)
 
-  pub movable : (from had start held : ℕ) → from + had ≤ start
-      → let m = merge key capacity e (span from (from + had)) (span start (start + held)) in
-      start + length m.target ≤ places → Movable m.stay m.target from had start
-  movable from had start held apart room =
-      let xs = span from (from + had) in
-      let ys = span start (start + held) in
-      let m = merging key capacity e xs ys in
+  pub movable : (node target : Span) → node.from + node.count ≤ target.from
+      → let m = merge key capacity e (places_in node) (places_in target) in
+      target.from + length m.target ≤ places → Movable m.stay m.target node target.from
+  movable node target apart room =
+      let m = merging key capacity e (places_in node) (places_in target) in
+      let w = span_within node.from node.count target.from apart in
       record {
-        stays = omega (arith, stay_short key capacity e m, span-length from (from + had));
+        stays = omega (arith, stay_short key capacity e m, span-length node.from node.count);
         apart = apart;
         room = room;
-        under = climbing_under (target_climbs m (span_within from (from + had) start apart) (run_climbs start (start + held - start)));
-        over = rising_over (stay_rises m (tabulated_rises from (from + had - from)));
-        low = stay_within m (span_within from (from + had) start apart);
+        under = climbing_under (target_climbs m w (run_climbs target.from target.count));
+        over = rising_over (stay_rises m (tabulated_rises node.from node.count));
+        low = stay_within m w;
       }

@@ -1,45 +1,35 @@
-// What a carry is to write, settled before anything is written: its answer, the two nodes' counts, and the two lists of places.
-ghost use Rattle.std.specs.Prelude.{◌≡◌, ◌-◌, ◌≤◌, length};
+// What a carry is to write, settled before anything is written: its answer, the two nodes, and the two lists of places.
+ghost use Rattle.std.specs.Prelude.{◌≡◌, ◌-◌, ◌≤◌, ◌<◌, length};
+ghost use Rattle.plan.specs.Sizes.{most_nodes};
 ghost use Rattle.store.specs.Answers.{DONE, answer};
-ghost use Rattle.store.specs.Layout.{width};
-ghost use Rattle.store.specs.Workers.{LentSized};
-ghost use Rattle.carries.specs.Settlings.{nothing, OfGood, SettlesIn, SettlesLent};
+ghost use Rattle.store.specs.Layout.{count_of, width};
+ghost use Rattle.carries.specs.Settlings.{copies_at, HasEdge, SettlesAlong, SettlesOr};
 
-use merges::{count_held, decide};
-use plan::{Edge, arrays};
-use store::{Answer, Slot, Store};
+use merges::{Lists, count_held, decide};
+use moves::Span;
+use plan::Edge;
+use store::refusal::Refusal;
+use store::{Answer, Store};
 
-// The answer; the node, its first place, how many copies it had, how many stay, and its count then; the target, its first place, how many
-// copies it gets, its own and carried ones, and its count then.
+// The answer; the node, and the places of the copies that it has; the target, and its first place.
 #[derive(Clone, Copy)]
 pub struct Settled {
     pub answer: Answer,
     pub node: usize,
-    pub from: usize,
-    pub had: usize,
-    pub kept: usize,
-    pub remains: u32,
+    pub copies: Span,
     pub target: usize,
     pub start: usize,
-    pub got: usize,
-    pub holds: u32,
 }
 
-// A refusal: no place is written, and only the first node's count, as it was.
-fn refused(number: u32, count: u32) -> Settled
-    ensures { result ≡ nothing number count }
+// The places of a node's copies.
+fn copies_at(store: &Store, node: u32) -> Span
+    requires { (node < most_nodes) × (count_of store.now node ≤ width) }
+    ensures { result ≡ copies_at store.now node }
 {
-    Settled {
-        answer: Answer::bare(number),
-        node: 0,
-        from: 0,
-        had: 0,
-        kept: 0,
-        remains: count,
-        target: 0,
-        start: 0,
-        got: 0,
-        holds: count,
+    let n = node as usize;
+    Span {
+        from: Store::WIDTH * n,
+        count: store.counts[n] as usize,
     }
 }
 
@@ -60,75 +50,38 @@ fn tally(had: usize, kept: usize, held: usize, got: usize, left: usize) -> Answe
 }
 
 // Along an edge of a node of a good store, to a target of this capacity: what stays and what the target gets.
-fn along(
-    counts: &[u32; Store::NODES],
-    keys: &[u32; Store::PLACES],
-    stay: &mut [usize; Store::WIDTH],
-    target: &mut [usize; Store::WIDTH],
-    node: u32,
-    e: Edge,
-    capacity: u32,
-) -> Settled
-    requires { OfGood counts.now keys.now node e capacity × (length stay.old ≡ width) × (length target.old ≡ width) }
-    ensures { SettlesIn counts.now keys.now node e capacity stay.new target.new result }
+fn along(store: &Store, node: u32, edge: Edge, capacity: u32, lists: &mut Lists) -> Settled
+    requires { HasEdge store.now node edge capacity }
+    ensures { SettlesAlong store.now node edge capacity lists.new result }
 {
-    let n = node as usize;
-    let t = e.target as usize;
-    let had = counts[n] as usize;
-    let held = counts[t] as usize;
-    let from = Store::WIDTH * n;
-    let start = Store::WIDTH * t;
-    let room = capacity as usize;
-    let m = decide(keys, stay, target, from, had, start, held, e, room);
-    let left = count_held(keys, stay, m.kept, e);
+    let copies = copies_at(store, node);
+    let held = copies_at(store, edge.target);
+    decide(&store.keys, lists, copies, held, edge, capacity as usize);
+    let kept = lists.stay.len();
+    let got = lists.target.len();
+    let left = count_held(&store.keys, lists.stay.as_slice(), edge);
     Settled {
-        answer: tally(had, m.kept, held, m.got, left),
-        node: n,
-        from: from,
-        had: had,
-        kept: m.kept,
-        remains: m.kept as u32,
-        target: t,
-        start: start,
-        got: m.got,
-        holds: m.got as u32,
+        answer: tally(copies.count, kept, held.count, got, left),
+        node: node as usize,
+        copies,
+        target: edge.target as usize,
+        start: held.from,
     }
 }
 
-// BADSTORE, then NODE, then EDGE, and none of them alters the store. The plan's rows are taken once.
-pub fn settle_lent<'a>(
-    plan: u32,
-    clock: u32,
-    counts: &'a [u32; Store::NODES],
-    keys: &'a [u32; Store::PLACES],
-    kinds: &'a [u32; Store::PLACES],
-    values: &'a [u32; Store::PLACES],
-    stamps: &'a [u32; Store::PLACES],
-    slots: [Slot; Store::SLOTS],
-    stay: &mut [usize; Store::WIDTH],
-    target: &mut [usize; Store::WIDTH],
-    node: u32,
-    edge: u32,
-) -> Settled
-    requires { LentSized counts keys kinds values stamps × (length stay.old ≡ width) × (length target.old ≡ width) }
-    ensures { SettlesLent plan clock counts keys kinds values stamps slots stay target node edge result }
+// BADSTORE, then NODE, then EDGE.
+pub fn settle(store: &Store, node: u32, edge: u32, lists: &mut Lists) -> Result<Settled, Refusal>
+    ensures { SettlesOr store.now node edge lists.new result }
 {
-    let first = counts[0];
-    if !rules::good(plan, clock, counts, keys, kinds, values, stamps, slots) {
-        return refused(Answer::BADSTORE, first);
+    if !rules::is_good(store) {
+        return Err(Refusal::BadStore);
     }
-    if plan_table::nodes(plan) <= node {
-        return refused(Answer::NODE, first);
+    let rows = plan_table::rows_of(store.plan);
+    if rows.nodes <= node {
+        return Err(Refusal::Node);
     }
-    let edges = plan_table::edge_counts_of(plan);
-    if arrays::edge_count_in(&edges, node) <= edge {
-        return refused(Answer::EDGE, first);
-    }
-    let capacities = plan_table::capacities_of(plan);
-    let lows = plan_table::lowest_of(plan);
-    let highs = plan_table::highest_of(plan);
-    let targets = plan_table::targets_of(plan);
-    let e = arrays::edge_in(&edges, &lows, &highs, &targets, node, edge);
-    let capacity = arrays::capacity_in(&capacities, e.target);
-    along(counts, keys, stay, target, node, e, capacity)
+    let Some(e) = rows.edge(node, edge) else {
+        return Err(Refusal::Edge);
+    };
+    Ok(along(store, node, e, rows.capacity(e.target), lists))
 }

@@ -1,41 +1,25 @@
 -- How many bytes a value and a copy take, and that they are few.
 use mathlib.Core.Path.{◌≡◌}
-use mathlib.Core.Bool.{Bool, true, false, cond}
-use mathlib.Core.List.{[], ◌++◌}
+use mathlib.Core.List.{◌++◌}
 use Prim.Native.Nat.{ℕ, ◌+◌, ◌*◌, ◌≤◌}
 use native.Mathlib.Omega.{arith}
-use lib.Dec.{lit≤}
 use lib.ListN.{length, length-append}
 use Rattle.number.specs.Number.{form}
 use Rattle.number.proofs.Forms.{form-length}
 use Rattle.store.specs.declared.Copy.{Copy}
-use Rattle.store.specs.Copies.{RESULT, has_value}
+use Rattle.store.specs.Copies.{RESULT}
 use Rattle.store.proofs.KindLaws.{result_valued}
 use Rattle.copies.specs.CopyBytes.{value_bytes, copy_bytes}
 
-module _ (kind v : ℕ) where
-  -- A kind that has a value.
-  pub value_written : has_value kind ≡ true → value_bytes kind v ≡ form v
-  unfolding value_bytes
-  value_written h = rw h
-
-  -- A kind that has none.
-  pub value_left_out : has_value kind ≡ false → value_bytes kind v ≡ []
-  unfolding value_bytes
-  value_left_out h = rw h
-
-  -- Either way it takes no more bytes than a number.
-  pub value_short : length (value_bytes kind v) ≤ 5
-  unfolding value_bytes
-  value_short = go (has_value kind)
-    where
-      go : (t : Bool) → length {A = ℕ} (cond t (form v) []) ≤ 5
-      go true = form-length v
-      go false = lit≤ tt
-
 -- A result has a value.
 pub result_written : (v : ℕ) → value_bytes RESULT v ≡ form v
-result_written v = value_written RESULT v result_valued
+unfolding value_bytes
+result_written v = rw result_valued
+
+-- A value takes no more bytes than a number.
+pub value_short : (kind v : ℕ) → length (value_bytes kind v) ≤ 5
+unfolding value_bytes
+value_short kind v = grind (arith, form-length)
 
 -- The numbers of a copy, one after another.
 pub copy-length : (x : Copy)

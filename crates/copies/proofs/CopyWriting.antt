@@ -1,30 +1,12 @@
--- Why the writers of a value and of a copy give what they promise: the room for each number, and the numbers one after another.
-use mathlib.Core.Path.{◌≡◌}
-use mathlib.Core.Bool.{true, false}
+-- Why the writer of a copy gives what it promises: the room for each number, and the numbers one after another.
 use mathlib.Core.List.{List, ◌++◌}
 use Prim.Native.Nat.{ℕ, ◌+◌, ◌≤◌}
 use lib.ListN.{length}
 use Rattle.lists.specs.Stands.{Wrote}
-use Rattle.lists.proofs.Standing.{wrote_nil, wrote_join, fits_left, fits_right}
+use Rattle.lists.proofs.Standing.{wrote_join, fits_left, fits_right}
 use Rattle.number.specs.Number.{form}
 use Rattle.store.specs.declared.Copy.{Copy}
-use Rattle.store.specs.Copies.{has_value}
 use Rattle.copies.specs.CopyBytes.{value_bytes, copy_bytes}
-use Rattle.copies.proofs.CopyLengths.{value_written, value_left_out}
-
--- ---- write_value
-
-pub value_fits : (kind v at most : ℕ) → has_value kind ≡ true → at + length (value_bytes kind v) ≤ most → at + length (form v) ≤ most
-value_fits kind v at most k h = rw (value_written kind v k) at h
-
-pub wrote_value : (kind v : ℕ) {before : List ℕ} {at next : ℕ} {after : List ℕ} → has_value kind ≡ true → Wrote before at (form v) next after
-    → Wrote before at (value_bytes kind v) next after
-wrote_value kind v k w = rw (value_written kind v k) w
-
-pub wrote_no_value : (kind v : ℕ) (before : List ℕ) (at : ℕ) → has_value kind ≡ false → Wrote before at (value_bytes kind v) at before
-wrote_no_value kind v before at k = rw (value_left_out kind v k) (wrote_nil before at)
-
--- ---- write_copy
 
 module _ (x : Copy) where
   abbrev key : List ℕ

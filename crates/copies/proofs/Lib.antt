@@ -1,4 +1,3 @@
 pub mod CopyLengths
 pub mod CopyWriting
-pub mod CopyReading
 pub mod CopyTrips

@@ -1,11 +1,10 @@
 -- A copy's bytes, and reading them at an offset. Document 01, "Bytes": "key, kind, value (only for kind 1), stamp".
-use Rattle.std.specs.Prelude.{true, false, cond, List, [], ◌++◌, ℕ, suc, ltb}
+use Rattle.std.specs.Prelude.{cond, List, [], ◌++◌, ℕ, suc, ltb}
 use Rattle.number.specs.Number.{narrow, form}
 use Rattle.store.specs.declared.Copy.{Copy}
 use Rattle.store.specs.Answers.{RULE}
-use Rattle.store.specs.Copies.{last_kind, has_value, copy, no_copy}
-use Rattle.wire.specs.Reading.{Got, got, fault, bind, number_at, checked}
-use Rattle.copies.specs.declared.CopyRead.{CopyRead}
+use Rattle.store.specs.Copies.{last_kind, has_value, copy}
+use Rattle.wire.specs.Reading.{Got, got, bind, number_at, checked}
 
 -- "a value (any 32-bit unsigned number ..)"
 abbrev pub last_value : ℕ
@@ -32,8 +31,3 @@ read_copy s at =
     (bind (read_value s kind b) λ value c.
     bind (number_at narrow s c) λ stamp d.
     got (copy key kind value stamp) d)
-
--- What was read, as the declared record: the copy and the offset after it, or the fault and its offset.
-unfoldable pub copy_read_of : Got Copy → CopyRead
-copy_read_of (got x next) = record { ok = true; fault = 0; at = next; copy = x }
-copy_read_of (fault number at) = record { ok = false; fault = number; at = at; copy = no_copy }

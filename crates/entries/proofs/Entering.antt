@@ -1,6 +1,7 @@
 -- The ways of an entry: a bad store, the clock at its last value, a copy replaced, a copy added, and a full root; and what it holds.
 use mathlib.Core.Path.{◌≡◌, refl, sym, ap, ◌∙◌}
-use mathlib.Core.Bool.{true, false, true≢false, false≢true}
+use mathlib.Core.Bool.{true, false}
+use Rattle.std.specs.Prelude.{Some, None}
 use mathlib.Core.List.{List, ◌∷◌, ◌++◌}
 use mathlib.Core.Option.{none, some}
 use Prim.Native.Nat.{ℕ, ◌+◌, ◌<◌, ◌≤◌}
@@ -10,30 +11,32 @@ use lib.ListN.{length, get_or, take, drop, set, length-set}
 use borrow.Author.Tests.{lt-ltb, le-ltb}
 use Rattle.lists.proofs.Inserting.{length-put_in}
 use Rattle.plan.specs.Plan.{Plan, capacity_of}
-use Rattle.store.specs.declared.Answer.{Answer}
+use Rattle.plan.specs.PlanArrays.{rows_of, at_node}
+use Rattle.plan.specs.declared.rows.Rows.{Rows}
+use Rattle.plan.proofs.RowsLent.{capacity_of_lem}
+use Rattle.plan_table.specs.PlanTable.{plan_numbered}
 use Rattle.store.specs.declared.Copy.{Copy}
 use Rattle.store.specs.declared.Outcome.{Outcome}
 use Rattle.store.specs.declared.Store.{Store}
 use Rattle.store.specs.Answers.{DONE, CLOCK, FULL, answer, bare}
-use Rattle.store.specs.Copies.{WITHDRAWN, RESULT, copy, no_copy, key_of, find}
+use Rattle.store.specs.Copies.{RESULT, copy, no_copy, key_of, find}
 use Rattle.store.specs.State.{State, node_at, last_clock}
 use Rattle.store.specs.Layout.{plan_of, width, count_of, state_of, column}
 use Rattle.store.specs.StoreRules.{good_store}
-use Rattle.store.specs.Calls.{Effect, on_store}
-use Rattle.store.specs.Workers.{below, place_in, of_parts, opened}
-use Rattle.store.proofs.KindLaws.{result_holds, withdrawn_holds}
+use Rattle.store.specs.Calls.{on_store}
+use Rattle.store.specs.Workers.{Ordered, below, place_in, opened}
+use Rattle.store.proofs.KindLaws.{result_holds}
 use Rattle.store.proofs.Laying.{set_one, length-column, counts_written, copy_written, store_is, length_nodes, state_node, state_count, state_copy, state_clock, state_slots}
 use Rattle.store.proofs.Opening.{opened_start, opened-set}
 use Rattle.store.proofs.Seeking.{below_length, find_rising, find_none}
-use Rattle.store.proofs.Lifting.{plan_good, state_good, on_way, on_refusal}
+use Rattle.store.proofs.Lifting.{plan_good, state_good, good_ordered, on_way, on_refusal}
+use Rattle.store.proofs.WhichPlan.{capacities_here}
 use Rattle.store.proofs.GoodNodes.{node_place, root_there, counts_fit, counts_are, keys_are, kinds_are, values_are, stamps_are}
 use Rattle.steps.specs.Entries.{put, room, refused, entered, entry}
-use Rattle.steps.specs.Promises.{Enters, Withdraws}
+use Rattle.steps.specs.Promises.{Enters}
 use Rattle.steps.proofs.NodeLists.{room_has, room_free, room_none}
 use Rattle.steps.proofs.Putting.{put-replaced, put_added}
-use Rattle.entries.specs.declared.Entered.{Entered}
-use Rattle.entries.specs.declared.decision.Decision.{Decision}
-use Rattle.entries.specs.Decisions.{Enterable, acceptance, DecidesFor}
+use Rattle.entries.specs.Decisions.{Enterable, acceptance, Decides}
 use Rattle.entries.proofs.Shifting.{copy-opened}
 
 -- Opened for one place alone, a column is stored into.
@@ -104,7 +107,7 @@ module _ (z : Store) (good : good_store z ≡ true) where
       -- An entry that the root has room for: its count and its columns are those of the nodes after the entry.
       done : (end count : ℕ) → room key_of (capacity_of p 0) root k ≡ true → count ≡ length (put key_of x root)
           → ((part : Copy → ℕ) (c : List ℕ) → c ≡ column part s.nodes → opened c at end (part x) ≡ column part after)
-          → acceptance (record { accepted = true; at = at; end = end; count = count }) z kind k v ≡ on_store (entry kind k v) z
+          → acceptance (record { at = at; end = end; count = count }) z kind k v ≡ on_store (entry kind k v) z
       unfolding state_of entered
       done end count h n each =
           on_way (entry kind k v) z good (answer DONE z.clock 0 0 0) (entered x s) _ (has_room kind k v p s early h)
@@ -135,7 +138,7 @@ module _ (z : Store) (good : good_store z ≡ true) where
         found : find key_of root k ≡ some (get_or root at no_copy)
         found = find_rising key_of no_copy root ((state_good z good).keys_strictly_rise 0) k at (omega (arith, root_count)) its_key_lem
 
-        entry-replaced : acceptance (record { accepted = true; at = at; end = at; count = count_of z 0 }) z kind k v ≡ on_store (entry kind k v) z
+        entry-replaced : acceptance (record { at = at; end = at; count = count_of z 0 }) z kind k v ≡ on_store (entry kind k v) z
         entry-replaced =
             done at (count_of z 0) (room_has key_of (capacity_of p 0) root k (get_or root at no_copy) found)
             (sym (ap length over ∙ length-set root at x ∙ root_count)) over_column
@@ -162,7 +165,7 @@ module _ (z : Store) (good : good_store z ≡ true) where
             (λ h e. let b = at_below in no_key (omega arith) (rw at_below e))
 
         entry_added : count_of z 0 < capacity_of p 0 → count_of z 0 < width
-            → acceptance (record { accepted = true; at = at; end = count_of z 0; count = count_of z 0 + 1 }) z kind k v ≡ on_store (entry kind k v) z
+            → acceptance (record { at = at; end = count_of z 0; count = count_of z 0 + 1 }) z kind k v ≡ on_store (entry kind k v) z
         entry_added h w =
             done (count_of z 0) (count_of z 0 + 1) (room_free key_of (capacity_of p 0) root k (omega (arith, root_count)))
             (omega (arith, root_count, ap length between, length-put_in x root at (omega (arith, at_most, root_count)))) (with_column w)
@@ -173,87 +176,52 @@ module _ (z : Store) (good : good_store z ≡ true) where
             on_refusal (entry kind k v) z good FULL
             (no_room kind k v p s early (room_none key_of (capacity_of p 0) root k missing (omega (arith, root_count))))
 
--- The decision by the counts and the keys of a store: its three ways.
-module _ {counts keys : List ℕ} {capacity : ℕ} {z : Store} (w : Enterable counts keys capacity z) (k at : ℕ)
-    (place : at ≡ place_in keys 0 (get_or counts 0 0) k) where
-  abbrev count : ℕ
-  count = get_or counts 0 0
-
-  -- The store's own place of the key, its count and its keys are these.
-  its_place : at ≡ place_in z.keys 0 (count_of z 0) k
-  its_place = rw (w.counts_are, w.keys_are) place
-
-  its_count_lem : count_of z 0 ≡ count
-  its_count_lem = ap (λ (l : List ℕ). get_or l 0 0) w.counts_are
-
-  there : (i : ℕ) → get_or z.keys i 0 ≡ get_or keys i 0
-  there i = ap (λ (l : List ℕ). get_or l i 0) w.keys_are
-
-  -- "A root copy of that key is replaced",
-  pub decides_replaced : at < count → get_or keys at 0 ≡ k → DecidesFor z k (record { accepted = true; at = at; end = at; count = count })
-  decides_replaced held same =
-      rw (← its_count_lem)
-      (record {
-        in_root = (omega arith, omega (arith, root_fits z w.good, its_count_lem));
-        accepts = λ e kind v. entry-replaced z w.good k at its_place kind v w.early (omega (arith, its_count_lem)) (there at ∙ same);
-        refuses = λ e. absurd (true≢false e);
-      })
-
-  module _ (lacks : at < count → get_or keys at 0 ≡ k → ⊥) where
-    its_lacks : at < count_of z 0 → get_or z.keys at 0 ≡ k → ⊥
-    its_lacks h e = lacks (omega (arith, its_count_lem)) (sym (there at) ∙ e)
-
-    -- "otherwise one is added if the root has a free place".
-    pub decides_added : count < capacity → capacity ≤ width
-        → DecidesFor z k (record { accepted = true; at = at; end = count; count = count + 1 })
-    decides_added h few =
-        let n = its_count_lem in
-        let c = w.capacity_is in
-        rw (← its_count_lem)
-        (record {
-          in_root = (at_most z w.good k at its_place, omega arith);
-          accepts = λ e kind v. entry_added z w.good k at its_place kind v w.early its_lacks (omega arith) (omega arith);
-          refuses = λ e. absurd (true≢false e);
-        })
-
-    -- "FULL: root full and lacks the key"
-    pub decides_full : capacity ≤ count → DecidesFor z k (record { accepted = false; at = 0; end = 0; count = count })
-    decides_full h =
-        let n = its_count_lem in
-        let c = w.capacity_is in
-        record {
-          in_root = (omega arith, omega arith);
-          accepts = λ e. absurd (false≢true e);
-          refuses = λ e kind v. entry_full z w.good k at its_place kind v w.early its_lacks (omega arith);
-        }
-
 -- The root's capacity is within a node's places.
-pub capacity_few : {counts keys : List ℕ} {capacity : ℕ} {z : Store} → Enterable counts keys capacity z → capacity ≤ width
+pub capacity_few : {z : Store} {capacity : ℕ} → Enterable z capacity → capacity ≤ width
 capacity_few {z = z} w =
     omega (arith, w.capacity_is, (plan_good z w.good).capacity_within 0 (root_there z w.good))
 
--- A refusal leaves the columns as they were, and the clock.
-pub refused_out : (f : Plan → State → Effect) (z : Store) (number : ℕ) (r : Entered) → r ≡ record { answer = bare number; clock = z.clock }
-    → record { answer = bare number; store = z } ≡ on_store f z
-    → record {
-      answer = r.answer;
-      store = of_parts z.plan r.clock z.counts z.keys z.kinds z.values z.stamps z.slots;
-    } ≡ on_store f z
-refused_out f z number r e h = rw e h
+-- A good store past the check of its clock, and its root's capacity by the rows of its plan.
+pub enterable : (z : Store) → good_store z ≡ true → z.clock < last_clock → (r : Rows) → r ≡ rows_of (plan_numbered z.plan) → (capacity : ℕ)
+    → capacity ≡ at_node r.capacities 0 → Enterable z capacity
+enterable z good early r r-is capacity capacity-is =
+    record {
+      good = good;
+      early = early;
+      capacity_is = capacity-is ∙ capacity_of_lem (plan_of z) (plan_good z good) r.capacities (capacities_here z r r-is) 0;
+    }
 
--- An accepted entry, once the columns are written.
-pub accepted_out : (z : Store) (kind k v : ℕ) (d : Decision) → acceptance d z kind k v ≡ on_store (entry kind k v) z
-    → {keys kinds values stamps : List ℕ} (a : Answer) → a ≡ answer DONE z.clock 0 0 0
-    → keys ≡ opened z.keys d.at d.end k → kinds ≡ opened z.kinds d.at d.end kind
-    → values ≡ opened z.values d.at d.end v → stamps ≡ opened z.stamps d.at d.end z.clock
-    → record { answer = a; store = of_parts z.plan (z.clock + 1) (set z.counts 0 d.count) keys kinds values stamps z.slots }
-    ≡ on_store (entry kind k v) z
-accepted_out z kind k v d h a e k-is kind-is v-is stamp-is = rw (e, k-is, kind-is, v-is, stamp-is) h
+-- Its root is in order.
+pub root_ordered : {z : Store} {capacity : ℕ} → Enterable z capacity → Ordered z.counts z.keys 0
+root_ordered {z = z} w = good_ordered z w.good 0 (omega arith)
 
--- An entry of a result holds the value given,
+-- The decision for a store: its three ways.
+module _ {z : Store} {capacity : ℕ} (w : Enterable z capacity) (k at : ℕ) (place : at ≡ place_in z.keys 0 (count_of z 0) k) where
+  -- "A root copy of that key is replaced",
+  pub decides_replaced : at < count_of z 0 → get_or z.keys at 0 ≡ k → Decides z k (Some (record { at = at; end = at; count = count_of z 0 }))
+  decides_replaced held same =
+      record {
+        in_root = (omega arith, omega (arith, root_fits z w.good));
+        outcome = λ kind v. entry-replaced z w.good k at place kind v w.early held same;
+      }
+
+  module _ (lacks : at < count_of z 0 → get_or z.keys at 0 ≡ k → ⊥) where
+    -- "otherwise one is added if the root has a free place".
+    pub decides_added : count_of z 0 < capacity → Decides z k (Some (record { at = at; end = count_of z 0; count = count_of z 0 + 1 }))
+    decides_added h =
+        let c = w.capacity_is in
+        let few = capacity_few w in
+        record {
+          in_root = (at_most z w.good k at place, omega arith);
+          outcome = λ kind v. entry_added z w.good k at place kind v w.early lacks (omega arith) (omega arith);
+        }
+
+    -- "FULL: root full and lacks the key"
+    pub decides_full : capacity ≤ count_of z 0 → Decides z k None
+    decides_full h =
+        let c = w.capacity_is in
+        record { in_root = tt; outcome = λ kind v. entry_full z w.good k at place kind v w.early lacks (omega arith) }
+
+-- An entry of a result holds the value given.
 pub enters_held : (z : Store) (k v held : ℕ) {r : Outcome} → held ≡ v → r ≡ on_store (entry RESULT k held) z → Enters z k v r
 enters_held z k v held h e = e ∙ ap (λ (w : ℕ). on_store (entry RESULT k w) z) (h ∙ sym (result_holds v))
-
--- and a withdrawal 0.
-pub withdraws_held : (z : Store) (k held : ℕ) {r : Outcome} → held ≡ 0 → r ≡ on_store (entry WITHDRAWN k held) z → Withdraws z k r
-withdraws_held z k held h e = e ∙ ap (λ (w : ℕ). on_store (entry WITHDRAWN k w) z) (h ∙ sym (withdrawn_holds 0))

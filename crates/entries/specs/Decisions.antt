@@ -1,29 +1,27 @@
--- What an entry is decided to be, and what the calls over lent columns promise.
-use Rattle.std.specs.Prelude.{◌≡◌, true, false, List, ℕ, ◌+◌, ◌<◌, ◌≤◌, set}
-use Rattle.lists.specs.Lending.{LentMutList}
+-- What an entry is decided to be, and its answer.
+use Rattle.std.specs.Prelude.{◌≡◌, true, ℕ, ◌+◌, ◌<◌, ◌≤◌, set, Option, Some, None, IfSome, Result, Ok, Err}
 use Rattle.plan.specs.Plan.{capacity_of}
+use Rattle.store.specs.declared.Answer.{Answer}
 use Rattle.store.specs.declared.Outcome.{Outcome}
-use Rattle.store.specs.declared.Slot.{Slot}
 use Rattle.store.specs.declared.Store.{Store}
+use Rattle.store.specs.declared.refusal.Refusal.{Refusal}
 use Rattle.store.specs.Answers.{DONE, FULL, answer, bare}
 use Rattle.store.specs.Layout.{plan_of, width}
+use Rattle.store.specs.Refusals.{refusal_number}
 use Rattle.store.specs.State.{last_clock}
 use Rattle.store.specs.StoreRules.{good_store}
-use Rattle.store.specs.Workers.{opened, store_at_entry, store_at_exit}
-use Rattle.steps.specs.Promises.{entry_numbered, Enters, Withdraws}
-use Rattle.entries.specs.declared.Entered.{Entered}
-use Rattle.entries.specs.declared.decision.Decision.{Decision}
+use Rattle.store.specs.Workers.{opened}
+use Rattle.steps.specs.Promises.{entry_numbered}
+use Rattle.entries.specs.declared.decision.Place.{Place}
 
--- A good store that has these counts and keys, a root of this capacity, and a clock that can still go up.
-pub record Enterable (counts keys : List ℕ) (capacity : ℕ) (z : Store) : Type 0 where
+-- A good store with a root of this capacity and a clock that can still go up.
+pub record Enterable (z : Store) (capacity : ℕ) : Type 0 where
   pub good : good_store z ≡ true
   pub early : z.clock < last_clock
-  pub counts_are : z.counts ≡ counts
-  pub keys_are : z.keys ≡ keys
   pub capacity_is : capacity ≡ capacity_of (plan_of z) 0
 
--- The outcome of an accepted entry by its decision: the stamp is the clock, which goes up by 1.
-abbrev pub acceptance : Decision → Store → ℕ → ℕ → ℕ → Outcome
+-- The outcome of an accepted entry by its place: the stamp is the clock, which goes up by 1.
+abbrev pub acceptance : Place → Store → ℕ → ℕ → ℕ → Outcome
 acceptance d z kind key value =
     record {
       answer = answer DONE z.clock 0 0 0;
@@ -39,30 +37,17 @@ acceptance d z kind key value =
       };
     }
 
+-- The outcome by what is decided: accepted at a place, or FULL, and the store as it was.
+abbrev pub decided_outcome : Option Place → Store → ℕ → ℕ → ℕ → Outcome
+decided_outcome (Some d) z kind key value = acceptance d z kind key value
+decided_outcome None z kind key value = record { answer = bare FULL; store = z }
+
 -- The decision for a key is right for a store: the entry is accepted at places of the root, or FULL, whatever its kind and its value.
-pub record DecidesFor (z : Store) (key : ℕ) (d : Decision) : Type 0 where
-  pub in_root : (d.at ≤ d.end) × (d.end < width)
-  pub accepts : d.accepted ≡ true → (kind value : ℕ) → acceptance d z kind key value ≡ entry_numbered kind z key value
-  pub refuses : d.accepted ≡ false → (kind value : ℕ) → record { answer = bare FULL; store = z } ≡ entry_numbered kind z key value
+pub record Decides (z : Store) (key : ℕ) (o : Option Place) : Type 0 where
+  pub in_root : IfSome o (λ d. (d.at ≤ d.end) × (d.end < width))
+  pub outcome : (kind value : ℕ) → decided_outcome o z kind key value ≡ entry_numbered kind z key value
 
--- It is right for every store that has these counts and keys.
-abbrev pub Decides : List ℕ → List ℕ → ℕ → ℕ → Decision → Type 0
-Decides counts keys capacity key d = (z : Store) → Enterable counts keys capacity z → DecidesFor z key d
-
--- An entry of this kind over lent columns: the answer, and the store that they then are.
-abbrev pub EntryLent : ℕ → ℕ → LentMutList → LentMutList → LentMutList → LentMutList → LentMutList → List Slot → ℕ → ℕ → ℕ → Entered → Type 0
-EntryLent plan clock counts keys kinds values stamps slots kind key value r =
-    record { answer = r.answer; store = store_at_exit plan r.clock counts keys kinds values stamps slots }
-    ≡ entry_numbered kind (store_at_entry plan clock counts keys kinds values stamps slots) key value
-
--- The promise of entering a result, over lent columns.
-abbrev pub EntersLent : ℕ → ℕ → LentMutList → LentMutList → LentMutList → LentMutList → LentMutList → List Slot → ℕ → ℕ → Entered → Type 0
-EntersLent plan clock counts keys kinds values stamps slots key value r =
-    Enters (store_at_entry plan clock counts keys kinds values stamps slots) key value
-    (record { answer = r.answer; store = store_at_exit plan r.clock counts keys kinds values stamps slots })
-
--- The promise of a withdrawal, over lent columns.
-abbrev pub WithdrawsLent : ℕ → ℕ → LentMutList → LentMutList → LentMutList → LentMutList → LentMutList → List Slot → ℕ → Entered → Type 0
-WithdrawsLent plan clock counts keys kinds values stamps slots key r =
-    Withdraws (store_at_entry plan clock counts keys kinds values stamps slots) key
-    (record { answer = r.answer; store = store_at_exit plan r.clock counts keys kinds values stamps slots })
+-- The answer of a call that is done or refused.
+abbrev pub answered : Result Answer Refusal → Answer
+answered (Ok a) = a
+answered (Err why) = bare (refusal_number why)

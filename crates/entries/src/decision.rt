@@ -2,54 +2,37 @@
 ghost use Rattle.std.specs.Prelude.{◌≤◌};
 ghost use Rattle.store.specs.Layout.{width};
 ghost use Rattle.store.specs.Workers.{Ordered};
-ghost use Rattle.entries.specs.Decisions.{Decides};
+ghost use Rattle.entries.specs.Decisions.{Enterable, Decides};
 
 use store::{Store, columns};
 
-// Whether the entry is accepted; at which place its copy then stands, up to which place the root's copies move one place up; and the root's
-// count after it.
+// At which place the copy of an accepted entry then stands, up to which place the root's copies move one place up; and the root's count after
+// it.
 #[derive(Clone, Copy)]
-pub struct Decision {
-    pub accepted: bool,
+pub struct Place {
     pub at: usize,
     pub end: usize,
     pub count: u32,
 }
 
 // "A root copy of that key is replaced; otherwise one is added if the root has a free place." Where a copy is replaced none moves up, and the
-// count stays.
-pub fn decide(
-    counts: &[u32; Store::NODES],
-    keys: &[u32; Store::PLACES],
-    capacity: u32,
-    key: u32,
-) -> Decision
-    requires { Ordered counts.now keys.now 0 × (capacity ≤ width) }
-    ensures { Decides counts.now keys.now capacity key result }
+// count stays. Nothing where the entry is refused.
+pub fn decide(store: &Store, capacity: u32, key: u32) -> Option<Place>
+    requires { Ordered store.now.counts store.now.keys 0 × (capacity ≤ width) }
+    ensures { Enterable store.now capacity → Decides store.now key result }
 {
-    let count = counts[0];
+    let count = store.counts[0];
     let end = count as usize;
-    let at = columns::seek(keys, 0, end, key);
-    if at < end && keys[at] == key {
-        return Decision {
-            accepted: true,
-            at: at,
-            end: at,
-            count: count,
-        };
+    let at = columns::seek(&store.keys, 0, end, key);
+    if at < end && store.keys[at] == key {
+        return Some(Place { at, end: at, count });
     }
     if count < capacity {
-        return Decision {
-            accepted: true,
-            at: at,
-            end: end,
+        return Some(Place {
+            at,
+            end,
             count: count + 1,
-        };
+        });
     }
-    Decision {
-        accepted: false,
-        at: 0,
-        end: 0,
-        count: count,
-    }
+    None
 }

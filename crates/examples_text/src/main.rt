@@ -13,33 +13,31 @@ fn print(out: &mut impl Write, bytes: &[u8]) -> io::Result<()> {
 
 // CUT of no bytes and inside a step, NUMBER of a longer form and of more than 32 bits.
 fn not_read(out: &mut impl Write) -> io::Result<()> {
-    print(out, b"")?;
     let cut = [1, 1, 33, 180];
-    print(out, &cut)?;
     let longer = [1, 1, 33, 180, 129, 0];
-    print(out, &longer)?;
     let above = [1, 2, 255, 255, 255, 255, 16];
-    print(out, &above)
+    for bytes in [&[][..], &cut, &longer, &above] {
+        print(out, bytes)?;
+    }
+    Ok(())
 }
 
 // PLAN, OP after a step that is not done, MANY after 256 steps and for more than 65,536 bytes.
 fn not_decoded(out: &mut impl Write) -> io::Result<()> {
     let plan = [0];
-    print(out, &plan)?;
     let op = [1, 2, 33, 7];
-    print(out, &op)?;
     let many = [2; 514];
-    print(out, &many)?;
     let beyond = [2; 65537];
-    print(out, &beyond)
+    for bytes in [&plan[..], &op, &many, &beyond] {
+        print(out, bytes)?;
+    }
+    Ok(())
 }
 
 // No step; 256 of them.
 fn decoded(out: &mut impl Write) -> io::Result<()> {
-    let none = [3];
-    print(out, &none)?;
-    let most = [2; 513];
-    print(out, &most)
+    print(out, &[3])?;
+    print(out, &[2; 513])
 }
 
 fn main(rt: HostRuntime) -> io::Result<()> {

@@ -26,8 +26,7 @@ pub extern "C" fn olipranj_fresh(into: &mut Store, plan: u32) -> Answer
     export::olipranj_fresh(into, plan)
 }
 
-// One step by its number: the columns are lent where they lie, to be written there; then the clock and the slots are. An unknown number is OP
-// with a 0, after BADSTORE.
+// One step by its number, done where the store lies. An unknown number is OP with a 0, after BADSTORE.
 #[unsafe(no_mangle)]
 pub extern "C" fn olipranj_step(store: &mut Store, number: u32, x: u32, y: u32) -> Answer
     ensures { StepsBehind store.old number x y result store.new }

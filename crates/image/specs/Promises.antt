@@ -1,6 +1,5 @@
 -- The promises of save and load: each fixes the answer, the store and every byte of the buffer.
 use Rattle.std.specs.Prelude.{◌≡◌, cond, List, ℕ}
-use Rattle.lists.specs.Lending.{LentMutList}
 use Rattle.store.specs.declared.Answer.{Answer}
 use Rattle.store.specs.declared.Outcome.{Outcome}
 use Rattle.store.specs.declared.Store.{Store}
@@ -25,10 +24,6 @@ save_outcome store before = (save_answer store before, save_buffer store before)
 -- Of a buffer at entry: the answer, and the buffer at exit.
 abbrev pub Saves : Store → List ℕ → Answer → List ℕ → Type 0
 Saves store before r after = (r ≡ (save_outcome store before).0) × (after ≡ (save_outcome store before).1)
-
--- The same of a lent buffer.
-abbrev pub LentSaves : Store → LentMutList → Answer → Type 0
-LentSaves store buffer r = Saves store buffer.entry.now r buffer.exit.now
 
 -- The outcome of a load: it is given no store.
 abbrev pub Loads : List ℕ → Outcome → Type 0

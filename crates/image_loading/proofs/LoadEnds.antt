@@ -1,42 +1,38 @@
 -- Why loading gives what it promises: one law for each way out.
 use mathlib.Core.Path.{◌≡◌, refl, sym, ap, ◌∙◌}
-use mathlib.Core.Bool.{Bool, true, false}
-use mathlib.Core.List.{List, []}
-use Prim.Native.Nat.{ℕ, suc, ◌+◌, ◌<◌, ◌≤◌}
+use mathlib.Core.Bool.{true, false}
+use mathlib.Core.List.{List, [], ◌∷◌}
+use Prim.Native.Nat.{ℕ, ◌+◌, ◌<◌, ◌≤◌}
 use native.Mathlib.Omega.{arith}
-use native.Mathlib.Numerals.{add-one}
-use lib.ListN.{length, get_or, drop, replicate, drop_of_length-le}
-use lib.Seq.{drop-cons}
+use lib.ListN.{length}
 use borrow.Author.Tests.{lt-ltb, le-ltb}
-use Rattle.lists.proofs.Tabulating.{length-tabulate}
+use Rattle.std.specs.List.{sum}
+use Rattle.std.proofs.lemmas.List.Sums.{sum_by-cons}
 use Rattle.lists.proofs.Truths.{both_le}
+use Rattle.plan.specs.declared.rows.Rows.{Rows}
 use Rattle.plan.specs.Sizes.{most_nodes}
-use Rattle.plan.specs.Plan.{size}
+use Rattle.plan.specs.Plan.{Plan, size}
+use Rattle.plan.specs.PlanArrays.{capacities_row, rows_of}
 use Rattle.plan.specs.PlanRules.{PlanRules}
 use Rattle.plan_table.specs.PlanTable.{plan_numbered, plans}
 use Rattle.plan_table.proofs.TableLaws.{table_rules}
-use Rattle.plan.specs.PlanArrays.{capacities_row}
-use Rattle.store.specs.declared.Answer.{Answer}
-use Rattle.store.specs.declared.Copy.{Copy}
 use Rattle.store.specs.declared.Outcome.{Outcome}
-use Rattle.store.specs.declared.Slot.{Slot}
 use Rattle.store.specs.declared.Store.{Store}
 use Rattle.store.specs.Answers.{DONE, RULE, TRAIL, answer}
-use Rattle.store.specs.State.{slot_count, idle}
-use Rattle.store.specs.Layout.{places, refused_store}
+use Rattle.store.specs.Layout.{fresh_store, store_of}
+use Rattle.store.specs.Promises.{fresh_outcome}
 use Rattle.store.specs.StoreRules.{plan_number_test, good_store}
-use Rattle.store.specs.Workers.{WithinPlaces, Sized, of_parts}
+use Rattle.store.specs.Workers.{WithinPlaces}
+use Rattle.store.proofs.Freshening.{fresh_store_is}
 use Rattle.store.proofs.Widths.{rows_fit}
-use Rattle.store.proofs.Laying.{store_is, length-column, blank_column, blank_counts}
-use Rattle.wire.specs.declared.Num.{Num}
-use Rattle.wire.specs.Reading.{Got, got, fault}
-use Rattle.wire.proofs.Chains.{bind_got, bind_fault, num_got, num_fault}
+use Rattle.store.proofs.Laying.{blank_store}
+use Rattle.wire.specs.Reading.{Got, got, fault, bind}
+use Rattle.wire.proofs.Chains.{bind_got, bind_fault}
 use Rattle.image_reading.specs.declared.Head.{Head}
 use Rattle.image_reading.specs.ImageReading.{read_nodes, loaded, nodes_from, image_at}
-use Rattle.image_reading.specs.Workers.{Columns, columns, columns_of, counts_of, LaysNodes, ReadsHead}
-use Rattle.image_reading.proofs.NodeWays.{ending_got, ending_fault}
+use Rattle.image_reading.specs.Workers.{head_at, with_nodes}
+use Rattle.image_reading.proofs.HeadWays.{image_head, head_known}
 use Rattle.image_loading.specs.Loading.{refused_load, copies_held, finished, load_outcome}
-use Rattle.image_loading.specs.Workers.{idle_store, loaded_in}
 
 -- ---- the end of loading
 
@@ -66,117 +62,91 @@ module _ (s : List ℕ) (g : Got Store) where
       unfolding finished
       finish_accepts good = rw (e, le-ltb end (length s) h, good)
 
--- ---- finish
-
-module _ (plan clock : ℕ) (counts keys kinds values stamps : List ℕ) {slots : List Slot} (i : slots ≡ replicate slot_count idle) where
-  -- The check is of the store with all slots idle.
-  pub good_idle : {b : Bool} → b ≡ good_store (of_parts plan clock counts keys kinds values stamps slots)
-      → b ≡ good_store (idle_store plan clock counts keys kinds values stamps)
-  good_idle e = e ∙ ap (λ (x : List Slot). good_store (of_parts plan clock counts keys kinds values stamps x)) i
-
-  -- What an accepted image gives, from the copies held and the answer.
-  pub finish_done : (s : List ℕ) {end held : ℕ} {a : Answer} → length s ≤ end → good_store (idle_store plan clock counts keys kinds values stamps) ≡ true
-      → held ≡ copies_held counts → a ≡ answer DONE held 0 0 0
-      → loaded_in (record { answer = a; plan = plan; clock = clock; slots = slots }) counts keys kinds values stamps
-      ≡ finished s (got (idle_store plan clock counts keys kinds values stamps) end)
-  finish_done s {end} h good e f =
-      (λ t. record {
-        answer = (f ∙ ap (λ (n : ℕ). answer DONE n 0 0 0) e) t;
-        store = of_parts plan clock counts keys kinds values stamps (i t);
-      })
-      ∙ sym (finish_accepts s (got (idle_store plan clock counts keys kinds values stamps) end) refl h good)
-
--- ---- refuse
-
-pub refused_is : (number at : ℕ) {a : Answer} {z : Store} → z ≡ refused_store → a ≡ answer number at 0 0 0
-    → record { answer = a; store = z } ≡ refused_load number at
-refused_is number at e f = λ t. record { answer = f t; store = e t }
-
 -- ---- copies_held
 
--- The sum so far and the counts that are left are all.
-module _ (counts : List ℕ) (n sum : ℕ) (e : sum + copies_held (drop n counts) ≡ copies_held counts) where
-  pub held_turn : n < length counts → sum + get_or counts n 0 + copies_held (drop (n + 1) counts) ≡ copies_held counts
-  unfolding copies_held
-  held_turn h =
-      let d : copies_held (drop n counts) ≡ get_or counts n 0 + copies_held (drop (suc n) counts) = ap copies_held (drop-cons counts n 0 h) in
-      rw add-one (omega arith)
+pub held_sum : (counts : List ℕ) → copies_held counts ≡ sum counts
+unfolding copies_held
+held_sum [] = refl
+held_sum (count ∷ counts) = ap (λ (n : ℕ). count + n) (held_sum counts) ∙ sym (sum_by-cons (λ (x : ℕ). x) count counts)
 
-  pub held_end : length counts ≤ n → sum ≡ copies_held counts
-  unfolding copies_held
-  held_end h = let d : copies_held (drop n counts) ≡ 0 = ap copies_held (drop_of_length-le counts h) in omega arith
+-- ---- the store that the nodes are read into
 
--- ---- clear
+-- The node count and the capacities in the rows of a plan.
+pub rows_are : (p : Plan) {r : Rows} → r ≡ rows_of p → (r.nodes ≡ size p) × (r.capacities ≡ capacities_row p)
+unfolding rows_of
+rows_are p e = (ap (λ (x : Rows). x.nodes) e, ap (λ (x : Rows). x.capacities) e)
 
--- Columns and counts that are all zero are those of no nodes.
-pub empty_counts : replicate most_nodes 0 ≡ counts_of []
-empty_counts = blank_counts [] (λ n. refl)
+module _ (h : Head) (known : plan_number_test h.plan ≡ true) {o : Outcome} (f : o ≡ fresh_outcome h.plan) where
+  -- A fresh store of the plan, with the clock.
+  abbrev begun : Store
+  begun = record o.store { clock = h.clock }
 
-pub empty_columns : columns (replicate places 0) (replicate places 0) (replicate places 0) (replicate places 0) ≡ columns_of []
-empty_columns =
-    λ t. record {
-      keys = blank_column [] (λ n. refl) (λ (x : Copy). x.key) t;
-      kinds = blank_column [] (λ n. refl) (λ (x : Copy). x.kind) t;
-      values = blank_column [] (λ n. refl) (λ (x : Copy). x.value) t;
-      stamps = blank_column [] (λ n. refl) (λ (x : Copy). x.stamp) t;
-    }
+  begun_is : begun ≡ store_of h.plan (loaded h.clock [])
+  unfolding fresh_outcome
+  begun_is =
+      let fresh : o.store ≡ fresh_store h.plan = ap (λ (p : Outcome). p.store) f ∙ rw known in
+      ap (λ (y : Store). record y { clock = h.clock }) (fresh ∙ fresh_store_is h.plan) ∙ blank_store h.plan (loaded h.clock []) (λ n. refl)
 
--- ---- load_nodes
+  -- It holds nothing,
+  pub begun_empty : begun ≡ with_nodes begun []
+  unfolding store_of
+  begun_empty = begun_is ∙ ap (λ (y : Store). with_nodes y []) (sym begun_is)
 
--- The nodes and the capacities of a plan have places in a store.
-pub plan_places : (plan : ℕ) {nodes : ℕ} {capacities : List ℕ} → plan_number_test plan ≡ true → nodes ≡ size (plan_numbered plan)
-    → capacities ≡ capacities_row (plan_numbered plan) → (nodes ≤ most_nodes) × WithinPlaces capacities
-unfolding plan_number_test
-plan_places plan {nodes} {capacities} t e f = (omega (arith, rules.nodes_within), rows_fit (plan_numbered plan) rules capacities f)
-  where
-    rules : PlanRules (plan_numbered plan)
-    rules = let w = both_le 1 plan plan plans t in table_rules plan w.0 w.1
+  -- and its plan's rows have places in it.
+  pub rows_placed : {r : Rows} → r ≡ rows_of (plan_numbered h.plan) → (r.nodes ≤ most_nodes) × WithinPlaces r.capacities
+  unfolding plan_number_test
+  rows_placed {r} g = (omega (arith, (rows_are (plan_numbered h.plan) g).0, rules.nodes_within), rows_fit (plan_numbered h.plan) rules r.capacities (rows_are (plan_numbered h.plan) g).1)
+    where
+      rules : PlanRules (plan_numbered h.plan)
+      rules = let w = both_le 1 h.plan h.plan plans known in table_rules h.plan w.0 w.1
 
-module _ (s : List ℕ) (plan clock at : ℕ) {r : Num} {counts keys kinds values stamps : List ℕ}
-    (l : LaysNodes (read_nodes s (plan_numbered plan) at) r counts (columns keys kinds values stamps)) where
-  -- A node cannot be read.
-  pub nodes_refused : r.ok ≡ false → refused_load r.fault r.at ≡ finished s (nodes_from s plan clock at)
-  unfolding nodes_from
-  nodes_refused h = sym (finish_stops s (nodes_from s plan clock at) (bind_fault _ _ (ending_fault _ _ (num_fault _ l.ends h))))
+  -- ---- the ways out of loading the nodes
 
-  module _ (h : r.ok ≡ true) where
-    -- The nodes that were read.
-    read : (ns : List (List Copy)) × (read_nodes s (plan_numbered plan) at ≡ got ns r.at)
-    read = let e = ending_got _ _ (num_got _ l.ends h) in (e.0, e.1)
+  module _ (s : List ℕ) (at : ℕ) where
+    -- The store that the nodes make, by what is read of them.
+    abbrev pub nodes_read : Got Store
+    nodes_read = bind (read_nodes s (plan_numbered h.plan) at) (λ ns end. got (with_nodes begun ns) end)
 
-    columns_are : columns keys kinds values stamps ≡ columns_of read.0
-    columns_are = l.columns_are read.0 r.at read.1
+    nodes_are : nodes_from s h.plan h.clock at ≡ nodes_read
+    unfolding nodes_from store_of
+    nodes_are = ap (λ (y : Store). bind (read_nodes s (plan_numbered h.plan) at) (λ ns end. got (with_nodes y ns) end)) (sym begun_is)
 
-    -- All nodes are read, and make a store with all slots idle.
-    pub nodes_loaded : finished s (got (idle_store plan clock counts keys kinds values stamps) r.at) ≡ finished s (nodes_from s plan clock at)
-    unfolding nodes_from
-    nodes_loaded =
-        let is =
-        store_is plan (loaded clock read.0) (idle_store plan clock counts keys kinds values stamps) refl refl (l.counts_are read.0 r.at read.1)
-        (ap (λ (d : Columns). d.keys) columns_are) (ap (λ (d : Columns). d.kinds) columns_are) (ap (λ (d : Columns). d.values) columns_are)
-        (ap (λ (d : Columns). d.stamps) columns_are) refl in
-        ap (finished s) (ap (λ (y : Store). got y r.at) is ∙ sym (bind_got _ _ read.1))
+    -- A node cannot be read.
+    pub nodes_stop : {number place : ℕ} → fault number place ≡ nodes_read → refused_load number place ≡ finished s (nodes_from s h.plan h.clock at)
+    nodes_stop n = sym (finish_stops s (nodes_from s h.plan h.clock at) (nodes_are ∙ sym n))
 
-    -- They fill columns as long as a store's.
-    pub nodes_sized : Sized counts keys kinds values stamps
-    nodes_sized =
-        record {
-          counts_long = ap length (l.counts_are read.0 r.at read.1) ∙ length-tabulate _ 0 most_nodes;
-          keys_long = ap (λ (d : Columns). length d.keys) columns_are ∙ length-column (λ (x : Copy). x.key) read.0;
-          kinds_long = ap (λ (d : Columns). length d.kinds) columns_are ∙ length-column (λ (x : Copy). x.kind) read.0;
-          values_long = ap (λ (d : Columns). length d.values) columns_are ∙ length-column (λ (x : Copy). x.value) read.0;
-          stamps_long = ap (λ (d : Columns). length d.stamps) columns_are ∙ length-column (λ (x : Copy). x.stamp) read.0;
-        }
+    module _ {z : Store} {end : ℕ} (n : got z end ≡ nodes_read) where
+      nodes_give : nodes_from s h.plan h.clock at ≡ got z end
+      nodes_give = nodes_are ∙ sym n
 
--- ---- load_lent
+      -- Bytes after the image.
+      pub nodes_trail : end < length s → refused_load TRAIL end ≡ finished s (nodes_from s h.plan h.clock at)
+      nodes_trail t = sym (finish_trails s (nodes_from s h.plan h.clock at) nodes_give t)
 
-module _ (s : List ℕ) {r : Head} (h : ReadsHead s r) where
+      -- A store rule is broken.
+      pub nodes_break : length s ≤ end → good_store z ≡ false → refused_load RULE (length s) ≡ finished s (nodes_from s h.plan h.clock at)
+      nodes_break t bad = sym (finish_breaks s (nodes_from s h.plan h.clock at) nodes_give t bad)
+
+      -- All rules hold.
+      pub nodes_accept : length s ≤ end → good_store z ≡ true → {held : ℕ} → held ≡ copies_held z.counts
+          → record { answer = answer DONE held 0 0 0; store = z } ≡ finished s (nodes_from s h.plan h.clock at)
+      nodes_accept t good k =
+          ap (λ (n : ℕ). record { answer = answer DONE n 0 0 0; store = z }) k ∙ sym (finish_accepts s (nodes_from s h.plan h.clock at) nodes_give t good)
+
+-- ---- the ways of loading an image
+
+module _ (s : List ℕ) where
   -- The head cannot be read.
-  pub head_refused : r.ok ≡ false → refused_load r.fault r.at ≡ load_outcome s
+  pub head_stops : {number at : ℕ} → fault number at ≡ head_at s → refused_load number at ≡ load_outcome s
   unfolding load_outcome
-  head_refused f = sym (finish_stops s (image_at s) (h.stops f))
+  head_stops e = sym (finish_stops s (image_at s) (image_head s ∙ bind_fault _ _ (sym e)))
 
-  -- The nodes decide.
-  pub head_loads : r.ok ≡ true → finished s (nodes_from s r.plan r.clock r.at) ≡ load_outcome s
-  unfolding load_outcome
-  head_loads t = ap (finished s) (sym (h.goes t).1)
+  module _ (h : Head) {at : ℕ} (e : got h at ≡ head_at s) where
+    -- The head's plan is known,
+    pub plan_known : plan_number_test h.plan ≡ true
+    plan_known = (head_known s).each h at (sym e)
+
+    -- and the load is that of the nodes after the head.
+    pub load_follows : finished s (nodes_from s h.plan h.clock at) ≡ load_outcome s
+    unfolding load_outcome
+    load_follows = sym (ap (finished s) (image_head s ∙ bind_got _ _ (sym e)))

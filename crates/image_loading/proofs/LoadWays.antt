@@ -7,7 +7,8 @@ use native.Mathlib.Decide.{dec_lt}
 use native.Mathlib.Omega.{arith}
 use lib.Dec.{ltb, eqb}
 use lib.ListN.{length}
-use Rattle.lists.proofs.Truths.{bool?, not_both, or_right}
+use Rattle.lists.proofs.Truths.{bool?, not_both}
+use Rattle.std.proofs.lemmas.Bool.{or_right}
 use mathlib.Core.Logic.{◌⊎◌, inl, inr}
 use Rattle.number.specs.Number.{narrow}
 use Rattle.plan.specs.Plan.{Plan}

@@ -1,2 +1,1 @@
 pub mod Loading
-pub mod Workers

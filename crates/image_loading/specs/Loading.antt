@@ -1,10 +1,13 @@
 -- Loading an image. Document 01, "Bytes": "At the end TRAIL, then RULE with the image's length as offset."
-use Rattle.std.specs.Prelude.{cond, List, [], ◌∷◌, ℕ, ◌+◌, ltb, length}
+use Rattle.std.specs.Prelude.{◌≡◌, cond, List, [], ◌∷◌, ℕ, ◌+◌, ltb, length, Result, Ok, Err}
+use Rattle.store.specs.declared.Answer.{Answer}
 use Rattle.store.specs.declared.Outcome.{Outcome}
 use Rattle.store.specs.declared.Store.{Store}
 use Rattle.store.specs.Answers.{DONE, RULE, TRAIL, answer}
 use Rattle.store.specs.Layout.{refused_store}
+use Rattle.store.specs.Refusals.{refusal_number}
 use Rattle.store.specs.StoreRules.{good_store}
+use Rattle.wire.specs.declared.Fault.{Fault}
 use Rattle.wire.specs.Reading.{Got, got, fault}
 use Rattle.image_reading.specs.ImageReading.{image_at}
 
@@ -27,3 +30,12 @@ finished s (got z end) =
 -- What loading a byte string gives.
 unfoldable pub load_outcome : List ℕ → Outcome
 load_outcome s = finished s (image_at s)
+
+-- What a load tells by what it hands back: the copies held and the store; or the fault, and a fresh store in place of what was read.
+abbrev pub load_told : Store → Result ℕ Fault → Outcome
+load_told z (Ok held) = record { answer = answer DONE held 0 0 0; store = z }
+load_told z (Err f) = refused_load (refusal_number f.why) f.at
+
+-- The outcome of a load into a store, which may have held anything.
+abbrev pub LoadsInto : List ℕ → Answer → Store → Type 0
+LoadsInto bytes a z = record { answer = a; store = z } ≡ load_outcome bytes

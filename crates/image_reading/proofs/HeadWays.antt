@@ -1,74 +1,58 @@
--- Why the reader of an image's head gives what it promises: one law for each way out.
-use mathlib.Core.Path.{◌≡◌, refl, ◌∙◌}
-use mathlib.Core.Bool.{true, false}
+-- The head of an image, and the image after it.
+use mathlib.Core.Path.{◌≡◌, refl, sym, ap, ◌∙◌}
+use mathlib.Core.Bool.{Bool, true, false, cond}
 use mathlib.Core.List.{List}
-use Prim.Native.Nat.{ℕ, ◌<◌, ◌≤◌}
-use native.Mathlib.Omega.{arith}
+use Prim.Native.Nat.{ℕ}
 use lib.Dec.{ltb, eqb}
-use borrow.Author.Tests.{lt-ltb, le-ltb, eq-eqb, ne_eqb}
-use Rattle.lists.proofs.Truths.{not_both}
 use Rattle.number.specs.Number.{narrow}
+use Rattle.store.specs.declared.Store.{Store}
 use Rattle.store.specs.Answers.{PLAN, FORMAT, RULE}
 use Rattle.store.specs.StoreRules.{plan_number_test}
-use Rattle.wire.specs.Reading.{got, fault, number_at}
-use Rattle.wire.proofs.Chains.{bind_got, bind_fault, check_holds, check_fails}
-use Rattle.image_reading.specs.declared.Head.{Head}
+use Rattle.wire.specs.Reading.{Got, fault, bind, number_at}
+use Rattle.wire.proofs.Chains.{Gives, gives_got, gives_any, gives_check, gives_bind}
 use Rattle.image_writing.specs.Image.{format_number}
-use Rattle.image_reading.specs.ImageReading.{clock_from, plan_from, image_at}
-use Rattle.image_reading.specs.Workers.{ReadsHead}
+use Rattle.image_reading.specs.declared.Head.{Head}
+use Rattle.image_reading.specs.ImageReading.{clock_from, plan_from, nodes_from, image_at}
+use Rattle.image_reading.specs.Workers.{head_at}
+use Rattle.image_reading.proofs.ReadWays.{bind_bind}
 
--- Reading the image ends in the head, with a fault.
-pub head_stops : {s : List ℕ} {r : Head} {number at : ℕ} → (r.ok ≡ false) × (r.fault ≡ number) × (r.at ≡ at) → image_at s ≡ fault number at
-    → ReadsHead s r
-head_stops h e =
-    record {
-      goes = λ t. absurd (not_both t h.0);
-      stops = λ f. rw (h.1, h.2) e;
-    }
+-- The nodes after a head.
+abbrev pub nodes_after : List ℕ → Head → ℕ → Got Store
+nodes_after s h at = nodes_from s h.plan h.clock at
+
+-- What is done after a check is done where it holds.
+after_check : (test : Bool) (number at : ℕ) (g : Got Head) (h : Head → ℕ → Got Store)
+    → bind (cond test g (fault number at)) h ≡ cond test (bind g h) (fault number at)
+unfolding bind
+after_check true number at g h = refl
+after_check false number at g h = refl
+
+-- A number, its check and what follows, and then what is done after all.
+module _ (g : Got ℕ) (test : ℕ → Bool) (number : ℕ) (place : ℕ → ℕ) (f : ℕ → ℕ → Got Head) (h : Head → ℕ → Got Store) where
+  number_checked : (k : ℕ → ℕ → Got Store) → ((x a : ℕ) → bind (f x a) h ≡ k x a)
+      → bind (bind g (λ x a. cond (test x) (f x a) (fault number (place a)))) h ≡ bind g (λ x a. cond (test x) (k x a) (fault number (place a)))
+  number_checked k same =
+      bind_bind g (λ x a. cond (test x) (f x a) (fault number (place a))) h
+      ∙ (λ t. bind g (λ x a. (after_check (test x) number (place a) (f x a) h ∙ ap (λ (r : Got Store). cond (test x) r (fault number (place a))) (same x a)) t))
 
 module _ (s : List ℕ) where
-  pub no_format : {number at : ℕ} → number_at narrow s 0 ≡ fault number at → image_at s ≡ fault number at
-  unfolding image_at
-  no_format e = bind_fault _ _ e
+  -- Reading an image is reading its head, and then the nodes.
+  pub image_head : image_at s ≡ bind (head_at s) (nodes_after s)
+  unfolding image_at plan_from clock_from head_at bind
+  image_head =
+      sym
+      (number_checked (number_at narrow s 0) (λ format. eqb format format_number) FORMAT (λ a. 0) _ (nodes_after s) _
+      λ format a. number_checked (number_at narrow s a) plan_number_test PLAN (λ b. a) _ (nodes_after s) _
+      λ plan b. number_checked (number_at narrow s b) (λ clock. ltb 0 clock) RULE (λ c. b) _ (nodes_after s) _ λ clock c. refl)
 
-  module _ {format a : ℕ} (f : number_at narrow s 0 ≡ got format a) where
-    pub bad_format : (format ≡ format_number → ⊥) → image_at s ≡ fault FORMAT 0
-    unfolding image_at
-    bad_format h = bind_got _ _ f ∙ check_fails (eqb format format_number) FORMAT 0 _ (ne_eqb format format_number h)
-
-    module _ (one : format ≡ format_number) where
-      plan_follows : image_at s ≡ plan_from s a
-      unfolding image_at
-      plan_follows = bind_got _ _ f ∙ check_holds (eqb format format_number) FORMAT 0 _ (eq-eqb format format_number one)
-
-      pub no_plan : {number at : ℕ} → number_at narrow s a ≡ fault number at → image_at s ≡ fault number at
-      unfolding plan_from
-      no_plan e = plan_follows ∙ bind_fault _ _ e
-
-      module _ {plan b : ℕ} (p : number_at narrow s a ≡ got plan b) where
-        pub bad_plan : plan_number_test plan ≡ false → image_at s ≡ fault PLAN a
-        unfolding plan_from
-        bad_plan h = plan_follows ∙ bind_got _ _ p ∙ check_fails (plan_number_test plan) PLAN a _ h
-
-        module _ (known : plan_number_test plan ≡ true) where
-          clock_follows : image_at s ≡ clock_from s plan b
-          unfolding plan_from
-          clock_follows = plan_follows ∙ bind_got _ _ p ∙ check_holds (plan_number_test plan) PLAN a _ known
-
-          pub no_clock : {number at : ℕ} → number_at narrow s b ≡ fault number at → image_at s ≡ fault number at
-          unfolding clock_from
-          no_clock e = clock_follows ∙ bind_fault _ _ e
-
-          module _ {clock c : ℕ} (k : number_at narrow s b ≡ got clock c) where
-            pub bad_clock : clock < 1 → image_at s ≡ fault RULE b
-            unfolding clock_from
-            bad_clock h = clock_follows ∙ bind_got _ _ k ∙ check_fails (ltb 0 clock) RULE b _ (le-ltb 0 clock (omega arith))
-
-            -- Reading goes on with the nodes.
-            pub head_goes : 1 ≤ clock → ReadsHead s (record { ok = true; fault = 0; at = c; plan = plan; clock = clock })
-            unfolding clock_from
-            head_goes h =
-                record {
-                  goes = λ t. (known, clock_follows ∙ bind_got _ _ k ∙ check_holds (ltb 0 clock) RULE b _ (lt-ltb 0 clock h));
-                  stops = λ f. absurd (not_both refl f);
-                }
+  -- The plan that it names is known.
+  pub head_known : Gives (λ h next. plan_number_test h.plan ≡ true) (head_at s)
+  unfolding head_at
+  head_known =
+      gives_bind _ _ (gives_any _) λ format a _.
+      gives_check (eqb format format_number) FORMAT 0 _ λ _.
+      gives_bind _ _ (gives_any _) λ plan b _.
+      gives_check (plan_number_test plan) PLAN a _ λ known.
+      gives_bind _ _ (gives_any _) λ clock c _.
+      gives_check (ltb 0 clock) RULE b _ λ _.
+      gives_got known

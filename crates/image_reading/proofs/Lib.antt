@@ -1,3 +1,3 @@
-pub mod HeadWays
-pub mod NodeWays
 pub mod ReadWays
+pub mod NodeWays
+pub mod HeadWays

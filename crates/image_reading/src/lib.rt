@@ -1,188 +1,124 @@
-// Reading an image from the left: its head, and its nodes into lent columns. The first fault wins.
+// Reading an image from the left: its head, and its nodes into a store. The first fault wins.
 #![tactic(auto)]
 
-ghost use Rattle.std.specs.Prelude.{◌≡◌, false, ◌-◌, ◌*◌, ◌≤◌, ◌<◌, length};
+ghost use Rattle.std.specs.Prelude.{◌≡◌, ◌-◌, ◌≤◌, ◌<◌, []};
 ghost use Rattle.plan.specs.Sizes.{most_nodes};
+ghost use Rattle.plan.specs.Plan.{Plan, size};
+ghost use Rattle.plan.specs.PlanArrays.{capacities_row};
 ghost use Rattle.store.specs.Layout.{width, places};
-ghost use Rattle.store.specs.Workers.{LentWithinPlaces};
-ghost use Rattle.image_reading.specs.ImageReading.{read_copies, read_node};
-ghost use Rattle.image_reading.specs.Workers.{no_number, LentEmpty, LentLays, ReadsNodes, ReadsHead};
+ghost use Rattle.store.specs.Workers.{WithinPlaces};
+ghost use Rattle.wire.specs.Reading.{got_of};
+ghost use Rattle.image_reading.specs.ImageReading.{read_copies, read_node, read_nodes};
+ghost use Rattle.image_reading.specs.Workers.{head_at, with_copies, with_node, with_nodes, LaysInto};
 
 use image_writing::FORMAT;
-use store::{Answer, Store};
-use wire::Num;
+use number::Read;
+use plan::rows::Rows;
+use store::Store;
+use store::refusal::Refusal;
+use wire::Fault;
 
-// Plan, clock and the offset after them, or a fault: an answer number and its offset.
-#[derive(Clone, Copy)]
+// What an image's head says of its store.
+#[derive(Clone, Copy, Debug, PartialEq, Eq)]
 pub struct Head {
-    pub ok: bool,
-    pub fault: u32,
-    pub at: usize,
     pub plan: u32,
     pub clock: u32,
 }
 
-// The copies of the places from..end.
+// The copies of the places from..end. Gives the offset after them.
 fn read_copies(
     bytes: &[u8],
-    keys: &mut [u32; Store::PLACES],
-    kinds: &mut [u32; Store::PLACES],
-    values: &mut [u32; Store::PLACES],
-    stamps: &mut [u32; Store::PLACES],
+    at: usize,
     from: usize,
     end: usize,
-    at: usize,
-) -> Num
+    store: &mut Store,
+) -> Result<usize, Fault>
     requires { (from ≤ end) × (end ≤ places) }
-    ensures { LentLays (read_copies bytes.now (end - from) at) no_number keys kinds values stamps from result }
+    ensures laid { LaysInto (read_copies bytes.now (end - from) at) (with_copies store.old from) result store.new }
+    ensures kept { (store.new.plan ≡ store.old.plan) × (store.new.clock ≡ store.old.clock) × (store.new.slots ≡ store.old.slots) }
 {
     let mut next = at;
-    let mut i = from;
-    while i < end {
-        let read = copies::read_copy(bytes, next);
-        if !read.ok {
-            return Num {
-                ok: false,
-                fault: read.fault,
-                at: read.at,
-                value: 0,
-            };
-        }
-        let copy = read.copy;
-        keys[i] = copy.key;
-        kinds[i] = copy.kind;
-        values[i] = copy.value;
-        stamps[i] = copy.stamp;
-        next = read.at;
-        i += 1;
+    for i in from..end {
+        let copy = copies::read_copy(bytes, next)?;
+        store.keys[i] = copy.value.key;
+        store.kinds[i] = copy.value.kind;
+        store.values[i] = copy.value.value;
+        store.stamps[i] = copy.value.stamp;
+        next = copy.next;
     }
-    Num {
-        ok: true,
-        fault: 0,
-        at: next,
-        value: 0,
-    }
+    Ok(next)
 }
 
-// A node: its count (RULE above the capacity), then its copies. Gives back the count.
+// A node: its count (RULE above the capacity), then its copies.
+#[tactic(auto, unfolding(crate::specs::ImageReading::read_node, wire::specs::Reading::bind))]
 fn read_node(
     bytes: &[u8],
-    keys: &mut [u32; Store::PLACES],
-    kinds: &mut [u32; Store::PLACES],
-    values: &mut [u32; Store::PLACES],
-    stamps: &mut [u32; Store::PLACES],
-    node: usize,
-    capacity: u32,
     at: usize,
-) -> Num
+    capacity: u32,
+    node: usize,
+    store: &mut Store,
+) -> Result<usize, Fault>
     requires { (node < most_nodes) × (capacity ≤ width) }
-    ensures { LentLays (read_node bytes.now capacity at) length keys kinds values stamps (width * node) result }
+    ensures laid { LaysInto (read_node bytes.now capacity at) (with_node store.old node) result store.new }
+    ensures kept { (store.new.plan ≡ store.old.plan) × (store.new.clock ≡ store.old.clock) × (store.new.slots ≡ store.old.slots) }
 {
-    let count = wire::read_number(bytes, at);
-    if !count.ok {
-        return count;
-    }
+    let count = wire::read_number(bytes, at)?;
     if capacity < count.value {
-        return Num {
-            ok: false,
-            fault: Answer::RULE,
+        return Err(Fault {
+            why: Refusal::Rule,
             at,
-            value: 0,
-        };
+        });
     }
+    store.counts[node] = count.value;
     let from = Store::WIDTH * node;
-    let end = from + count.value as usize;
-    let read = read_copies(bytes, keys, kinds, values, stamps, from, end, count.at);
-    if !read.ok {
-        return read;
-    }
-    Num {
-        ok: true,
-        fault: 0,
-        at: read.at,
-        value: count.value,
-    }
+    read_copies(bytes, count.next, from, from + count.value as usize, store)
 }
 
-// So many nodes with these capacities, into columns and counts that hold nothing.
-pub fn read_nodes(
-    bytes: &[u8],
-    nodes: u32,
-    capacities: &[u32; plan::MOST_NODES],
-    counts: &mut [u32; Store::NODES],
-    keys: &mut [u32; Store::PLACES],
-    kinds: &mut [u32; Store::PLACES],
-    values: &mut [u32; Store::PLACES],
-    stamps: &mut [u32; Store::PLACES],
-    at: usize,
-) -> Num
-    requires { LentWithinPlaces nodes capacities × LentEmpty counts keys kinds values stamps }
-    ensures { ReadsNodes bytes.entry nodes capacities.entry at counts keys kinds values stamps result }
+// The nodes of a plan, into a store that holds nothing. Plan, clock and slots stay as they were, after a fault too.
+pub fn read_nodes(bytes: &[u8], at: usize, rows: &Rows, store: &mut Store) -> Result<usize, Fault>
+    requires { (rows.now.nodes ≤ most_nodes) × WithinPlaces rows.now.capacities × (store.old ≡ with_nodes store.old []) }
+    ensures laid { (p : Plan) → rows.now.nodes ≡ size p → rows.now.capacities ≡ capacities_row p → LaysInto (read_nodes bytes.now p at) (with_nodes store.old) result store.new }
+    ensures kept { (store.new.plan ≡ store.old.plan) × (store.new.clock ≡ store.old.clock) × (store.new.slots ≡ store.old.slots) }
 {
     let mut next = at;
-    let mut n: u32 = 0;
-    while n < nodes {
-        let node = n as usize;
-        let capacity = plan::arrays::capacity_in(capacities, n);
-        let read = read_node(bytes, keys, kinds, values, stamps, node, capacity, next);
-        if !read.ok {
-            return read;
-        }
-        counts[node] = read.value;
-        next = read.at;
-        n += 1;
+    for node in 0..rows.nodes {
+        next = read_node(bytes, next, rows.capacity(node), node as usize, store)?;
     }
-    Num {
-        ok: true,
-        fault: 0,
-        at: next,
-        value: 0,
-    }
-}
-
-// A fault in place of the head.
-fn no_head(number: u32, at: usize) -> Head
-    ensures { (result.ok ≡ false) × (result.fault ≡ number) × (result.at ≡ at) }
-{
-    Head {
-        ok: false,
-        fault: number,
-        at,
-        plan: 0,
-        clock: 0,
-    }
+    Ok(next)
 }
 
 // Format, plan and clock, each with its check: FORMAT, PLAN, RULE for clock 0.
-pub fn read_head(bytes: &[u8]) -> Head
-    ensures { ReadsHead bytes.now result }
+#[tactic(auto, unfolding(crate::specs::Workers::head_at, wire::specs::Reading::bind))]
+pub fn read_head(bytes: &[u8]) -> Result<Read<Head>, Fault>
+    ensures { got_of result ≡ head_at bytes.now }
 {
-    let format = wire::read_number(bytes, 0);
-    if !format.ok {
-        return no_head(format.fault, format.at);
-    }
+    let format = wire::read_number(bytes, 0)?;
     if format.value != FORMAT {
-        return no_head(Answer::FORMAT, 0);
+        return Err(Fault {
+            why: Refusal::Format,
+            at: 0,
+        });
     }
-    let plan = wire::read_number(bytes, format.at);
-    if !plan.ok {
-        return no_head(plan.fault, plan.at);
-    }
+    let plan = wire::read_number(bytes, format.next)?;
     if !Store::is_plan(plan.value) {
-        return no_head(Answer::PLAN, format.at);
+        return Err(Fault {
+            why: Refusal::Plan,
+            at: format.next,
+        });
     }
-    let clock = wire::read_number(bytes, plan.at);
-    if !clock.ok {
-        return no_head(clock.fault, clock.at);
-    }
+    let clock = wire::read_number(bytes, plan.next)?;
     if clock.value < 1 {
-        return no_head(Answer::RULE, plan.at);
+        return Err(Fault {
+            why: Refusal::Rule,
+            at: plan.next,
+        });
     }
-    Head {
-        ok: true,
-        fault: 0,
-        at: clock.at,
+    let head = Head {
         plan: plan.value,
         clock: clock.value,
-    }
+    };
+    Ok(Read {
+        value: head,
+        next: clock.next,
+    })
 }

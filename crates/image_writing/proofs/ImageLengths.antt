@@ -11,14 +11,15 @@ use Rattle.number.specs.Number.{form}
 use Rattle.number.proofs.Forms.{form-length}
 use Rattle.plan.specs.Sizes.{most_nodes}
 use Rattle.store.specs.declared.Copy.{Copy}
-use Rattle.store.specs.Layout.{width, node_in}
+use Rattle.store.specs.declared.Store.{Store}
+use Rattle.store.specs.Layout.{width, node_in, copy_of, count_of, node_of, state_in}
 use Rattle.store.specs.State.{State}
-use Rattle.store.specs.Workers.{WithinPlaces}
-use Rattle.store.proofs.Laying.{length-node_in}
+use Rattle.store.specs.Workers.{HasPlaces, WithinPlaces}
+use Rattle.store.proofs.Laying.{length-node}
 use Rattle.wire.proofs.Parts.{count_on, count_off}
 use Rattle.copies.specs.CopyBytes.{copy_bytes}
 use Rattle.copies.proofs.CopyLengths.{longest_copy, copy_short}
-use Rattle.image_writing.specs.Image.{format_number, copies_bytes, node_bytes, nodes_bytes, image_of}
+use Rattle.image_writing.specs.Image.{format_number, copies_bytes, node_bytes, nodes_bytes, image_of, nodes_in, image_by}
 
 -- ---- copies
 
@@ -48,16 +49,21 @@ longest_node = 5 + longest_copy * width
 pub node_short : (xs : List Copy) → length xs ≤ width → length (node_bytes xs) ≤ longest_node
 node_short xs h = omega (arith, node-length xs, form-length (length xs), copies_short xs)
 
--- A node in the places of columns: its count's bytes and its copies'.
-module _ (f : ℕ → Copy) (from count : ℕ) {a b : ℕ} (p : a ≡ length (form count)) (q : b ≡ length (copies_bytes (tabulate from (from + count - from) f))) where
-  pub node_adds : a + b ≡ length (node_bytes (tabulate from count f))
-  node_adds =
-      let m : from + count - from ≡ count = omega arith in
-      let r : b ≡ length (copies_bytes (tabulate from count f)) = rw m at q in
-      omega (arith, node-length (tabulate from count f), ap (λ (n : ℕ). length (form n)) (length-tabulate f from count))
+-- The copies of a node of a store: those of its places, from its first one up to the end of those used.
+pub node_copies : (z : Store) (n : ℕ) → tabulate (width * n) (width * n + count_of z n - width * n) (copy_of z) ≡ node_of z n
+unfolding node_in
+node_copies z n = let m : width * n + count_of z n - width * n ≡ count_of z n = omega arith in rw m
 
-  pub node_adds_few : count ≤ width → a + b ≤ longest_node
-  node_adds_few h = let e = node_adds in omega (arith, node_short (tabulate from count f) (omega (arith, length-tabulate f from count)))
+-- A node of a store: its count's bytes and its copies'.
+module _ (z : Store) (n : ℕ) {a b : ℕ} (p : a ≡ length (form (count_of z n)))
+    (q : b ≡ length (copies_bytes (tabulate (width * n) (width * n + count_of z n - width * n) (copy_of z)))) where
+  pub node_adds : a + b ≡ length (node_bytes (node_of z n))
+  node_adds =
+      let r = rw (node_copies z n) at q in
+      omega (arith, node-length (node_of z n), ap (λ (k : ℕ). length (form k)) (length-node z n))
+
+  pub node_adds_few : HasPlaces z.counts n → a + b ≤ longest_node
+  node_adds_few h = let e = node_adds in omega (arith, node_short (node_of z n) (omega (arith, length-node z n)))
 
 pub no_nodes : nodes_bytes [] ≡ []
 unfolding nodes_bytes
@@ -73,18 +79,13 @@ nodes_short (xs ∷ ns) h =
     rw (more_nodes xs ns)
     (omega (arith, length-append (node_bytes xs) (nodes_bytes ns), node_short xs (h 0 (omega arith)), nodes_short ns (λ n g. h (suc n) (omega arith))))
 
-pub nodes_in_short : (size : ℕ) (counts keys kinds values stamps : List ℕ) → size ≤ most_nodes → WithinPlaces counts
-    → length (nodes_bytes (tabulate 0 size (node_in counts keys kinds values stamps))) ≤ longest_node * size
-nodes_in_short size counts keys kinds values stamps there within =
-    let ns = tabulate 0 size f in
-    let long : length ns ≡ size = length-tabulate f 0 size in
-    omega (arith, nodes_short ns (λ n h. rw (get_d_from_start f size n [] (omega arith)) (few n (omega arith))))
+pub nodes_in_short : (z : Store) (nodes : ℕ) → nodes ≤ most_nodes → WithinPlaces z.counts → length (nodes_bytes (nodes_in z nodes)) ≤ longest_node * nodes
+nodes_in_short z nodes there within =
+    let long : length (nodes_in z nodes) ≡ nodes = length-tabulate (node_of z) 0 nodes in
+    omega (arith, nodes_short (nodes_in z nodes) (λ n h. rw (get_d_from_start (node_of z) nodes n [] (omega arith)) (few n (omega arith))))
   where
-    f : ℕ → List Copy
-    f n = node_in counts keys kinds values stamps n
-
-    few : (n : ℕ) → n < most_nodes → length (f n) ≤ width
-    few n h = rw (length-node_in counts keys kinds values stamps n) (within n h)
+    few : (n : ℕ) → n < most_nodes → length (node_of z n) ≤ width
+    few n h = rw (length-node z n) (within n h)
 
 -- ---- an image
 
@@ -98,15 +99,16 @@ image-length plan s =
     let nodes = nodes_bytes s.nodes in
     omega (arith, length-append format (number ++ (clock ++ nodes)), length-append number (clock ++ nodes), length-append clock nodes)
 
--- The bytes of its head and of its nodes.
-module _ (plan : ℕ) (s : State) {a b c d : ℕ} (f : a ≡ length (form format_number)) (p : b ≡ length (form plan)) (k : c ≡ length (form s.clock))
-    (r : d ≡ length (nodes_bytes s.nodes)) where
-  pub image_adds : a + b + c + d ≡ length (image_of plan s)
-  image_adds = omega (arith, image-length plan s)
+-- The bytes of a store's head and of its nodes.
+module _ (z : Store) (nodes : ℕ) {a b c d : ℕ} (f : a ≡ length (form format_number)) (p : b ≡ length (form z.plan)) (k : c ≡ length (form z.clock))
+    (r : d ≡ length (nodes_bytes (nodes_in z nodes))) where
+  pub image_adds : a + b + c + d ≡ length (image_by nodes z)
+  image_adds = omega (arith, image-length z.plan (state_in nodes z.clock z.counts z.keys z.kinds z.values z.stamps z.slots))
 
   -- They are few.
-  pub image_adds_few : (nodes : ℕ) → nodes ≤ most_nodes → length (nodes_bytes s.nodes) ≤ longest_node * nodes → a + b + c + d ≤ 3 * 5 + longest_node * most_nodes
-  image_adds_few nodes few short = omega (arith, form-length format_number, form-length plan, form-length s.clock)
+  pub image_adds_few : nodes ≤ most_nodes → WithinPlaces z.counts → a + b + c + d ≤ 3 * 5 + longest_node * most_nodes
+  image_adds_few few within =
+      omega (arith, form-length format_number, form-length z.plan, form-length z.clock, nodes_in_short z nodes few within)
 
 -- ---- a loop that counts the bytes of copies, and one of nodes
 

@@ -1,87 +1,56 @@
 // How many bytes an image takes.
-ghost use Rattle.std.specs.Prelude.{◌≡◌, ◌≤◌, ◌<◌, length};
+ghost use Rattle.std.specs.Prelude.{◌≡◌, ◌≤◌, ◌<◌, ◌-◌, length};
+ghost use Rattle.lists.specs.Indexed.{tabulate};
 ghost use Rattle.plan.specs.Sizes.{most_nodes};
-ghost use Rattle.store.specs.Layout.{width, places};
-ghost use Rattle.store.specs.Workers.{LentWithinPlaces};
-ghost use Rattle.image_writing.specs.Image.{copies_bytes, node_bytes, nodes_bytes};
-ghost use Rattle.image_writing.specs.Workers.{lent_copies, lent_node, lent_nodes, lent_image};
+ghost use Rattle.store.specs.Layout.{places, copy_of, node_of};
+ghost use Rattle.store.specs.Workers.{HasPlaces, WithinPlaces};
+ghost use Rattle.image_writing.specs.Image.{copies_bytes, node_bytes, nodes_bytes, nodes_in, image_by};
 
 use crate::FORMAT;
 use store::Store;
 
 // The copies of the places from..end.
-fn copies_length<'a>(
-    keys: &'a [u32; Store::PLACES],
-    kinds: &'a [u32; Store::PLACES],
-    values: &'a [u32; Store::PLACES],
-    stamps: &'a [u32; Store::PLACES],
-    from: usize,
-    end: usize,
-) -> usize
+fn copies_length(store: &Store, from: usize, end: usize) -> usize
     requires { (from ≤ end) × (end ≤ places) }
-    ensures { result ≡ length (copies_bytes (lent_copies keys.entry kinds.entry values.entry stamps.entry from end)) }
+    ensures { result ≡ length (copies_bytes (tabulate from (end - from) (copy_of store.now))) }
 {
     let mut sum: usize = 0;
-    let mut i = from;
-    while i < end {
-        sum = sum + copies::copy_length(keys[i], kinds[i], values[i], stamps[i]);
-        i += 1;
+    for i in from..end {
+        sum += copies::copy_length(store.copy_at(i));
     }
     sum
 }
 
 // A node: its count and its copies.
-fn node_length<'a>(
-    count: u32,
-    keys: &'a [u32; Store::PLACES],
-    kinds: &'a [u32; Store::PLACES],
-    values: &'a [u32; Store::PLACES],
-    stamps: &'a [u32; Store::PLACES],
-    node: usize,
-) -> usize
-    requires { (node < most_nodes) × (count ≤ width) }
-    ensures { result ≡ length (node_bytes (lent_node keys.entry kinds.entry values.entry stamps.entry node count)) }
+fn node_length(store: &Store, node: usize) -> usize
+    requires { (node < most_nodes) × HasPlaces store.now.counts node }
+    ensures { result ≡ length (node_bytes (node_of store.now node)) }
 {
+    let count = store.counts[node];
     let from = Store::WIDTH * node;
-    let of_copies = copies_length(keys, kinds, values, stamps, from, from + count as usize);
-    number::length_of(count) + of_copies
+    number::length_of(count) + copies_length(store, from, from + count as usize)
 }
 
 // The first nodes, so many of them.
-fn nodes_length<'a>(
-    nodes: usize,
-    counts: &'a [u32; Store::NODES],
-    keys: &'a [u32; Store::PLACES],
-    kinds: &'a [u32; Store::PLACES],
-    values: &'a [u32; Store::PLACES],
-    stamps: &'a [u32; Store::PLACES],
-) -> usize
-    requires { LentWithinPlaces nodes counts }
-    ensures { result ≡ length (nodes_bytes (lent_nodes nodes counts.entry keys.entry kinds.entry values.entry stamps.entry)) }
+fn nodes_length(store: &Store, nodes: usize) -> usize
+    requires { (nodes ≤ most_nodes) × WithinPlaces store.now.counts }
+    ensures { result ≡ length (nodes_bytes (nodes_in store.now nodes)) }
 {
     let mut sum: usize = 0;
-    let mut n: usize = 0;
-    while n < nodes {
-        sum = sum + node_length(counts[n], keys, kinds, values, stamps, n);
-        n += 1;
+    for node in 0..nodes {
+        sum += node_length(store, node);
     }
     sum
 }
 
 // The image of a store: its plan's number, its clock, and so many nodes.
-pub fn image_length<'a>(
-    plan: u32,
-    clock: u32,
-    nodes: usize,
-    counts: &'a [u32; Store::NODES],
-    keys: &'a [u32; Store::PLACES],
-    kinds: &'a [u32; Store::PLACES],
-    values: &'a [u32; Store::PLACES],
-    stamps: &'a [u32; Store::PLACES],
-) -> usize
-    requires { LentWithinPlaces nodes counts }
-    ensures { result ≡ length (lent_image plan clock nodes counts.entry keys.entry kinds.entry values.entry stamps.entry) }
+pub fn image_length(store: &Store, nodes: usize) -> usize
+    requires { (nodes ≤ most_nodes) × WithinPlaces store.now.counts }
+    ensures { result ≡ length (image_by nodes store.now) }
 {
-    let of_nodes = nodes_length(nodes, counts, keys, kinds, values, stamps);
-    number::length_of(FORMAT) + number::length_of(plan) + number::length_of(clock) + of_nodes
+    let of_nodes = nodes_length(store, nodes);
+    number::length_of(FORMAT)
+        + number::length_of(store.plan)
+        + number::length_of(store.clock)
+        + of_nodes
 }

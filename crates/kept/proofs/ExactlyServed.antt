@@ -8,7 +8,8 @@ use Prim.Native.Nat.{ℕ, ◌≤◌}
 use native.Mathlib.Omega.{arith}
 use lib.ListN.{length}
 use denote.Ref.{Bor}
-use Rattle.lists.proofs.Truths.{bool?, not_both, refuted}
+use Rattle.lists.proofs.Truths.{bool?, not_both}
+use Rattle.std.proofs.lemmas.Bool.{false_from_ne_true}
 use Rattle.store.specs.declared.Store.{Store}
 use Rattle.store.specs.Layout.{plan_of, state_of}
 use Rattle.store.specs.StoreRules.{good_store}
@@ -58,7 +59,7 @@ served_exactly z y good-z declared-z good_y declared_y sample h kept notice begu
       still_true_exactly = (same, true_then);
       page_if_same = page;
       page_only_if_same = λ other served-page. from_page other served-page (bool? (still_true y sample kept.now));
-      notice_otherwise = λ no. serves_notice y sample kept notice (refuted (still_true y sample kept.now) (λ t. no (same t)));
+      notice_otherwise = λ no. serves_notice y sample kept notice (false_from_ne_true (still_true y sample kept.now) (λ t. no (same t)));
       notice_only_otherwise = λ other served-notice all. other (sym served-notice ∙ page all);
       pages_equal_exactly = (
         λ e. same_if_pages z y sample good-z declared-z good_y declared_y h [] [] (ap (λ (l : List ℕ). l ++ []) e),
@@ -96,7 +97,7 @@ length_exactly z y good-z declared-z good_y declared_y sample h kept begun =
       page_exactly = (λ e. from_length e (bool? (still_true y sample kept)), λ all. length_then all);
       none_exactly = (
         λ e all. absurd (omega (arith, some_bytes, sym (length_then all) ∙ e)),
-        λ no. rw (refuted (still_true y sample kept) (λ t. no (same t))),
+        λ no. rw (false_from_ne_true (still_true y sample kept) (λ t. no (same t))),
       );
     }
   where

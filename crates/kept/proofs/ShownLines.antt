@@ -18,7 +18,8 @@ use Rattle.theory.specs.Events.{held}
 use Rattle.theory.specs.Paper.{InHistory, Multicopy}
 use Rattle.theory.proofs.Invariants.{history_in, multicopy_held}
 use Rattle.trips.specs.Trips.{Declared}
-use Rattle.page_lines.specs.PageLine.{last_sample, key_for, PageLine, page_line, shown}
+use Rattle.page_lines.specs.declared.PageLine.{PageLine}
+use Rattle.page_lines.specs.PageLine.{last_sample, key_for, page_line, shown}
 use Rattle.page_lines.proofs.LineLaws.{page_line_of, same_line}
 use Rattle.page.specs.Promises.{page_now}
 use Rattle.page.proofs.KeptLines.{Bounded, same_lines, same-page}

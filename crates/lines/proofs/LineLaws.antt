@@ -1,65 +1,82 @@
--- Why the writers of a line leave what they promise: one law for each way out.
-use mathlib.Core.Path.{◌≡◌, ap, ◌∙◌}
-use mathlib.Core.List.{List, [], ◌∷◌, ◌++◌, append_assoc}
-use Prim.Native.Nat.{ℕ, ◌+◌, ◌/◌, ◌%◌, ◌^◌, ◌<◌, ◌≤◌}
+-- Why the writers of a line leave what they promise.
+use mathlib.Core.Path.{◌≡◌, refl, ap, ◌∙◌}
+use mathlib.Core.List.{List, [], ◌∷◌, ◌++◌, append_assoc, append-nil}
+use Prim.Native.Nat.{ℕ, ◌+◌, ◌*◌, ◌<◌, ◌≤◌}
 use native.Mathlib.Omega.{arith}
-use lib.ListN.{length, set, length-append}
-use Rattle.lists.specs.Stands.{Wrote}
-use Rattle.lists.proofs.Standing.{wrote_nil, wrote_cons, wrote_join, wrote_length}
+use lib.ListN.{length, get_or, set, take}
+use lib.Seq.{sets-eq, drop-drop, take-append_seam}
+use borrow.Rule.Slice.PartMut.{put_mid}
+use Rattle.std.proofs.lemmas.List.{take_more}
+use Rattle.lists.specs.Stands.{Stands, Wrote}
+use Rattle.lists.proofs.Standing.{wrote_nil, wrote_cons, wrote_join, wrote_stands}
 use Rattle.store.specs.declared.Answer.{Answer}
-use Rattle.lines.specs.Text.{digit, SPACE, FEED, decimal, printed_text, answer_text, most_text}
+use Rattle.lines.specs.Text.{SPACE, FEED, decimal, printed_text, answer_text, most_digits, most_text}
 use Rattle.lines.specs.Promises.{Prints}
-use Rattle.lines.proofs.DecimalLaws.{decimal_one, decimal_more, decimal_few}
 
--- One byte more.
-pub wrote_byte : {b l c : List ℕ} {at next : ℕ} (x : ℕ) → Wrote b at l next c → Wrote b at (l ++ x ∷ []) (next + 1) (set c next x)
-wrote_byte x w = wrote_join w (wrote_cons (wrote_nil _ _))
+-- ---- write_number
 
--- ---- write_decimal
-
-pub wrote_digit : (b : List ℕ) (at v : ℕ) → v < 10 → Wrote b at (decimal v) (at + 1) (set b at (digit v))
-wrote_digit b at v h = rw (decimal_one v h) (wrote_cons (wrote_nil _ _))
-
-pub wrote_digits : {b c : List ℕ} {at next : ℕ} (v : ℕ) → 10 ≤ v → Wrote b at (decimal (v / 10)) next c
-    → Wrote b at (decimal v) (next + 1) (set c next (digit (v % 10)))
-wrote_digits v h w = rw (decimal_more v h) (wrote_byte (digit (v % 10)) w)
-
-pub digit_fits : (v : ℕ) → v < 10 → length (decimal v) ≡ 1
-digit_fits v h = ap length (decimal_one v h)
-
-pub digits_fit : (v : ℕ) → 10 ≤ v → length (decimal v) ≡ length (decimal (v / 10)) + 1
-digits_fit v h = ap length (decimal_more v h) ∙ length-append (decimal (v / 10)) (digit (v % 10) ∷ [])
-
--- ---- write_word
-
--- A number of 64 bits and the byte after it take at most 21 bytes.
-pub word_ends : (v : ℕ) {b c : List ℕ} {at next : ℕ} → v < 2 ^ 64 → Wrote b at (decimal v) next c → next + 1 ≤ at + 21
-word_ends v h w = let e = w.to in omega (arith, decimal_few v h)
+-- A text copied over a part of the buffer.
+pub wrote_part : (b text : List ℕ) {copied l : List ℕ} (at k : ℕ) → copied ≡ text → text ≡ l → k ≡ length text → at + length text ≤ length b
+    → Wrote b at l (at + length text) (put_mid at k b copied)
+wrote_part b text at k c t e h =
+    record {
+      to = rw t;
+      holds = rw (c, e, ← t, drop-drop (length text) at b, sets-eq text b at h, append_assoc);
+    }
 
 -- ---- print_into
 
--- A number and a space, and the rest of the line after them.
-pub wrote_line : (v w : ℕ) (ws : List ℕ) {b c e : List ℕ} {at mid next : ℕ} → Wrote b at (decimal v ++ SPACE ∷ []) mid c
-    → Wrote c mid (printed_text (w ∷ ws)) next e → Wrote b at (printed_text (v ∷ w ∷ ws)) next e
-unfolding printed_text
-wrote_line v w ws p q = rw append_assoc at (wrote_join p q)
+-- Numbers, each with a space before it.
+pub spaced : List ℕ → List ℕ
+spaced [] = []
+spaced (v ∷ l) = SPACE ∷ (decimal v ++ spaced l)
 
--- Six numbers, each with the byte after it.
-pub line-printed : (first : ℕ) (x : Answer) {b b₁ b₂ b₃ b₄ b₅ b₆ : List ℕ} {at i₁ i₂ i₃ i₄ i₅ i₆ : ℕ}
-    → Wrote b at (decimal first ++ SPACE ∷ []) i₁ b₁
-    → Wrote b₁ i₁ (decimal x.number ++ SPACE ∷ []) i₂ b₂
-    → Wrote b₂ i₂ (decimal x.a ++ SPACE ∷ []) i₃ b₃
-    → Wrote b₃ i₃ (decimal x.b ++ SPACE ∷ []) i₄ b₄
-    → Wrote b₄ i₄ (decimal x.c ++ SPACE ∷ []) i₅ b₅
-    → Wrote b₅ i₅ (decimal x.d ++ FEED ∷ []) i₆ b₆
-    → Wrote b at (answer_text first x) i₆ b₆
-unfolding printed_text
-line-printed first x p₁ p₂ p₃ p₄ p₅ p₆ =
-    wrote_line first x.number (x.a ∷ x.b ∷ x.c ∷ x.d ∷ []) p₁
-    (wrote_line x.number x.a (x.b ∷ x.c ∷ x.d ∷ []) p₂
-    (wrote_line x.a x.b (x.c ∷ x.d ∷ []) p₃ (wrote_line x.b x.c (x.d ∷ []) p₄ (wrote_line x.c x.d [] p₅ p₆))))
+spaced_last : (l : List ℕ) (v : ℕ) → spaced (l ++ v ∷ []) ≡ spaced l ++ SPACE ∷ decimal v
+unfolding spaced
+spaced_last [] v = ap (λ (t : List ℕ). SPACE ∷ t) (append-nil (decimal v))
+spaced_last (x ∷ l) v = rw (spaced_last l v, append_assoc)
 
--- A printed line lies within its buffer: for a program that passes it on.
-pub line_within : (first : ℕ) (x : Answer) {before after : List ℕ} {at next : ℕ} → Prints before at first x next after
-    → at + most_text ≤ length before → next ≤ length after
-line_within first x p fits = omega (arith, p.1, wrote_length p.0)
+printed_spaced : (v : ℕ) (l : List ℕ) → printed_text (v ∷ l) ≡ decimal v ++ (spaced l ++ FEED ∷ [])
+unfolding printed_text spaced
+printed_spaced v [] = refl
+printed_spaced v (x ∷ l) = rw (printed_spaced x l, append_assoc)
+
+-- The first number and n more, each with a space before it, were written from a place on.
+pub record Printing (before : List ℕ) (at first : ℕ) (l : List ℕ) (n end : ℕ) (out : List ℕ) : Type 0 where
+  pub wrote : Wrote before at (decimal first ++ spaced l) end out
+  pub few : end ≤ at + most_digits + (1 + most_digits) * n
+
+pub printing_starts : {before out : List ℕ} {at end : ℕ} (first : ℕ) → Wrote before at (decimal first) end out × (end ≤ at + most_digits)
+    → Printing before at first [] 0 end out
+unfolding spaced
+printing_starts first w = record { wrote = rw append-nil w.0; few = omega (arith, w.1) }
+
+module _ {before out : List ℕ} {at first end : ℕ} where
+  -- One number more, after a space.
+  pub printing_turns : (l : List ℕ) {after : List ℕ} {n next : ℕ} → n < length l → Printing before at first (take n l) n end out
+      → Wrote (set out end SPACE) (end + 1) (decimal (get_or l n 0)) next after × (next ≤ end + 1 + most_digits)
+      → Printing before at first (take (n + 1) l) (n + 1) next after
+  printing_turns l {n = n} h k w =
+      record {
+        wrote = rw (take_more l n 0 h, spaced_last (take n l) (get_or l n 0), ← append_assoc) (wrote_join k.wrote (wrote_cons w.0));
+        few = omega (arith, k.few, w.1);
+      }
+
+  -- All six, and a line feed.
+  pub printing_ends : (x : Answer) {n : ℕ} → n ≡ 5 → Printing before at first (take n (x.number ∷ x.a ∷ x.b ∷ x.c ∷ x.d ∷ [])) n end out
+      → Prints before at first x (end + 1) (set out end FEED)
+  printing_ends x e k =
+      let w = rw e at k.wrote in (
+        rw (printed_spaced first (x.number ∷ x.a ∷ x.b ∷ x.c ∷ x.d ∷ []), ← append_assoc) (wrote_join w (wrote_cons (wrote_nil _ _))),
+        omega (arith, k.few),
+      )
+
+-- ---- print
+
+-- A line printed at the beginning of a buffer with room for it stands there.
+pub line_there : (first : ℕ) (x : Answer) {before after : List ℕ} {next : ℕ} → Prints before 0 first x next after → most_text ≤ length before
+    → take next after ≡ answer_text first x
+line_there first x {after = after} {next} p fits =
+    let to : next ≡ length (answer_text first x) = let t = p.0.to in omega arith in
+    let stands : Stands after 0 (answer_text first x) next = wrote_stands (omega (arith, p.1, to)) p.0 in
+    ap (take next) stands.here ∙ rw to (take-append_seam (answer_text first x) _)

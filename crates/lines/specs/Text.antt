@@ -38,6 +38,10 @@ printed_text (v ∷ w ∷ ws) = decimal v ++ SPACE ∷ printed_text (w ∷ ws)
 abbrev pub answer_text : ℕ → Answer → List ℕ
 answer_text first r = printed_text (first ∷ r.number ∷ r.a ∷ r.b ∷ r.c ∷ r.d ∷ [])
 
+-- The digits of the largest number of 64 bits.
+abbrev pub most_digits : ℕ
+most_digits = 20
+
 -- Six numbers of at most 20 digits, each with one byte after it.
 abbrev pub most_text : ℕ
 most_text = 126

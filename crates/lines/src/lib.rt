@@ -1,42 +1,29 @@
 // Printed lines: six numbers in decimal with single spaces, and a line feed. Document 01, "A schedule in full".
 #![tactic(auto)]
 
-ghost use Rattle.std.specs.Prelude.{[], ◌∷◌, ◌++◌, ◌+◌, ◌≤◌, length};
+ghost use Rattle.std.specs.Prelude.{◌+◌, ◌≤◌, length, OnOk};
+ghost use Rattle.std.specs.Io.KnownBytes.{Appends};
 ghost use Rattle.lists.specs.Stands.{Wrote};
-ghost use Rattle.lines.specs.Text.{decimal, most_text};
+ghost use Rattle.lines.specs.Text.{decimal, answer_text, most_digits, most_text};
 ghost use Rattle.lines.specs.Promises.{Prints};
 
+use std::io;
+use std::io::Write;
 use store::Answer;
 
 // Six numbers of at most 20 digits, each with one byte after it.
 pub const ROOM: usize = 126;
 
-const SPACE: u8 = 32;
-
-const FEED: u8 = 10;
-
-// Writes a number in decimal at an offset where it fits, and gives the offset after it.
-fn write_decimal(buffer: &mut [u8], at: usize, value: u64) -> usize
-    requires { at + length (decimal value) ≤ length buffer.old }
-    ensures { Wrote buffer.old at (decimal value) result buffer.new }
+// Writes a number in decimal at an offset with room for any number, and gives the offset after it.
+fn write_number(buffer: &mut [u8], at: usize, number: u64) -> usize
+    requires { at + most_digits ≤ length buffer.old }
+    ensures { Wrote buffer.old at (decimal number) result buffer.new × (result ≤ at + most_digits) }
 {
-    if value < 10 {
-        buffer[at] = (48 + value) as u8;
-        return at + 1;
-    }
-    let next = write_decimal(buffer, at, value / 10);
-    buffer[next] = (48 + value % 10) as u8;
-    next + 1
-}
-
-// Writes a number and the byte after it: at most 21 bytes.
-fn write_word(buffer: &mut [u8], at: usize, value: u64, after: u8) -> usize
-    requires { at + 21 ≤ length buffer.old }
-    ensures { Wrote buffer.old at (decimal value ++ after ∷ []) result buffer.new × (result ≤ at + 21) }
-{
-    let next = write_decimal(buffer, at, value);
-    buffer[next] = after;
-    next + 1
+    let mut digits = itoa::Buffer::new();
+    let text = digits.format(number).as_bytes();
+    let end = at + text.len();
+    buffer[at..end].copy_from_slice(text);
+    end
 }
 
 // Writes the line of a first number and an answer at an offset with room for any line, and gives the offset after it.
@@ -44,10 +31,20 @@ pub fn print_into(buffer: &mut [u8], at: usize, first: u32, answer: Answer) -> u
     requires { at + most_text ≤ length buffer.old }
     ensures { Prints buffer.old at first answer result buffer.new }
 {
-    let a = write_word(buffer, at, first as u64, SPACE);
-    let b = write_word(buffer, a, answer.number as u64, SPACE);
-    let c = write_word(buffer, b, answer.a, SPACE);
-    let d = write_word(buffer, c, answer.b, SPACE);
-    let e = write_word(buffer, d, answer.c, SPACE);
-    write_word(buffer, e, answer.d, FEED)
+    let mut end = write_number(buffer, at, first as u64);
+    for number in [answer.number as u64, answer.a, answer.b, answer.c, answer.d] {
+        buffer[end] = b' ';
+        end = write_number(buffer, end + 1, number);
+    }
+    buffer[end] = b'\n';
+    end + 1
+}
+
+// Writes that line to a writer. (From an array that is cut to what was written: no heap.)
+pub fn print<W: Write>(out: &mut W, first: u32, answer: Answer) -> io::Result<()>
+    ensures { OnOk result (Appends (W.contents out.old) (W.contents out.new) (answer_text first answer)) }
+{
+    let mut line = [0; ROOM];
+    let end = print_into(&mut line, 0, first, answer);
+    out.write_all(&line[..end])
 }

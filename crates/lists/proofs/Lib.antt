@@ -1,4 +1,5 @@
 pub mod Tabulating
+pub mod Ranges
 pub mod Standing
 pub mod Truths
 pub mod Storing

@@ -1,7 +1,7 @@
 -- Laws of tests: what a test that holds says of its parts.
 use mathlib.Core.Path.{◌≡◌, refl, sym}
 use mathlib.Core.Bool.{Bool, true, false, ◌&&◌, ◌||◌}
-use mathlib.Core.Logic.{◌⊎◌, ⊎_elim, inl, inr}
+use mathlib.Core.Logic.{◌⊎◌, inl, inr}
 use Prim.Native.Nat.{ℕ, ◌≤◌}
 use native.Mathlib.Omega.{arith}
 use lib.Dec.{leb}
@@ -15,10 +15,6 @@ bool? false = inr refl
 -- and never both.
 pub not_both : {b : Bool} → b ≡ true → b ≡ false → ⊥
 not_both t f = let z : ◌≡◌ {A = ℕ} 0 1 = cc in omega arith
-
--- A test that cannot hold fails.
-pub refuted : (b : Bool) → (b ≡ true → ⊥) → b ≡ false
-refuted b h = ⊎_elim (λ (t : b ≡ true). absurd (h t)) (λ (f : b ≡ false). f) (bool? b)
 
 -- Two tests of which each holds when the other does are one.
 pub same_test : {a b : Bool} → (a ≡ true → b ≡ true) → (b ≡ true → a ≡ true) → a ≡ b
@@ -41,13 +37,6 @@ and_both s t = rw (s, t)
 pub or_cases : (a b : Bool) → a || b ≡ true → (a ≡ true) ⊎ (b ≡ true)
 or_cases true b t = inl refl
 or_cases false b t = inr t
-
-pub or_left : (a b : Bool) → a ≡ true → a || b ≡ true
-or_left a b t = rw t
-
-pub or_right : (a b : Bool) → b ≡ true → a || b ≡ true
-or_right true b t = refl
-or_right false b t = t
 
 -- Two tests of numbers hold exactly when both orders do.
 pub both_le : (a b c d : ℕ) → leb a b && leb c d ≡ true → (a ≤ b) × (c ≤ d)

@@ -1,20 +1,26 @@
 // Look: a whole search at once, down one line's path. Document 01, "What each step does".
 #![tactic(auto)]
 
-ghost use Rattle.std.specs.Prelude.{◌≡◌, ℕ};
-ghost use Rattle.std.proofs.Math.Option.{none, some};
-ghost use Rattle.store.specs.Workers.{LentSized, LentLookable, lent_store};
+ghost use Rattle.std.specs.Prelude.{◌≡◌, true};
+ghost use Rattle.plan.specs.PlanArrays.{RowsOfPlan};
+ghost use Rattle.store.specs.Layout.{plan_of, state_of};
+ghost use Rattle.store.specs.StoreRules.{good_store};
 ghost use Rattle.steps.specs.Promises.{Looks};
-ghost use Rattle.steps.specs.Searches.{ended};
-ghost use Rattle.looks.specs.Workers.{LooksDown};
+ghost use Rattle.steps.specs.Searches.{ended, look_answer};
+ghost use Rattle.looks.specs.Workers.{copy_found};
 
-use plan::{Hop, arrays};
-use store::{Answer, Copy, Found, Slot, Store, columns};
+use plan::rows::Rows;
+use store::refusal::Refusal;
+use store::{Answer, Copy, Store};
 
-// The answer of a search or look that ended with a copy: "1 withdrawn or 2 result, then value, stamp, visits".
-pub fn held(copy: Copy, visits: u32) -> Answer
-    ensures { result ≡ ended (some copy) visits }
+// The answer of a search or look that ended: "0 never, 1 withdrawn or 2 result, then value, stamp, visits".
+// Kinds and answer numbers are numbers, not enums: the C interface has them in its structs.
+pub fn ended(found: Option<Copy>, visits: u32) -> Answer
+    ensures { result ≡ ended (copy_found found) visits }
 {
+    let Some(copy) = found else {
+        return Answer::of(Answer::DONE, 0, 0, 0, visits as u64);
+    };
     Answer::of(
         Answer::DONE,
         copy.kind as u64 + 1,
@@ -24,87 +30,42 @@ pub fn held(copy: Copy, visits: u32) -> Answer
     )
 }
 
-// And of one that ended without: "0 never".
-pub fn never(visits: u32) -> Answer
-    ensures { result ≡ ended none visits }
-{
-    Answer::of(Answer::DONE, 0, 0, 0, visits as u64)
-}
-
 // "A whole search at once": node by node, until one has a copy of the key, a withdrawn one included, or the path ends.
-fn look_down<'a>(
-    edges: &'a [u32; plan::MOST_NODES],
-    lows: &'a [[u32; plan::MOST_EDGES]; plan::MOST_NODES],
-    highs: &'a [[u32; plan::MOST_EDGES]; plan::MOST_NODES],
-    targets: &'a [[u32; plan::MOST_EDGES]; plan::MOST_NODES],
-    counts: &'a [u32; Store::NODES],
-    keys: &'a [u32; Store::PLACES],
-    kinds: &'a [u32; Store::PLACES],
-    values: &'a [u32; Store::PLACES],
-    stamps: &'a [u32; Store::PLACES],
-    key: u32,
-) -> Answer
-    requires { (nodes : ℕ) × LentLookable nodes edges lows highs targets counts keys }
-    ensures { LooksDown edges lows highs targets counts keys kinds values stamps key result }
+// A node's answer is taken apart by `let .. else`, as document 01 asks; the loop counts no index.
+fn look_down(store: &Store, rows: &Rows, key: u32) -> Answer
+    requires good { good_store store.now ≡ true }
+    requires its_rows { RowsOfPlan (plan_of store.now) rows.now }
+    ensures { result ≡ look_answer key (plan_of store.now) (state_of store.now) }
 {
     let mut node = 0;
     let mut visits = 0;
     let copy = loop {
         visits += 1;
-        let Found::Held(copy) = columns::look_at(counts, keys, kinds, values, stamps, node, key)
-        else {
-            let Hop::To(to) = arrays::next_in(edges, lows, highs, targets, node, key) else {
-                return never(visits);
+        let Some(copy) = store.look_in(node, key) else {
+            let Some(to) = rows.next(node, key) else {
+                return ended(None, visits);
             };
             node = to;
             continue;
         };
         break copy;
     };
-    held(copy, visits)
+    ended(Some(copy), visits)
 }
 
-// A look in a store whose columns are lent where they lie: its end, or BADSTORE.
-pub fn look_lent<'a>(
-    plan: u32,
-    clock: u32,
-    counts: &'a [u32; Store::NODES],
-    keys: &'a [u32; Store::PLACES],
-    kinds: &'a [u32; Store::PLACES],
-    values: &'a [u32; Store::PLACES],
-    stamps: &'a [u32; Store::PLACES],
-    slots: [Slot; Store::SLOTS],
-    key: u32,
-) -> Answer
-    requires { LentSized counts keys kinds values stamps }
-    ensures { Looks (lent_store plan clock counts.entry keys.entry kinds.entry values.entry stamps.entry slots) key result }
+// A look in a lent store: its end, or BADSTORE. No slot is used.
+pub fn look_in(store: &Store, key: u32) -> Answer
+    ensures { Looks store.now key result }
 {
-    if !rules::good(plan, clock, counts, keys, kinds, values, stamps, slots) {
-        return Answer::bare(Answer::BADSTORE);
+    if !rules::is_good(store) {
+        return Refusal::BadStore.into();
     }
-    let edges = plan_table::edge_counts_of(plan);
-    let lows = plan_table::lowest_of(plan);
-    let highs = plan_table::highest_of(plan);
-    let targets = plan_table::targets_of(plan);
-    look_down(
-        &edges, &lows, &highs, &targets, counts, keys, kinds, values, stamps, key,
-    )
+    look_down(store, plan_table::rows_of(store.plan), key)
 }
 
-// The same of a store by value: no slot is used.
+// The same of a store by value.
 pub fn look(store: Store, key: u32) -> Answer
     ensures { Looks store key result }
 {
-    let slots = store.slots;
-    look_lent(
-        store.plan,
-        store.clock,
-        &store.counts,
-        &store.keys,
-        &store.kinds,
-        &store.values,
-        &store.stamps,
-        slots,
-        key,
-    )
+    look_in(&store, key)
 }

@@ -2,154 +2,136 @@
 // The two nodes are walked through once, side by side, by rising key.
 #![tactic(auto)]
 
-ghost use Rattle.std.specs.Prelude.{◌≡◌, ◌+◌, ◌-◌, ◌<◌, ◌≤◌, length, set, take};
-ghost use Rattle.plan.specs.Plan.{holds as heldBy};
+ghost use Rattle.std.specs.Prelude.{◌≡◌, ◌+◌, ◌-◌, ◌∷◌, ◌++◌, [], ◌<◌, ◌≤◌, length};
 ghost use Rattle.store.specs.Layout.{width, places};
 ghost use Rattle.store.specs.Workers.{Within, number_in};
 ghost use Rattle.steps.specs.Carries.{count_held};
-ghost use Rattle.merges.specs.Decisions.{places_merged, standing, keeping, getting};
-ghost use Rattle.merges.specs.Decisions.{Going, LentTurned, Ready, Lists, Decided};
+ghost use Rattle.merges.specs.Decisions.{places_in, places_merged, passed, standing, Going, Turned, Ready, Decided};
 
+use arrayvec::ArrayVec;
+use moves::Span;
 use plan::Edge;
 use store::Store;
 
-// A merge under way: the next place of the node and of the target, how many places stay so far, and how many the target has.
+// As many places as a node has.
+const WIDTH: usize = Store::WIDTH;
+
+// A node's places, some or all of them.
+pub type Places = ArrayVec<usize, WIDTH>;
+
+// The places whose copies stay in the node, and those whose copies the target then has.
+#[derive(Default, Drop)]
+pub struct Lists {
+    pub stay: Places,
+    pub target: Places,
+}
+
+// A walk through two nodes: the node's places and the target's own that are still to come.
 #[derive(Clone, Copy)]
-pub struct Merge {
-    pub place: usize,
-    pub next: usize,
-    pub kept: usize,
-    pub got: usize,
+pub struct Walk {
+    pub node: Span,
+    pub own: Span,
 }
 
-// The edge's range holds the key: "both included".
-fn holds(edge: Edge, key: u32) -> bool
-    ensures { result ≡ heldBy edge key }
+// The first of the places to come is passed by.
+fn skip(span: &mut Span)
+    requires { (0 < span.old.count) × (span.old.from < places) }
+    ensures { span.new ≡ passed span.old }
 {
-    edge.lowest <= key && key <= edge.highest
+    span.from += 1;
+    span.count -= 1;
 }
 
-// The node's next place stays.
-fn keep(stay: &mut [usize; Store::WIDTH], m: Merge) -> Merge
-    requires { (m.kept < width) × (m.place < places) }
-    ensures { (result ≡ keeping m) × (stay.new ≡ set stay.old m.kept m.place) }
+// The first of the places to come goes to the end of a list.
+fn pass(span: &mut Span, list: &mut Places)
+    requires { (0 < span.old.count) × (span.old.from < places) × (length list.old.items < width) }
+    ensures { (span.new ≡ passed span.old) × (list.new.items ≡ list.old.items ++ span.old.from ∷ []) }
 {
-    let kept = m.kept;
-    stay[kept] = m.place;
-    Merge {
-        place: m.place + 1,
-        next: m.next,
-        kept: kept + 1,
-        got: m.got,
-    }
+    list.push(span.from);
+    skip(span);
 }
 
-// The target gets a place; the walk goes on at a place of the node and at one of the target.
-fn get(target: &mut [usize; Store::WIDTH], m: Merge, x: usize, place: usize, next: usize) -> Merge
-    requires { m.got < width }
-    ensures { (result ≡ getting m place next) × (target.new ≡ set target.old m.got x) }
+// The node's next copy replaces the target's next: its place goes to the list, and the target's own is passed by.
+fn replace(list: &mut Places, node: &mut Span, own: &mut Span)
+    requires { (0 < node.old.count) × (node.old.from < places) × (0 < own.old.count) × (own.old.from < places) × (length list.old.items < width) }
+    ensures { (node.new ≡ passed node.old) × (own.new ≡ passed own.old) × (list.new.items ≡ list.old.items ++ node.old.from ∷ []) }
 {
-    let got = m.got;
-    target[got] = x;
-    Merge {
-        place: place,
-        next: next,
-        kept: m.kept,
-        got: got + 1,
-    }
+    pass(node, list);
+    skip(own);
 }
 
 // One turn: the target's own copy if its key is smaller. Else the node's copy, if the edge holds its key: it replaces the target's
 // copy of that key, or is added if the target has a free place. Else it stays.
 fn turn(
     keys: &[u32; Store::PLACES],
-    stay: &mut [usize; Store::WIDTH],
-    target: &mut [usize; Store::WIDTH],
-    m: Merge,
-    to: usize,
-    end: usize,
+    lists: &mut Lists,
+    walk: &mut Walk,
     edge: Edge,
     capacity: usize,
-) -> Merge
-    requires { Going keys.now capacity to end stay.old target.old m × (m.place < to) }
-    ensures { LentTurned keys capacity edge to end stay target m result }
+)
+    requires { Going keys.now capacity lists.old walk.old × (0 < walk.old.node.count) }
+    ensures { Turned keys.now capacity edge lists.old walk.old lists.new walk.new }
 {
-    let place = m.place;
-    let next = m.next;
-    let key = keys[place];
-    if next < end && keys[next] < key {
-        return get(target, m, next, place, next + 1);
+    let key = keys[walk.node.from];
+    let held = edge.holds(key);
+    let own = 0 < walk.own.count;
+    if own && keys[walk.own.from] < key {
+        pass(&mut walk.own, &mut lists.target);
+        return;
     }
-    if !holds(edge, key) {
-        return keep(stay, m);
+    if held && own && keys[walk.own.from] == key {
+        replace(&mut lists.target, &mut walk.node, &mut walk.own);
+        return;
     }
-    if next < end && keys[next] == key {
-        return get(target, m, place, place + 1, next + 1);
+    if held && lists.target.len() + walk.own.count < capacity {
+        pass(&mut walk.node, &mut lists.target);
+        return;
     }
-    if m.got + (end - next) < capacity {
-        return get(target, m, place, place + 1, next);
-    }
-    keep(stay, m)
+    pass(&mut walk.node, &mut lists.stay);
 }
 
 // After the node's last copy the rest of the target's own.
-fn rest(target: &mut [usize; Store::WIDTH], mut m: Merge, end: usize) -> Merge
-    requires { (m.next ≤ end) × (m.got + (end - m.next) ≤ width) × (length target.old ≡ width) }
-    ensures { (result.kept ≡ m.kept) × Lists target.new result.got (standing target.old end m) }
+fn rest(target: &mut Places, own: Span)
+    requires { (own.from + own.count ≤ places) × (length target.old.items + own.count ≤ width) }
+    ensures { target.new.items ≡ target.old.items ++ places_in own }
 {
-    while m.next < end {
-        m = get(target, m, m.next, m.place, m.next + 1);
+    for place in own.from..own.from + own.count {
+        target.push(place);
     }
-    m
 }
 
-// The places that stay, and those whose copies the target then has: of a node of `had` copies and a target of `held`.
+// The places that stay, and those whose copies the target then has: of a node and a target whose copies have these places.
 pub fn decide(
     keys: &[u32; Store::PLACES],
-    stay: &mut [usize; Store::WIDTH],
-    target: &mut [usize; Store::WIDTH],
-    from: usize,
-    had: usize,
-    start: usize,
-    held: usize,
+    lists: &mut Lists,
+    node: Span,
+    target: Span,
     edge: Edge,
     capacity: usize,
-) -> Merge
-    requires { Ready keys.now capacity from had start held × (length stay.old ≡ width) × (length target.old ≡ width) }
-    ensures { Decided (places_merged keys.now capacity edge from had start held) stay.new target.new result }
+)
+    requires { Ready keys.now capacity node target }
+    ensures { Decided (places_merged keys.now capacity edge node target) lists.new }
 {
-    let to = from + had;
-    let end = start + held;
-    let mut m = Merge {
-        place: from,
-        next: start,
-        kept: 0,
-        got: 0,
-    };
-    while m.place < to {
-        m = turn(keys, stay, target, m, to, end, edge, capacity);
+    lists.stay.clear();
+    lists.target.clear();
+    let mut walk = Walk { node, own: target };
+    // No `for` over the node's places: a turn may take the target's own copy, and leave the node's for the next.
+    while 0 < walk.node.count {
+        turn(keys, lists, &mut walk, edge, capacity);
     }
-    rest(target, m, end)
+    rest(&mut lists.target, walk.own);
 }
 
-// How many of the first places of a list have a key that the edge holds.
-pub fn count_held(
-    keys: &[u32; Store::PLACES],
-    list: &[usize; Store::WIDTH],
-    first: usize,
-    edge: Edge,
-) -> usize
-    requires { (length list.now ≡ width) × (first ≤ width) × Within (take first list.now) places }
-    ensures { result ≡ count_held (number_in keys.now) edge (take first list.now) }
+// How many of a list's places have a key that the edge holds.
+pub fn count_held(keys: &[u32; Store::PLACES], list: &[usize], edge: Edge) -> usize
+    requires { Within list.now places }
+    ensures { result ≡ count_held (number_in keys.now) edge list.now }
 {
     let mut count = 0;
-    let mut i = 0;
-    while i < first {
-        let place = list[i];
-        if holds(edge, keys[place]) {
+    for place in list {
+        if edge.holds(keys[*place]) {
             count += 1;
         }
-        i += 1;
     }
     count
 }

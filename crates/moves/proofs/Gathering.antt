@@ -1,32 +1,19 @@
 -- A column written in place: a turn of each loop and its end, and the column after a carry.
 use mathlib.Core.Path.{◌≡◌, refl, sym, ap, ◌∙◌}
-use mathlib.Core.List.{List, [], ◌∷◌, ◌++◌, map-append}
+use mathlib.Core.List.{List, [], ◌∷◌, ◌++◌, map-append, append_assoc}
 use Prim.Native.Nat.{ℕ, suc, ◌+◌, ◌-◌, ◌<◌, ◌≤◌}
 use native.Mathlib.Omega.{arith}
-use native.Mathlib.Numerals.{add-one}
-use lib.ListN.{length, set, take, drop, replicate, length-map, drop_of_length-le}
-use lib.Seq.{sets, length-sets, drop-cons, take-suc, length-take-le, get_or-set_other}
+use lib.ListN.{length, set, take, drop, replicate, length-map}
+use lib.Seq.{sets, sets-eq, drop-drop, take-suc, length-take-le, get_or-set_other}
+use borrow.Rule.Slice.PartMut.{put_mid}
 use Rattle.lists.proofs.Standing.{sets_join}
 use Rattle.lists.proofs.Storing.{sets_below, sets_later, sets_snoc}
 use Rattle.store.specs.Workers.{Within, number_in}
-use Rattle.moves.specs.Writings.{gather, Under, Over, carried_column}
+use Rattle.moves.specs.declared.Span.{Span}
+use Rattle.moves.specs.Writings.{gather, Under, carried_column}
 
 -- The column as it is, as it was, and the places to gather by.
 module _ (now was list : List ℕ) (start : ℕ) where
-  -- From the first to the last: what stands from the goal i on is as it was.
-  pub front_turn : (i : ℕ) → i < length list → Over start list → ((j : ℕ) → start + i ≤ j → number_in now j ≡ number_in was j)
-      → let next = set now (start + i) (number_in now (number_in list i)) in
-      ((j : ℕ) → start + (i + 1) ≤ j → number_in next j ≡ number_in was j)
-      × (sets next (start + (i + 1)) (gather was (drop (i + 1) list)) ≡ sets now (start + i) (gather was (drop i list)))
-  front_turn i h over same =
-      let k : start + (i + 1) ≡ suc (start + i) = omega arith in (
-        λ j g. get_or-set_other now (start + i) j (number_in now (number_in list i)) 0 (λ (q : j ≡ start + i). omega arith) ∙ same j (omega arith),
-        rw (same (number_in list i) (over i h), drop-cons list i 0 h, k, add-one),
-      )
-
-  pub front_end : (i : ℕ) → length list ≤ i → now ≡ sets now (start + i) (gather was (drop i list))
-  front_end i h = rw (drop_of_length-le list h)
-
   -- From the last to the first: what stands before the goal i is as it was.
   pub back_turn : (i : ℕ) → 0 < i → i ≤ length list → Under start list → ((j : ℕ) → j < start + i → number_in now j ≡ number_in was j)
       → let next = set now (start + (i - 1)) (number_in now (number_in list (i - 1))) in
@@ -59,21 +46,11 @@ module _ (now was list : List ℕ) (start : ℕ) where
           ∙ map-append (number_in was) (take (i - 1) list) (number_in list (i - 1) ∷ [])
           ∙ ap (λ (n : ℕ). front ++ n ∷ []) (sym read)
 
--- Zeros, from a place up to an end.
-pub clear_turn : (column : List ℕ) (i end : ℕ) → i < end
-    → sets (set column i 0) (i + 1) (replicate (end - (i + 1)) 0) ≡ sets column i (replicate (end - i) 0)
-clear_turn column i end h =
-    let k : end - i ≡ suc (end - (i + 1)) = omega arith in
-    rw (k, add-one)
-
-pub clear_end : (column : List ℕ) (i end : ℕ) → end ≤ i → column ≡ sets column i (replicate (end - i) 0)
-clear_end column i end h =
-    let k : end - i ≡ 0 = omega arith in
-    rw k
-
--- A column stays as long as it was.
-pub long_after : (column c list : List ℕ) (start n : ℕ) → c ≡ sets column start (gather column list) → length column ≡ n → length c ≡ n
-long_after column c list start n e long = ap length e ∙ length-sets column start (gather column list) ∙ long
+-- Numbers written over a part of a column are stored in a row.
+pub part_written : (column vs : List ℕ) (from n : ℕ) → from + n ≤ length column → length vs ≡ n → put_mid from n column vs ≡ sets column from vs
+part_written column vs from n h long =
+    rw (sets-eq vs column from (omega arith), long) (ap (λ (l : List ℕ). take from column ++ (vs ++ l)) (drop-drop n from column)
+    ∙ sym (append_assoc (take from column) vs (drop (from + n) column)))
 
 -- What is stored from start on leaves the numbers at the places below it.
 gather-below : (list column vs : List ℕ) (start : ℕ) → Within list start → gather (sets column start vs) list ≡ gather column list
@@ -82,12 +59,14 @@ gather-below (p ∷ list) column vs start low =
     rw (sets_below vs column start p 0 (low 0 (omega arith)), gather-below list column vs start (λ i h. low (suc i) (omega arith)))
 
 -- The three writes together.
-pub column-carried : (column c₁ c₂ c₃ stay target : List ℕ) (from had start : ℕ) → Within stay start
-    → c₁ ≡ sets column start (gather column target) → c₂ ≡ sets c₁ from (gather c₁ stay)
-    → c₃ ≡ sets c₂ (from + length stay) (replicate (from + had - (from + length stay)) 0)
-    → c₃ ≡ carried_column column stay target from had start
+pub column-carried : (column c₁ c₂ c₃ stay target : List ℕ) (node : Span) (start : ℕ) → Within stay start
+    → c₁ ≡ sets column start (gather column target) → c₂ ≡ sets c₁ node.from (gather c₁ stay)
+    → c₃ ≡ sets c₂ (node.from + length stay) (replicate (node.from + node.count - (node.from + length stay)) 0)
+    → c₃ ≡ carried_column column stay target node start
 unfolding carried_column
-column-carried column c₁ c₂ c₃ stay target from had start low e₁ e₂ e₃ =
+column-carried column c₁ c₂ c₃ stay target node start low e₁ e₂ e₃ =
+    let from = node.from in
+    let had = node.count in
     let k : from + had - (from + length stay) ≡ had - length stay = omega arith in
     let l : from + length (gather column stay) ≡ from + length stay = ap (λ (n : ℕ). from + n) (length-map stay (number_in column)) in
     e₃ ∙ rw (e₂, e₁, gather-below stay column (gather column target) start low, k)

@@ -3,6 +3,7 @@ use Rattle.std.specs.Prelude.{List, ◌++◌, map, ℕ, ◌+◌, ◌-◌, ◌<�
 use Rattle.std.proofs.lemmas.List.Edits.{sets}
 use Rattle.store.specs.Layout.{places}
 use Rattle.store.specs.Workers.{Within, number_in}
+use Rattle.moves.specs.declared.Span.{Span}
 
 -- The numbers of a column at the places of a list.
 abbrev pub gather : List ℕ → List ℕ → List ℕ
@@ -24,16 +25,16 @@ ToBack start list = (start + length list ≤ places) × Under start list
 abbrev pub ToFront : ℕ → List ℕ → Type 0
 ToFront start list = (start + length list ≤ places) × Over start list × Within list places
 
--- Two lists by which a column can be written in place: of a node of `had` copies from the place `from` on, and a target from `start` on.
-pub record Movable (stay target : List ℕ) (from had start : ℕ) : Type 0 where
-  pub stays : length stay ≤ had
-  pub apart : from + had ≤ start
+-- Two lists by which a column can be written in place: of a node whose copies have these places, and a target from `start` on.
+pub record Movable (stay target : List ℕ) (node : Span) (start : ℕ) : Type 0 where
+  pub stays : length stay ≤ node.count
+  pub apart : node.from + node.count ≤ start
   pub room : start + length target ≤ places
   pub under : Under start target
-  pub over : Over from stay
+  pub over : Over node.from stay
   pub low : Within stay start
 
 -- The column after a carry: the target's numbers at its places, and at the node's those that stay, with zeros behind them.
-unfoldable pub carried_column : List ℕ → List ℕ → List ℕ → ℕ → ℕ → ℕ → List ℕ
-carried_column column stay target from had start =
-    sets (sets column start (gather column target)) from (gather column stay ++ replicate (had - length stay) 0)
+unfoldable pub carried_column : List ℕ → List ℕ → List ℕ → Span → ℕ → List ℕ
+carried_column column stay target node start =
+    sets (sets column start (gather column target)) node.from (gather column stay ++ replicate (node.count - length stay) 0)

@@ -1,4 +1,5 @@
-// A column after a carry, written in place by the two lists of places: those that stay in the node, and those that the target gets.
+// A column after a carry, written in place by the two lists of places: those that stay in the node, and those that the target gets. (Places are
+// numbers, since the columns are those of the C interface.)
 #![tactic(auto)]
 
 ghost use Rattle.std.specs.Prelude.{◌≡◌, ◌-◌, ◌≤◌, length, replicate};
@@ -8,44 +9,40 @@ ghost use Rattle.moves.specs.Writings.{gather, ToBack, ToFront, Movable, carried
 
 use store::Store;
 
+// Places of the columns in a row: the first of them, and how many. (No `Range`: that can't be copied, and a store has the count.)
+#[derive(Clone, Copy)]
+pub struct Span {
+    pub from: usize,
+    pub count: usize,
+}
+
 // The numbers at the places of a list go to the places from start on. No place lies beyond its goal: from the last to the first.
 fn gather_back(column: &mut [u32; Store::PLACES], list: &[usize], start: usize)
-    requires { (length column.old ≡ places) × ToBack start list.now }
+    requires { ToBack start list.now }
     ensures { column.new ≡ sets column.old start (gather column.old list.now) }
 {
-    let mut i = list.len();
-    while 0 < i {
-        i -= 1;
-        let place = list[i];
-        let number = column[place];
-        column[start + i] = number;
+    for i in (0..list.len()).rev() {
+        column[start + i] = column[list[i]];
     }
 }
 
-// The same where no place lies before its goal: from the first to the last.
+// The same where no place lies before its goal: from the first to the last. (Not one function with the other: a flag for the direction would
+// only choose between the two loops, and each asks its own of the places.)
 fn gather_front(column: &mut [u32; Store::PLACES], list: &[usize], start: usize)
-    requires { (length column.old ≡ places) × ToFront start list.now }
+    requires { ToFront start list.now }
     ensures { column.new ≡ sets column.old start (gather column.old list.now) }
 {
-    let mut i = 0;
-    while i < list.len() {
-        let place = list[i];
-        let number = column[place];
-        column[start + i] = number;
-        i += 1;
+    for (i, place) in list.iter().enumerate() {
+        column[start + i] = column[*place];
     }
 }
 
 // Zeros over the places from..end.
 fn clear(column: &mut [u32; Store::PLACES], from: usize, end: usize)
-    requires { (length column.old ≡ places) × (from ≤ end) × (end ≤ places) }
+    requires { (from ≤ end) × (end ≤ places) }
     ensures { column.new ≡ sets column.old from (replicate (end - from) 0) }
 {
-    let mut i = from;
-    while i < end {
-        column[i] = 0;
-        i += 1;
-    }
+    column[from..end].fill(0);
 }
 
 // The target's numbers first: none of the node's is lost by them. Then those that stay, and zeros behind them.
@@ -53,14 +50,13 @@ pub fn carry_column(
     column: &mut [u32; Store::PLACES],
     stay: &[usize],
     target: &[usize],
-    from: usize,
-    had: usize,
+    node: Span,
     start: usize,
 )
-    requires { Movable stay.now target.now from had start × (length column.old ≡ places) }
-    ensures { column.new ≡ carried_column column.old stay.now target.now from had start }
+    requires { Movable stay.now target.now node start }
+    ensures { column.new ≡ carried_column column.old stay.now target.now node start }
 {
     gather_back(column, target, start);
-    gather_front(column, stay, from);
-    clear(column, from + stay.len(), from + had);
+    gather_front(column, stay, node.from);
+    clear(column, node.from + stay.len(), node.from + node.count);
 }

@@ -1,8 +1,7 @@
 -- Document 01's own numbers, computed on the definitions.
 use mathlib.Core.Path.{◌≡◌, refl}
 use mathlib.Core.List.{[], ◌∷◌}
-use Rattle.number.specs.declared.Reading.TheVariants.{Value, Cut, Malformed}
-use Rattle.number.specs.Number.{value_of, narrow, form, form_in, read_at, read_in, read_last, put_below}
+use Rattle.number.specs.Number.{Value, Cut, Malformed, value_of, narrow, form, form_in, read_at, read_in, read_last, put_below}
 
 -- The bytes of 180 and of the largest number, written and read.
 pub record NumberInstances : Type 0 where

@@ -10,8 +10,7 @@ use lib.Dec.{lit<}
 use lib.ListN.{length}
 use borrow.Author.Tests.{lt-ltb, le-ltb}
 use Rattle.lists.specs.Stands.{Stands}
-use Rattle.number.specs.declared.Reading.TheVariants.{Value}
-use Rattle.number.specs.Number.{Bytes, Groups, last_group, more_groups, value_of, NumberSize, largest_in, largest, narrow, form_in, form, read_at}
+use Rattle.number.specs.Number.{Value, Bytes, Groups, last_group, more_groups, value_of, NumberSize, largest_in, largest, narrow, form_in, form, read_at}
 use Rattle.number.proofs.Forms.{form_one, Turn, form_turn, small_narrow, largest-narrow}
 use Rattle.number.proofs.Readings.{value_when_in}
 

@@ -6,9 +6,7 @@ use Prim.Native.Nat.{ℕ, zero, suc, ◌+◌, ◌-◌, ◌*◌, ◌<◌, ◌≤�
 use native.Mathlib.Omega.{arith}
 use native.Mathlib.Nat.{mul-add, mul_assoc, mul-le-mul_left}
 use lib.ListN.{length, get_or}
-use Rattle.number.specs.declared.Reading.{Reading}
-use Rattle.number.specs.declared.Reading.TheVariants.{Value, Cut, Malformed}
-use Rattle.number.specs.Number.{narrow, largest_in, read_last, put_below, read_in, read_at}
+use Rattle.number.specs.Number.{Reading, Value, Cut, Malformed, narrow, largest_in, read_last, put_below, read_in, read_at}
 use Rattle.number.proofs.Ways.{never, last_value_lem, last_zero, read_cut, read_above, read_ends, read_goes}
 use Rattle.number.proofs.Readings.{ends_in}
 
@@ -133,3 +131,6 @@ module _ {s : List ℕ} {at value scale next more : ℕ} (k : Going s at value s
               ∙ rw e (above_below value scale (get_or s next 0 - 128) (read_in s narrow.last (more - 1) false (next + 1)));
           fits = omega arith;
         }
+
+-- A number's first byte, the bytes after it, and what the loop keeps.
+pub ruleset reader_laws = (first_cut, first_ends, go_starts, go_fits, go_cut, go_zero, go_above, go_ends, go_turns, last_within, more_within)

@@ -12,9 +12,7 @@ use lib.Seq.{drop-length, drop-append_seam}
 use borrow.Author.Tests.{lt-ltb, le-ltb}
 use Rattle.lists.specs.Stands.{Stands, Wrote}
 use Rattle.lists.proofs.Standing.{stands_nil, stands_cons, stands_first, stands_tail, stands_front, stands_fits_some, wrote_stands}
-use Rattle.number.specs.declared.Reading.{Reading}
-use Rattle.number.specs.declared.Reading.TheVariants.{Value, Cut, Malformed}
-use Rattle.number.specs.Number.{Bytes, NumberSize, largest_in, largest, narrow, form_in, form, read_last, put_below, read_in, read_at}
+use Rattle.number.specs.Number.{Reading, Value, Cut, Malformed, Bytes, NumberSize, largest_in, largest, narrow, form_in, form, read_last, put_below, read_in, read_at}
 use Rattle.number.proofs.Forms.{form_some, form-length, small_narrow, largest-narrow}
 use Rattle.number.proofs.Ways.{never, value_or_cut, value_or_malformed, last_value_lem, LastWay, gives, refuses, last_way, read_full, read_ends, read_goes, FullWay, full_way, MoreWay, more_way}
 

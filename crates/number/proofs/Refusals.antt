@@ -9,9 +9,7 @@ use native.Mathlib.Omega.{arith}
 use native.Mathlib.Nat.{add-zero}
 use native.Mathlib.Decide.{dec_lt}
 use lib.ListN.{length, get_or, get_or-eq_default}
-use Rattle.number.specs.declared.Reading.{Reading}
-use Rattle.number.specs.declared.Reading.TheVariants.{Value, Cut, Malformed}
-use Rattle.number.specs.Number.{NumberSize, read_last, put_below, read_in, read_at, Tops, EndsEarly, EndsInZero, EndsAbove}
+use Rattle.number.specs.Number.{Reading, Value, Cut, Malformed, NumberSize, read_last, put_below, read_in, read_at, Tops, EndsEarly, EndsInZero, EndsAbove}
 use Rattle.number.proofs.Ways.{never, value_or_cut, value_or_malformed, cut_or_malformed, LastWay, gives, refuses, last_way, last_zero, read_cut, FullWay, full_way, MoreWay, more_way}
 
 -- ---- bytes with the top bit

@@ -7,9 +7,7 @@ use native.Mathlib.Omega.{arith}
 use native.Mathlib.Decide.{dec_le, dec_lt}
 use lib.ListN.{length, get_or}
 use borrow.Author.Tests.{lt-ltb, le-ltb, le-leb, lt-leb, ne_eqb}
-use Rattle.number.specs.declared.Reading.{Reading}
-use Rattle.number.specs.declared.Reading.TheVariants.{Value, Cut, Malformed}
-use Rattle.number.specs.Number.{read_last, put_below, read_in}
+use Rattle.number.specs.Number.{Reading, Value, Cut, Malformed, read_last, put_below, read_in}
 
 -- ---- the three readings are different
 

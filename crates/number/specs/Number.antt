@@ -1,8 +1,9 @@
 -- Numbers as bytes, of any size. Document 01, "Bytes".
-use Rattle.std.specs.Prelude.{◌≡◌, Bool, true, false, cond, List, [], ◌∷◌, ℕ, zero, suc, ◌+◌, ◌-◌, ◌*◌, ◌/◌, ◌%◌, ◌<◌, ◌≤◌, leb, ltb, eqb, length, get_or}
+use Rattle.std.specs.Prelude.{◌≡◌, Bool, true, false, cond, List, [], ◌∷◌, ℕ, zero, suc, ◌+◌, ◌-◌, ◌*◌, ◌/◌, ◌%◌, ◌<◌, ◌≤◌, leb, ltb, eqb, length, get_or, Result, Ok, Err}
 use Rattle.std.proofs.Common.{lit<}
-use Rattle.number.specs.declared.Reading.{Reading}
-use Rattle.number.specs.declared.Reading.TheVariants.{Value, Cut, Malformed}
+use Rattle.number.specs.declared.Read.{Read}
+use Rattle.number.specs.declared.NumberError.{NumberError}
+use Rattle.number.specs.declared.NumberError.TheVariants.{Cut as cut_error, Malformed as malformed_error}
 
 -- Every element of the list is a byte.
 abbrev pub Bytes : List ℕ → Type 0
@@ -55,6 +56,16 @@ form v = form_in narrow.more v
 -- ---- "At most five bytes are read: a fifth above 0F, or a last byte 00 after others, is NUMBER; CUT is given only if the
 -- bytes end after none to four, all with the top bit set."
 -- A reading is `Value v next`, the number and the offset after it; `Cut`, answer 13, CUT; or `Malformed`, answer 14, NUMBER.
+pub data Reading : Type 0 where
+  Value : ℕ → ℕ → Reading
+  Cut : Reading
+  Malformed : Reading
+
+-- The reading that a program's result tells: each reading is told by one result.
+abbrev pub reading_of : Result (Read ℕ) NumberError → Reading
+reading_of (Ok r) = Value r.value r.next
+reading_of (Err cut_error) = Cut
+reading_of (Err malformed_error) = Malformed
 
 -- What a last byte gives: 00 after others is NUMBER.
 unfoldable pub read_last : Bool → ℕ → ℕ → Reading

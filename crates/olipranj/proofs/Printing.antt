@@ -1,5 +1,5 @@
 -- What was read is the first bytes of the input, and what is written is their text.
-use Rattle.std.proofs.Common.{◌≡◌, ℕ, ◌<◌, ◌≤◌, List, [], ◌++◌, ◌⊎◌, inl, inr, Option, None, Some, sym, ap, ◌∙◌, subst, arith, length, take, take_all, append-nil}
+use Rattle.std.proofs.Common.{◌≡◌, ℕ, ◌<◌, ◌≤◌, List, [], ◌++◌, ◌⊎◌, inl, inr, Option, None, Some, Result, Ok, Err, is_ok, OnOk, sym, ap, ◌∙◌, subst, arith, length, take, take_all, append-nil}
 use Rattle.std.proofs.Math.Nat.{eq-or-lt_of_le}
 use Rattle.std.proofs.Math.Seq.{take-append_seam}
 use Rattle.std.specs.Io.KnownBytes.{Appends, Consumes, IsAtEnd}
@@ -36,3 +36,10 @@ prints_first (Some xs) (Some ys) before after buffer room n w long within read w
     (Appends before after)
     (text_at (take n buffer) room t ∙ ap schedule_text (sym (first_bytes xs ys buffer n long within read whole)))
     put
+
+-- What holds where a call is done holds where it is done with its fault told otherwise.
+pub done_still : {A E D : Type 0} {P Q : Type 0} (q : Result A E) (r : Result A D) → is_ok r ≡ is_ok q → (P → Q) → OnOk q P → OnOk r Q
+done_still (Ok x) (Ok y) e f p = f p
+done_still (Ok x) (Err y) e f p = tt
+done_still (Err x) (Ok y) e f p = cc
+done_still (Err x) (Err y) e f p = tt

@@ -10,7 +10,8 @@ use Rattle.plan.specs.Plan.{Plan}
 use Rattle.store.specs.declared.Copy.{Copy}
 use Rattle.store.specs.Copies.{has_value}
 use Rattle.store.specs.State.{State, last_clock, current}
-use Rattle.page_lines.specs.PageLine.{analytes, last_sample, key_for, PageLine, page_line, shown, page_lines_from, page_lines}
+use Rattle.page_lines.specs.declared.PageLine.{PageLine}
+use Rattle.page_lines.specs.PageLine.{analytes, last_sample, key_for, page_line, shown, page_lines_from, page_lines}
 use Rattle.page_lines.proofs.LineLaws.{lines_few}
 use Rattle.page.specs.PageBytes.{page_bytes, page_of}
 use Rattle.page.proofs.PagesApart.{AllSmall, page_apart}

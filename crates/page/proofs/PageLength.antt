@@ -12,7 +12,8 @@ use Rattle.store.specs.declared.Copy.{Copy}
 use Rattle.store.specs.Copies.{RESULT, has_value}
 use Rattle.store.specs.State.{State, current}
 use Rattle.copies.proofs.CopyLengths.{value_short}
-use Rattle.page_lines.specs.PageLine.{analytes, last_sample, key_for, PageLine, page_line, shown, page_lines_from, page_lines}
+use Rattle.page_lines.specs.declared.PageLine.{PageLine}
+use Rattle.page_lines.specs.PageLine.{analytes, last_sample, key_for, page_line, shown, page_lines_from, page_lines}
 use Rattle.page_lines.proofs.LineLaws.{lines_few}
 use Rattle.page.specs.PageBytes.{page_line_bytes, page_lines_bytes, page_bytes, most_page_bytes, page_of}
 

@@ -11,7 +11,7 @@ use Rattle.lists.proofs.Truths.{and_left, and_right, not_both}
 use Rattle.number.specs.Number.{form}
 use Rattle.number.proofs.Readings.{form-apart, form_rest}
 use Rattle.copies.proofs.CopyLengths.{result_written}
-use Rattle.page_lines.specs.PageLine.{PageLine}
+use Rattle.page_lines.specs.declared.PageLine.{PageLine}
 use Rattle.page.specs.PageBytes.{page_line_bytes, page_lines_bytes, page_bytes, begins}
 
 -- A line whose numbers have 32 bits.

@@ -6,7 +6,8 @@ use Rattle.plan.specs.Plan.{Plan}
 use Rattle.store.specs.Copies.{RESULT}
 use Rattle.store.specs.State.{State}
 use Rattle.copies.specs.CopyBytes.{value_bytes}
-use Rattle.page_lines.specs.PageLine.{PageLine, page_lines}
+use Rattle.page_lines.specs.declared.PageLine.{PageLine}
+use Rattle.page_lines.specs.PageLine.{page_lines}
 
 -- A page's line: analyte, value, stamp. A line that is shown is a result.
 unfoldable pub page_line_bytes : PageLine → List ℕ

@@ -1,24 +1,31 @@
 -- What the workers below page and serve ask for and promise of what they are lent.
-use Rattle.std.specs.Prelude.{List, ℕ, ◌≤◌, length}
+use Rattle.std.specs.Prelude.{◌≡◌, Bool, true, false, cond, ◌&&◌, List, ℕ, ◌≤◌, leb, length, take, Result, Ok, Err}
 use Rattle.std.specs.Borrow.{MutBor}
-use Rattle.lists.specs.Lending.{LentList, LentMutList}
-use Rattle.store.specs.Workers.{lent_state}
-use Rattle.wire.specs.Writing.{HasRoom, Puts}
-use Rattle.page_lines.specs.declared.PageColumns.{PageColumns}
-use Rattle.page_lines.specs.PageLine.{analytes}
-use Rattle.page_lines.specs.Workers.{EachPlanOf, page_lines_in}
-use Rattle.page.specs.PageBytes.{most_page_bytes, page_bytes, page_of}
+use Rattle.store.specs.declared.Store.{Store}
+use Rattle.store.specs.declared.refusal.Refusal.{Refusal}
+use Rattle.store.specs.declared.refusal.Refusal.TheVariants.{BadStore, Sample}
+use Rattle.store.specs.StoreRules.{good_store}
+use Rattle.wire.specs.Writing.{HasRoom}
+use Rattle.page_lines.specs.declared.PageLine.{PageLine}
+use Rattle.page_lines.specs.PageLine.{analytes, last_sample}
+use Rattle.page.specs.PageBytes.{page_bytes}
+use Rattle.page.specs.Promises.{page_now}
 
--- A lent scratch has room for the longest page,
-abbrev pub RoomForAny : MutBor (List ℕ) → Type 0
-RoomForAny scratch = most_page_bytes ≤ length scratch.now
+-- A lent scratch has room for a page with these lines, which are no more than a page may have.
+abbrev pub RoomForPage : MutBor (List ℕ) → ℕ → List PageLine → Type 0
+RoomForPage scratch sample ls = (length ls ≤ analytes) × HasRoom scratch 0 (page_bytes sample ls)
 
--- or for a page with these lines, which are no more than a page may have.
-abbrev pub RoomForPage : MutBor (List ℕ) → ℕ → PageColumns → Type 0
-RoomForPage scratch sample lines = (lines.count ≤ analytes) × HasRoom scratch 0 (page_bytes sample (page_lines_in lines))
+-- A good store, and a sample that is not too large.
+abbrev pub has_page : Store → ℕ → Bool
+has_page z sample = good_store z && leb sample last_sample
 
--- The sample's page as it is now is put into the scratch, by each plan on whose paths the copies stand.
-abbrev pub PutsPage : LentMutList → ℕ → LentList → LentList → LentList → LentList → LentList → ℕ → ℕ → Type 0
-PutsPage scratch nodes counts keys kinds values stamps sample r =
-    EachPlanOf nodes counts keys
-    (λ p. Puts scratch 0 (page_of p (lent_state nodes counts.entry keys.entry kinds.entry values.entry stamps.entry) sample) r)
+-- A scratch that begins with a page, and the page's length.
+pub record Holds (page : List ℕ) (n : ℕ) (scratch : List ℕ) : Type 0 where
+  pub long : n ≡ length page
+  pub begin : take n scratch ≡ page
+  pub room : n ≤ length scratch
+
+-- The scratch begins with the sample's page as it is now, whose length is told; or why there is none.
+abbrev pub WritesNow : Store → ℕ → List ℕ → Result ℕ Refusal → Type 0
+WritesNow z sample scratch (Ok n) = (has_page z sample ≡ true) × Holds (page_now z sample) n scratch
+WritesNow z sample scratch (Err why) = (has_page z sample ≡ false) × (why ≡ cond (good_store z) Sample BadStore)

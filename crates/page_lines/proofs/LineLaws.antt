@@ -13,7 +13,8 @@ use Rattle.plan.specs.Plan.{Plan}
 use Rattle.store.specs.declared.Copy.{Copy}
 use Rattle.store.specs.Copies.{has_value, find}
 use Rattle.store.specs.State.{State, current}
-use Rattle.page_lines.specs.PageLine.{analytes, key_for, PageLine, page_line, shown, page_lines_from, page_lines}
+use Rattle.page_lines.specs.declared.PageLine.{PageLine}
+use Rattle.page_lines.specs.PageLine.{analytes, key_for, page_line, shown, page_lines_from, page_lines}
 
 abbrev pub analyte_of : PageLine → ℕ
 analyte_of l = l.analyte

@@ -2,6 +2,7 @@
 use mathlib.Core.Path.{◌≡◌, refl, sym, ap, ◌∙◌}
 use mathlib.Core.List.{List}
 use mathlib.Core.Option.{Option, none, some}
+use Rattle.std.specs.Prelude.{Some, None}
 use Prim.Native.Nat.{ℕ, zero, suc, ◌+◌, ◌-◌, ◌*◌, ◌<◌, ◌≤◌}
 use native.Mathlib.Omega.{arith}
 use native.Mathlib.Decide.{dec_lt, ℕ_discrete}
@@ -12,12 +13,13 @@ use Rattle.lists.specs.Indexed.{tabulate}
 use Rattle.lists.proofs.Options.{one_some}
 use Rattle.lists.proofs.Tabulating.{tabulate_on, tabulate_off, as_from_start}
 use Rattle.store.specs.Copies.{find}
-use Rattle.store.specs.Layout.{width}
+use Rattle.store.specs.declared.Store.{Store}
+use Rattle.store.specs.Layout.{width, count_of}
 use Rattle.store.specs.Workers.{number_in, itself, place_in, RisesIn}
 use Rattle.store.proofs.Halving.{place_bounds, half_up, half_down}
 use Rattle.store.proofs.Seeking.{rises_tabulated, place_hit, place_before}
 use Rattle.page_lines.specs.PageLine.{analytes, key_for}
-use Rattle.page_lines.specs.Workers.{place_over, laid_over}
+use Rattle.page_lines.specs.Workers.{Place, place_over, laid_over}
 
 -- Places that do not have the key are passed over,
 pass : (f : ℕ → ℕ) (k end m from at : ℕ) → from + m ≡ at → at ≤ end → ((i : ℕ) → from ≤ i → i < at → f i ≡ k → ⊥)
@@ -40,21 +42,21 @@ module _ (keys : List ℕ) (from end sample : ℕ) where
   found at a = find (number_in keys) (tabulate at (end - at) itself) (key_for sample a)
 
   -- The places of all of them over those that stood before.
-  abbrev laid : List ℕ → List ℕ
-  laid before = tabulate 0 analytes (λ a. place_over (get_or before a 0) (found from a))
+  abbrev laid : List Place → List Place
+  laid before = tabulate 0 analytes (λ a. place_over (get_or before a None) (found from a))
 
   -- The places before one are laid over: with those from it on they make the whole node's.
-  pub record Laying (before : List ℕ) (at : ℕ) (now : List ℕ) : Type 0 where
+  pub record Laying (before : List Place) (at : ℕ) (now : List Place) : Type 0 where
     pub past : place_in keys from end (sample * analytes) ≤ at
     pub high : at ≤ end
     pub long : length now ≡ analytes
-    pub same : (a : ℕ) → a < analytes → place_over (get_or now a 0) (found at a) ≡ place_over (get_or before a 0) (found from a)
+    pub same : (a : ℕ) → a < analytes → place_over (get_or now a None) (found at a) ≡ place_over (get_or before a None) (found from a)
 
-  module _ (o : from ≤ end) (rises : RisesIn keys from end) (before : List ℕ) where
+  module _ (o : from ≤ end) (rises : RisesIn keys from end) (before : List Place) where
     pub lay_starts : (at : ℕ) → at ≡ place_in keys from end (sample * analytes) → length before ≡ analytes → Laying before at before
     lay_starts at e long =
         let w = place_bounds keys from end o (sample * analytes) in
-        record { past = omega arith; high = omega arith; long = long; same = λ a h. ap (place_over (get_or before a 0)) (sym (skip w a)) }
+        record { past = omega arith; high = omega arith; long = long; same = λ a h. ap (place_over (get_or before a None)) (sym (skip w a)) }
       where
         skip : (from ≤ place_in keys from end (sample * analytes)) × (place_in keys from end (sample * analytes) ≤ end) → (a : ℕ)
             → found from a ≡ found at a
@@ -62,7 +64,7 @@ module _ (keys : List ℕ) (from end sample : ℕ) where
             pass (number_in keys) (key_for sample a) end (at - from) from at (omega arith) (omega arith)
             (λ i g l q. omega (arith, place_before itself 0 (number_in keys) from (end - from) (sample * analytes) at e i g l))
 
-    module _ (at : ℕ) (now : List ℕ) (g : Laying before at now) where
+    module _ (at : ℕ) (now : List Place) (g : Laying before at now) where
       -- From there on no key is below the sample's first,
       pub lay_low : (i : ℕ) → at ≤ i → i < end → sample * analytes ≤ number_in keys i
       lay_low i h l = go (dec_lt (number_in keys i) (sample * analytes))
@@ -78,7 +80,7 @@ module _ (keys : List ℕ) (from end sample : ℕ) where
       ends : ((a i : ℕ) → a < analytes → at ≤ i → i < end → number_in keys i ≡ key_for sample a → ⊥)
           → now ≡ laid before
       ends miss =
-          as_from_start (λ a. place_over (get_or before a 0) (found from a)) now analytes 0 g.long
+          as_from_start (λ a. place_over (get_or before a None) (found from a)) now analytes None g.long
           (λ a h. rw (find_nowhere (number_in keys) (key_for sample a) end at g.high (λ i. miss a i h)) at (g.same a h))
 
       -- and no place is left,
@@ -100,13 +102,13 @@ module _ (keys : List ℕ) (from end sample : ℕ) where
 
         -- or the copy there is laid over.
         pub lay_turns : number_in keys at ≤ sample * analytes + (analytes - 1)
-            → Laying before (at + 1) (set now (number_in keys at - sample * analytes) at)
+            → Laying before (at + 1) (set now (number_in keys at - sample * analytes) (Some at))
         unfolding find
         lay_turns h =
             record {
               past = omega (arith, g.past);
               high = omega arith;
-              long = length-set now (number_in keys at - sample * analytes) at ∙ g.long;
+              long = length-set now (number_in keys at - sample * analytes) (Some at) ∙ g.long;
               same = λ a q. turn a q ∙ g.same a q;
             }
           where
@@ -123,29 +125,29 @@ module _ (keys : List ℕ) (from end sample : ℕ) where
                 omega arith
 
             turn : (a : ℕ) → a < analytes
-                → place_over (get_or (set now (number_in keys at - sample * analytes) at) a 0) (found (at + 1) a)
-                ≡ place_over (get_or now a 0) (found at a)
+                → place_over (get_or (set now (number_in keys at - sample * analytes) (Some at)) a None) (found (at + 1) a)
+                ≡ place_over (get_or now a None) (found at a)
             turn a q = go (ℕ_discrete (number_in keys at) (key_for sample a))
               where
                 go : Dec (number_in keys at ≡ key_for sample a)
-                    → place_over (get_or (set now (number_in keys at - sample * analytes) at) a 0) (found (at + 1) a)
-                    ≡ place_over (get_or now a 0) (found at a)
+                    → place_over (get_or (set now (number_in keys at - sample * analytes) (Some at)) a None) (found (at + 1) a)
+                    ≡ place_over (get_or now a None) (found at a)
                 go (yes e) =
                     let b : number_in keys at - sample * analytes ≡ a = omega arith in
                     let here : found at a ≡ some at = rw (tabulate_on itself at end within, eq-eqb (number_in keys at) (key_for sample a) e) in
                     let after : found (at + 1) a ≡ none =
                     find_nowhere (number_in keys) (key_for sample a) end (at + 1) (omega arith) (λ i p l d. once i (omega arith) l (d ∙ sym e))
                     in
-                    rw (here, after, b) (get_or-set_same now a at 0 (omega (arith, g.long)))
+                    rw (here, after, b) (get_or-set_same now a (Some at) None (omega (arith, g.long)))
                 go (no e) =
                     let after : found at a ≡ found (at + 1) a =
                     pass (number_in keys) (key_for sample a) end 1 at (at + 1) refl (omega arith)
                     (λ i p l d. let i-is : i ≡ at = omega arith in e (rw i-is at d))
                     in
-                    rw (after, get_or-set_other now (number_in keys at - sample * analytes) a at 0 (λ d. e (omega (arith, low))))
+                    rw (after, get_or-set_other now (number_in keys at - sample * analytes) a (Some at) None (λ d. e (omega (arith, low))))
 
 -- The places laid are the node's.
-pub node-laid : (counts keys : List ℕ) (node sample : ℕ) (before : List ℕ)
-    → laid keys (width * node) (width * node + get_or counts node 0) sample before ≡ laid_over counts keys node sample before
+pub node-laid : (z : Store) (node sample : ℕ) (before : List Place)
+    → laid z.keys (width * node) (width * node + count_of z node) sample before ≡ laid_over z node sample before
 unfolding laid_over
-node-laid counts keys node sample before = let c : width * node + get_or counts node 0 - width * node ≡ get_or counts node 0 = omega arith in rw c
+node-laid z node sample before = let c : width * node + count_of z node - width * node ≡ count_of z node = omega arith in rw c

@@ -6,6 +6,7 @@ use Rattle.plan.specs.Plan.{Plan}
 use Rattle.store.specs.declared.Copy.{Copy}
 use Rattle.store.specs.Copies.{has_value}
 use Rattle.store.specs.State.{State, current}
+use Rattle.page_lines.specs.declared.PageLine.{PageLine}
 
 -- "analyte 0 to 31"
 abbrev pub analytes : ℕ
@@ -18,12 +19,6 @@ last_sample = 134217727
 -- "sample × 32 + analyte"
 abbrev pub key_for : ℕ → ℕ → ℕ
 key_for sample analyte = sample * analytes + analyte
-
--- A page's line.
-pub record PageLine : Type 0 where
-  pub analyte : ℕ
-  pub value : ℕ
-  pub stamp : ℕ
 
 -- The page's line of these numbers.
 abbrev pub page_line : ℕ → ℕ → ℕ → PageLine

@@ -8,7 +8,8 @@ use Prim.Native.Nat.{ℕ}
 use native.Mathlib.Omega.{arith}
 use lib.Dec.{eqb}
 use borrow.Author.Tests.{eqb-true, eq-eqb}
-use Rattle.lists.proofs.Truths.{bool?, not_both, refuted, and_left, and_right, and_both}
+use Rattle.lists.proofs.Truths.{bool?, not_both, and_left, and_right, and_both}
+use Rattle.std.proofs.lemmas.Bool.{false_from_ne_true}
 use Rattle.lists.proofs.Options.{option?}
 use Rattle.lists.proofs.Members.{place_member}
 use Rattle.lists.proofs.RisingKeys.{Rising, rising_later}
@@ -174,7 +175,7 @@ module _ (p : Plan) (rules : PlanRules p) (s : State) (good : StateRules p s) wh
           at (inr f) =
               keys_none (λ k. eqb x.key k && is_some (line s k 0)) (bit (is_some (line s x.key 0)))
               (λ k.
-              refuted (eqb x.key k && is_some (line s k 0))
+              false_from_ne_true (eqb x.key k && is_some (line s k 0))
               (λ u.
               not_both
               (subst (λ (j : ℕ). is_some (line s j 0) ≡ true) (sym (eqb-true x.key k (and_left (eqb x.key k) (is_some (line s k 0)) u)))

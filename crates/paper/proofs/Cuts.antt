@@ -10,7 +10,8 @@ use native.Mathlib.Nat.{le_of_suc-le-suc, not-suc-le-zero}
 use lib.Dec.{eqb}
 use lib.ListN.{length, get_or}
 use borrow.Author.Tests.{eqb-true, eq-eqb}
-use Rattle.lists.proofs.Truths.{bool?, not_both, or_cases, or_left, or_right}
+use Rattle.lists.proofs.Truths.{bool?, not_both, or_cases}
+use Rattle.std.proofs.lemmas.Bool.{or_left, or_right}
 use Rattle.lists.proofs.Options.{option?, not_none_and_some}
 use Rattle.plan.specs.Plan.{Plan, size, next, path, IsPath}
 use Rattle.plan.specs.Plan.IsPath.{last, more}

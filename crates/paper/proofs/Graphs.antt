@@ -8,7 +8,7 @@ use native.Mathlib.Omega.{arith}
 use Rattle.lists.proofs.Options.{option?}
 use Rattle.lists.proofs.Orders.{Order, order?}
 use Rattle.lists.proofs.Orders.Order.{less, equal, more as greater}
-use Rattle.plan.specs.declared.Hop.TheVariants.{To}
+use Rattle.std.specs.Prelude.{Some}
 use Rattle.plan.specs.Plan.{Plan, size, next, Reach}
 use Rattle.plan.specs.Plan.Reach.{here, there}
 use Rattle.plan.specs.PlanRules.{PlanRules}
@@ -71,7 +71,7 @@ module _ (p : Plan) (rules : PlanRules p) where
 
   -- Invariant 5.
   pub invariant_5 : (s : State) → StateRules p s → OlderBelow p s
-  invariant_5 s good n m k d f = go (option? (line s k n)) (option? (in_reach p s k (To m)))
+  invariant_5 s good n m k d f = go (option? (line s k n)) (option? (in_reach p s k (Some m)))
     where
       down_edge : (n < m) × (m < size p)
       down_edge = next_down p rules n k m (edgeset_next p rules n m k d)
@@ -80,8 +80,8 @@ module _ (p : Plan) (rules : PlanRules p) where
       below r = omega (arith, down_edge.0, reach_le (λ j. next p j k) (size p) (λ a b. next_down p rules a k b) r)
 
       go : (line s k n ≡ none) ⊎ ((x : Copy) × (line s k n ≡ some x))
-          → (in_reach p s k (To m) ≡ none) ⊎ ((y : Copy) × (in_reach p s k (To m) ≡ some y))
-          → stamp_of (in_reach p s k (To m)) < stamp_of (line s k n)
+          → (in_reach p s k (Some m) ≡ none) ⊎ ((y : Copy) × (in_reach p s k (Some m) ≡ some y))
+          → stamp_of (in_reach p s k (Some m)) < stamp_of (line s k n)
       go (inl e) o = absurd (f e)
       go (inr w) (inl e) = omega (arith, ap stamp_of e, ap stamp_of w.1, ((line_rules p s good).stamps k n w.0 w.1).0)
       go (inr w) (inr u) =

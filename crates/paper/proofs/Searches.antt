@@ -8,7 +8,7 @@ use mathlib.Core.Option.{Option, some}
 use Prim.Native.Nat.{ℕ, suc, ◌+◌, ◌<◌, ◌≤◌}
 use native.Mathlib.Omega.{arith}
 use lib.ListN.{length, drop, length-drop}
-use Rattle.plan.specs.declared.Hop.TheVariants.{To}
+use Rattle.std.specs.Prelude.{Some}
 use Rattle.plan.specs.Plan.{Plan, next, path, path_from, IsPath}
 use Rattle.plan.specs.PlanRules.{PlanRules}
 use Rattle.plan.proofs.NextLaws.{root_in_plan}
@@ -111,7 +111,7 @@ running_slot p s good i r =
 -- A search that already runs.
 module _ (p : Plan) (rules : PlanRules p) (s : State) (good : StateRules p s) (k n visits i : ℕ) (at : slot_at s i ≡ running k n visits) where
   abbrev t₀ : ℕ
-  t₀ = stamp_of (in_reach p s k (To n))
+  t₀ = stamp_of (in_reach p s k (Some n))
 
   now : Searches p k t₀ i visits s
   now = record { node = n; at = at; recent = omega arith }
@@ -153,10 +153,10 @@ module _ (p : Plan) (rules : PlanRules p) (s : State) (good : StateRules p s) (k
             → RunningSearch p s between k n visits i
         go (inl f) =
             record {
-              found = in_reach p s' k (To f.node);
+              found = in_reach p s' k (Some f.node);
               says = f.says;
               real =
-                  in_history (held s ++ entered_copies p between s) k (in_reach p s' k (To f.node))
+                  in_history (held s ++ entered_copies p between s) k (in_reach p s' k (Some f.node))
                   (λ x e.
                   let w = in_reach-held p rules s' k f.node x f.inside e in
                   history_in (held s ++ entered_copies p between s) k (line s' k w.0) x

@@ -1,21 +1,22 @@
 -- A plan's arrays give back the plan's own edges and capacities, also past its last node.
 use mathlib.Core.Path.{◌≡◌, refl, sym, ap, ◌∙◌}
 use mathlib.Core.List.{List, []}
+use Rattle.std.specs.Prelude.{Some, None}
 use Prim.Native.Nat.{ℕ, suc, ◌+◌, ◌-◌, ◌<◌, ◌≤◌}
 use native.Mathlib.Omega.{arith}
 use native.Mathlib.Decide.{dec_lt}
 use native.Mathlib.Numerals.{add-one}
-use mathlib.Core.Bool.{false}
+use mathlib.Core.Bool.{true, false}
 use lib.ListN.{length, get_or, get_or-eq_default}
 use borrow.Author.Tests.{lt-ltb, le-ltb}
 use Rattle.lists.specs.Indexed.{tabulate}
-use Rattle.lists.proofs.Tabulating.{get_d_from_start, as_from_start, get_d_tabulate_past}
+use Rattle.lists.proofs.Tabulating.{length-tabulate, get_d_from_start, as_from_start}
 use Rattle.plan.specs.declared.Edge.{Edge}
-use Rattle.plan.specs.declared.Hop.TheVariants.{To, Ends}
+use Rattle.std.specs.Prelude.{Some, None}
 use Rattle.plan.specs.Sizes.{most_nodes, most_edges}
 use Rattle.plan.specs.Plan.{Node, Plan, no_edge, no_node, size, capacity_of, edges_of, edge_of, holds, first_edge}
-use Rattle.plan.specs.PlanArrays.{Grid, cell, edge_in, at_node, edge_count_in, edges_in, capacities_row, counts_row, grid_of}
-use Rattle.plan.proofs.NextLaws.{no_edges, range_holds}
+use Rattle.plan.specs.PlanArrays.{Grid, cell, edge_in, at_node, edge_count_in, edges_in, edge_numbered, capacities_row, counts_row, grid_of}
+use Rattle.plan.proofs.NextLaws.{no_edges}
 
 -- A place of the grid holds its part of the edge.
 pub cell_grid : (part : Edge → ℕ) (p : Plan) (n i : ℕ) → n < most_nodes → i < most_edges → cell (grid_of part p) n i ≡ part (edge_of p n i)
@@ -96,9 +97,18 @@ module _ (counts : List ℕ) (lows highs targets : Grid) (n i : ℕ) where
   unfolding edges_in
   edge_is h = get_d_from_start (edge_in lows highs targets n) (edge_count_in counts n) i no_edge h
 
-  pub edge_past : edge_count_in counts n ≤ i → get_or (edges_in counts lows highs targets n) i no_edge ≡ no_edge
+  edges_long : length (edges_in counts lows highs targets n) ≡ edge_count_in counts n
   unfolding edges_in
-  edge_past h = get_d_tabulate_past (edge_in lows highs targets n) 0 (edge_count_in counts n) i no_edge h
+  edges_long = length-tabulate (edge_in lows highs targets n) 0 (edge_count_in counts n)
+
+  -- and an edge by its number is among them or is none,
+  pub edge_some : i < edge_count_in counts n → edge_numbered (edges_in counts lows highs targets n) i ≡ Some (edge_in lows highs targets n i)
+  unfolding edge_numbered
+  edge_some h = rw (lt-ltb i (length (edges_in counts lows highs targets n)) (omega (arith, edges_long)), edge_is h)
+
+  pub edge_none : edge_count_in counts n ≤ i → edge_numbered (edges_in counts lows highs targets n) i ≡ None
+  unfolding edge_numbered
+  edge_none h = rw (le-ltb i (length (edges_in counts lows highs targets n)) (omega (arith, edges_long)))
 
 -- and a loop that looks for the first edge that holds the key begins at them all.
 pub looks_from : (counts : List ℕ) (lows highs targets : Grid) (n count k : ℕ) → count ≡ edge_count_in counts n
@@ -109,13 +119,13 @@ looks_from counts lows highs targets n count k e =
 
 -- One turn of it: it is at its end, is found, or goes on.
 module _ (f : ℕ → Edge) (i n k : ℕ) where
-  pub looked : n ≤ i → first_edge (tabulate i (n - i) f) k ≡ Ends
+  pub looked : n ≤ i → first_edge (tabulate i (n - i) f) k ≡ None
   unfolding tabulate first_edge
   looked h = let s : n - i ≡ 0 = omega arith in rw s
 
-  pub found : i < n → (f i).lowest ≤ k → k ≤ (f i).highest → first_edge (tabulate i (n - i) f) k ≡ To (f i).target
+  pub found : i < n → holds (f i) k ≡ true → first_edge (tabulate i (n - i) f) k ≡ Some (f i).target
   unfolding tabulate first_edge
-  found h a b = let s : n - i ≡ suc (n - suc i) = omega arith in rw (s, range_holds (f i) k a b)
+  found h e = let s : n - i ≡ suc (n - suc i) = omega arith in rw (s, e)
 
   pub looks_on : i < n → holds (f i) k ≡ false → first_edge (tabulate i (n - i) f) k ≡ first_edge (tabulate (i + 1) (n - (i + 1)) f) k
   unfolding tabulate first_edge

@@ -6,8 +6,8 @@ use Prim.Native.Nat.{ℕ, zero, suc, ◌+◌, ◌-◌, ◌<◌, ◌≤◌}
 use native.Mathlib.Omega.{arith}
 use native.Mathlib.Nat.{le_of_suc-le-suc}
 use lib.ListN.{length, get_or, drop}
-use Rattle.plan.specs.declared.Hop.{Hop}
-use Rattle.plan.specs.declared.Hop.TheVariants.{To, Ends}
+use Rattle.plan.specs.Plan.{Hop}
+use Rattle.std.specs.Prelude.{Some, None}
 use Rattle.plan.specs.Sizes.{last_key}
 use Rattle.plan.specs.Plan.{Plan, size, next, walk, path_from, path, edges_on, IsPath, Reach}
 use Rattle.plan.specs.Plan.IsPath.{last, more}
@@ -34,13 +34,13 @@ module _ (hop : ℕ → Hop) where
   path_first (more e p) = refl
 
   -- Each node's next step is the node after it,
-  pub path-next : {n : ℕ} {ns : List ℕ} → IsPath hop n ns → (i : ℕ) → suc i < length ns → hop (get_or ns i 0) ≡ To (get_or ns (suc i) 0)
+  pub path-next : {n : ℕ} {ns : List ℕ} → IsPath hop n ns → (i : ℕ) → suc i < length ns → hop (get_or ns i 0) ≡ Some (get_or ns (suc i) 0)
   path-next (last e) i h = absurd (omega arith)
-  path-next (more {n = n} {ns = ns} e p) zero h = subst (λ (t : ℕ). hop n ≡ To t) (sym (path_first p)) e
+  path-next (more {n = n} {ns = ns} e p) zero h = subst (λ (t : ℕ). hop n ≡ Some t) (sym (path_first p)) e
   path-next (more e p) (suc i) h = path-next p i (le_of_suc-le-suc h)
 
   -- and the last has none.
-  pub path_last : {n : ℕ} {ns : List ℕ} → IsPath hop n ns → hop (get_or ns (length ns - 1) 0) ≡ Ends
+  pub path_last : {n : ℕ} {ns : List ℕ} → IsPath hop n ns → hop (get_or ns (length ns - 1) 0) ≡ None
   path_last (last e) = e
   path_last (more {n = n} {ns = ns} e p) =
       let q : suc (length ns) - 1 ≡ suc (length ns - 1) = omega (arith, path_some p) in
@@ -73,7 +73,7 @@ module _ (hop : ℕ → Hop) where
   reach_on here s = s
   reach_on (there e r) s = there e (reach_on r s)
 
-  module _ (most : ℕ) (down : (n t : ℕ) → hop n ≡ To t → (n < t) × (t < most)) where
+  module _ (most : ℕ) (down : (n t : ℕ) → hop n ≡ Some t → (n < t) × (t < most)) where
     -- Where each step goes down and stays below `most`: a path from n has at most as many nodes as there are from n on,
     pub path_short : {n : ℕ} {ns : List ℕ} → IsPath hop n ns → n < most → n + length ns ≤ most
     path_short (last e) h = omega arith
@@ -98,17 +98,17 @@ module _ (hop : ℕ → Hop) where
     path_rises (more e p) (suc i) (suc j) h g = path_rises p i j (le_of_suc-le-suc h) (le_of_suc-le-suc g)
 
 module _ (p : Plan) (rules : PlanRules p) (k : ℕ) where
-  walk_is : (most n : ℕ) → n < size p → size p ≤ most + n → IsPath (λ m. next p m k) n (walk p k most (To n))
+  walk_is : (most n : ℕ) → n < size p → size p ≤ most + n → IsPath (λ m. next p m k) n (walk p k most (Some n))
   unfolding walk
   walk_is zero n h g = absurd (omega arith)
   walk_is (suc most) n h g =
-      ⊎_elim (λ (e : next p n k ≡ Ends). rw (e, end most) (last e))
-      (λ (w : (t : ℕ) × (next p n k ≡ To t)).
+      ⊎_elim (λ (e : next p n k ≡ None). rw (e, end most) (last e))
+      (λ (w : (t : ℕ) × (next p n k ≡ Some t)).
       let d = next_down p rules n k w.0 w.1 in
       rw w.1 (more w.1 (walk_is most w.0 d.1 (omega arith))))
       (hop? (next p n k))
     where
-      end : (most : ℕ) → walk p k most Ends ≡ []
+      end : (most : ℕ) → walk p k most None ≡ []
       end zero = refl
       end (suc most) = refl
 
@@ -117,13 +117,13 @@ module _ (p : Plan) (rules : PlanRules p) (k : ℕ) where
   path_is n h = walk_is (size p) n h (omega arith)
 
   -- The path unfolds by the next step.
-  pub path_ends : (n : ℕ) → n < size p → next p n k ≡ Ends → path_from p k n ≡ n ∷ []
+  pub path_ends : (n : ℕ) → n < size p → next p n k ≡ None → path_from p k n ≡ n ∷ []
   path_ends n h e = one_path (λ m. next p m k) (path_is n h) (last e)
 
-  pub path_goes : (n t : ℕ) → n < size p → next p n k ≡ To t → path_from p k n ≡ n ∷ path_from p k t
+  pub path_goes : (n t : ℕ) → n < size p → next p n k ≡ Some t → path_from p k n ≡ n ∷ path_from p k t
   path_goes n t h e = one_path (λ m. next p m k) (path_is n h) (more e (path_is t (next_down p rules n k t e).1))
 
-  down : (n t : ℕ) → next p n k ≡ To t → (n < t) × (t < size p)
+  down : (n t : ℕ) → next p n k ≡ Some t → (n < t) × (t < size p)
   down n t e = next_down p rules n k t e
 
   root_path : IsPath (λ m. next p m k) 0 (path p k)
@@ -142,7 +142,7 @@ module _ (p : Plan) (rules : PlanRules p) (k : ℕ) where
   path_in_plan i h = reach_below (λ m. next p m k) (size p) down (at_reach (λ m. next p m k) root_path i h) (root_in_plan p rules)
 
   -- and the last has no edge for the key.
-  pub path_end : next p (get_or (path p k) (edges_on p k) 0) k ≡ Ends
+  pub path_end : next p (get_or (path p k) (edges_on p k) 0) k ≡ None
   path_end = path_last (λ m. next p m k) root_path
 
   -- A node is on the key's path exactly when it stands in it.

@@ -10,10 +10,11 @@ use lib.Dec.{leb, ltb}
 use lib.ListN.{length, get_or}
 use borrow.Author.Tests.{leb-true, ltb-true, le-leb, lt-ltb}
 use Rattle.lists.specs.Indexed.{all_below}
-use Rattle.lists.proofs.Truths.{not_both, and_left, and_right, and_both, both_le, le_both, or_cases, or_left, or_right}
+use Rattle.lists.proofs.Truths.{not_both, and_left, and_right, and_both, both_le, le_both, or_cases}
+use Rattle.std.proofs.lemmas.Bool.{or_left, or_right}
 use Rattle.lists.proofs.Tabulating.{all-below, below_all}
 use Rattle.plan.specs.declared.Edge.{Edge}
-use Rattle.plan.specs.declared.Hop.TheVariants.{To, Ends}
+use Rattle.std.specs.Prelude.{Some, None}
 use Rattle.plan.specs.Sizes.{most_nodes, most_capacity, most_edges, last_key}
 use Rattle.plan.specs.Plan.{Plan, no_edge, size, capacity_of, edges_of, edge_of, holds, first_edge, next}
 use Rattle.plan.specs.PlanRules.{
@@ -75,16 +76,16 @@ Held es k = (i : ℕ) × (i < length es) × (holds (get_or es i no_edge) k ≡ t
 
 goes_held : (es : List Edge) (k : ℕ) → goes_on (first_edge es k) ≡ true → Held es k
 goes_held es k t =
-    ⊎_elim (λ (e : first_edge es k ≡ Ends). absurd (not_both t (ap goes_on e)))
-    (λ (w : (t : ℕ) × (first_edge es k ≡ To t)).
+    ⊎_elim (λ (e : first_edge es k ≡ None). absurd (not_both t (ap goes_on e)))
+    (λ (w : (t : ℕ) × (first_edge es k ≡ Some t)).
     let f = taken_first es k w.0 w.1 in
     (f.0, f.1.within, f.1.held))
     (hop? (first_edge es k))
 
 held_goes : (es : List Edge) (k : ℕ) → Held es k → goes_on (first_edge es k) ≡ true
 held_goes es k h =
-    ⊎_elim (λ (e : first_edge es k ≡ Ends). absurd (not_both h.2 (ends_none es k e h.0 h.1)))
-    (λ (w : (t : ℕ) × (first_edge es k ≡ To t)). ap goes_on w.1)
+    ⊎_elim (λ (e : first_edge es k ≡ None). absurd (not_both h.2 (ends_none es k e h.0 h.1)))
+    (λ (w : (t : ℕ) × (first_edge es k ≡ Some t)). ap goes_on w.1)
     (hop? (first_edge es k))
 
 module _ (p : Plan) where

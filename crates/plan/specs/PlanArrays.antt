@@ -1,12 +1,11 @@
 -- A plan as arrays: capacities and edge counts by node; lowest keys, highest keys and targets by node and then by edge.
 -- The only file of the plan's definitions that knows how it is laid out.
-use Rattle.std.specs.Prelude.{◌≡◌, cond, List, [], ℕ, min, ltb, length, get_or}
-use Rattle.std.specs.Borrow.{Bor}
+use Rattle.std.specs.Prelude.{◌≡◌, cond, List, [], ℕ, min, ltb, length, get_or, Option, Some, None}
 use Rattle.lists.specs.Indexed.{tabulate}
-use Rattle.lists.specs.Lending.{Lent, LentList}
 use Rattle.plan.specs.declared.Edge.{Edge}
+use Rattle.plan.specs.declared.rows.Rows.{Rows}
 use Rattle.plan.specs.Sizes.{most_nodes, most_edges}
-use Rattle.plan.specs.Plan.{Plan, size, capacity_of, edges_of, edge_of}
+use Rattle.plan.specs.Plan.{Plan, no_edge, size, capacity_of, edges_of, edge_of}
 use Rattle.plan.specs.PlanRules.{PlanRules}
 
 -- A number for each edge, by node and then by edge.
@@ -54,11 +53,32 @@ pub record RowsOf (p : Plan) (nodes : ℕ) (edges : List ℕ) (lows highs target
   pub highs_are : highs ≡ grid_of (λ (e : Edge). e.highest) p
   pub targets_are : targets ≡ grid_of (λ (e : Edge). e.target) p
 
--- The same over references.
-abbrev pub LentRowsOf : Plan → ℕ → Bor (List ℕ) → Bor Grid → Bor Grid → Bor Grid → Type 0
-LentRowsOf p nodes edges lows highs targets = RowsOf p nodes edges.now lows.now highs.now targets.now
+-- ---- the rows as the declared record
+
+-- The edges of node n, by the rows.
+abbrev pub row_edges : Rows → ℕ → List Edge
+row_edges r n = edges_in r.counts r.lows r.highs r.targets n
+
+-- The edge by its number, from 0, if the list has so many.
+unfoldable pub edge_numbered : List Edge → ℕ → Option Edge
+edge_numbered es i = cond (ltb i (length es)) (Some (get_or es i no_edge)) None
+
+-- The rows are those of a plan that meets the plan rules.
+abbrev pub RowsOfPlan : Plan → Rows → Type 0
+RowsOfPlan p r = RowsOf p r.nodes r.counts r.lows r.highs r.targets
 
 -- A fact of each plan that has these rows.
-abbrev pub EachPlan : ℕ → LentList → Lent Grid → Lent Grid → Lent Grid → (Plan → Type 0) → Type 0
-EachPlan nodes edges lows highs targets fact =
-    (p : Plan) → LentRowsOf p nodes edges.entry lows.entry highs.entry targets.entry → fact p
+abbrev pub OfEachPlan : Rows → (Plan → Type 0) → Type 0
+OfEachPlan r fact = (p : Plan) → RowsOfPlan p r → fact p
+
+-- The rows of a plan.
+unfoldable pub rows_of : Plan → Rows
+rows_of p =
+    record {
+      nodes = size p;
+      capacities = capacities_row p;
+      counts = counts_row p;
+      lows = grid_of (λ (e : Edge). e.lowest) p;
+      highs = grid_of (λ (e : Edge). e.highest) p;
+      targets = grid_of (λ (e : Edge). e.target) p;
+    }

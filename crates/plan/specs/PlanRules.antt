@@ -2,8 +2,8 @@
 use Rattle.std.specs.Prelude.{◌≡◌, Bool, true, false, ◌&&◌, ◌||◌, ℕ, suc, ◌<◌, ◌≤◌, leb, ltb, length}
 use Rattle.lists.specs.Indexed.{all_below}
 use Rattle.plan.specs.declared.Edge.{Edge}
-use Rattle.plan.specs.declared.Hop.{Hop}
-use Rattle.plan.specs.declared.Hop.TheVariants.{To, Ends}
+use Rattle.plan.specs.Plan.{Hop}
+use Rattle.std.specs.Prelude.{Some, None}
 use Rattle.plan.specs.Sizes.{most_nodes, most_capacity, most_edges, last_key}
 use Rattle.plan.specs.Plan.{Plan, size, capacity_of, edges_of, edge_of, holds, next}
 
@@ -45,8 +45,8 @@ apart e d = ltb e.highest d.lowest || ltb d.highest e.lowest
 
 -- There is a next step.
 abbrev pub goes_on : Hop → Bool
-goes_on (To t) = true
-goes_on Ends = false
+goes_on (Some t) = true
+goes_on None = false
 
 -- Each rule as a test, in the same order. The number of nodes.
 unfoldable pub nodes_test : Plan → Bool

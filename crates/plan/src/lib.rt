@@ -1,7 +1,10 @@
 // Plans: their edges, next steps and sizes, and the readers of a plan's rows. Document 01, "Lines, copies, plans".
 #![tactic(auto)]
 
-pub mod arrays; // arrays.rt: a plan's rows, lent
+ghost use Rattle.std.specs.Prelude.{◌≡◌};
+ghost use Rattle.plan.specs.Plan.{holds};
+
+pub mod rows; // rows.rt: a plan's rows
 
 // "2 to 8 nodes", "capacity 1 to 64", "up to four edges".
 pub const MOST_NODES: usize = 8;
@@ -18,9 +21,11 @@ pub struct Edge {
     pub target: u32,
 }
 
-// The key's next step: to a node, or its path ends here.
-#[derive(Clone, Copy)]
-pub enum Hop {
-    To(u32),
-    Ends,
+impl Edge {
+    // The edge's range holds the key: "both included".
+    pub fn holds(self, key: u32) -> bool
+        ensures { result ≡ holds self key }
+    {
+        self.lowest <= key && key <= self.highest
+    }
 }

@@ -60,3 +60,15 @@ module _ {A : Type 0} (f : Plan → A) (plan : ℕ) where
       go : Dec (row < plan) → f (among row plan) ≡ f (plan_numbered plan)
       go (yes g) = ap f (other plan row g ∙ sym (no_plan plan (omega arith)))
       go (no g) = ap f (own plan row (omega arith))
+
+  -- So a row by its index is the plan's own,
+  pub row_at : (rows : List A) (none : A) (row : ℕ) → rows ≡ map f plan_table → row < plans → row + 1 ≡ plan → get_or rows row none ≡ f (plan_numbered plan)
+  row_at rows none row e h i = own_row rows none row e h i ∙ ap f (own plan (row + 1) (omega arith))
+
+  -- and a number that no plan has is said of a plan without nodes.
+  pub row_of_none : (1 ≤ plan → plans < plan) → f [] ≡ f (plan_numbered plan)
+  row_of_none h = go (dec_lt 0 plan)
+    where
+      go : Dec (0 < plan) → f [] ≡ f (plan_numbered plan)
+      go (yes l) = ap f (sym (no_plan plan (h (omega arith))))
+      go (no l) = no_row ∙ ap f (own plan 0 (omega arith))

@@ -1,1 +1,1 @@
-pub mod FillLaws
+pub mod Laying

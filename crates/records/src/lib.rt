@@ -1,43 +1,30 @@
 // Decoding into a lent list of step records.
 #![tactic(auto)]
 
-ghost use Rattle.std.specs.Prelude.{◌≡◌, ◌≤◌, ◌<◌, length, get_or};
-ghost use Rattle.schedule.specs.Schedule.{most_steps};
-ghost use Rattle.schedule.specs.Running.{no_step};
 ghost use Rattle.schedule.specs.Promises.{Decodes};
-ghost use Rattle.records.specs.Filling.{filled};
 
-use schedule::decoding::Decoded;
 use schedule::{Step, decoding};
 use store::Answer;
 
-// A decoded record.
-fn step_in(d: Decoded, i: usize) -> Step
-    requires { i < most_steps }
-    ensures { result ≡ get_or d.steps i no_step }
-{
-    d.steps[i]
-}
-
-// Lays the first decoded records down at the beginning of the list.
-fn fill(list: &mut [Step], d: Decoded, n: usize)
-    requires { (n ≤ most_steps) × (n ≤ length list.old) }
-    ensures { list.new ≡ filled d.steps n list.old }
-{
-    let mut i: usize = 0;
-    while i < n {
-        list[i] = step_in(d, i);
-        i = i + 1;
-    }
-}
-
 // Decoding into a lent list: a refusal leaves every record, an accepted schedule writes exactly its own.
+#[tactic(auto, using(crate::proofs::Laying::laying_laws))]
 pub fn decode(bytes: &[u8], list: &mut [Step]) -> Answer
     ensures { Decodes bytes.now list.old result list.new }
 {
-    let d = decoding::decode_into(bytes, list.len());
-    fill(list, d, d.count);
-    d.answer
+    match decoding::decode_into(bytes, list.len()) {
+        Ok(read) => {
+            let steps = read.value.steps.as_slice();
+            list[..steps.len()].copy_from_slice(steps);
+            Answer::of(
+                Answer::DONE,
+                steps.len() as u64,
+                u64::from(read.value.plan),
+                0,
+                0,
+            )
+        }
+        Err(fault) => Answer::from(fault),
+    }
 }
 
 // A list of records by value, and decode's answer over it.
@@ -47,7 +34,7 @@ pub struct Listed {
     pub list: [Step; Step::MOST],
 }
 
-// The same for whoever has the list by value: it is lent, and comes back.
+// The same for whoever has the list by value: it is lent, and comes back. (A public call beside the other; docs/PROMISES.md names both.)
 pub fn decode_list(bytes: &[u8], mut list: [Step; Step::MOST]) -> Listed
     ensures { Decodes bytes.now list result.answer result.list }
 {

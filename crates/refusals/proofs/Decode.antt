@@ -10,7 +10,8 @@ use native.Mathlib.Nat.{not-suc-le-zero}
 use lib.Dec.{leb, eqb}
 use lib.ListN.{length}
 use borrow.Author.Tests.{lt-ltb, le-ltb, lt-leb, leb-false}
-use Rattle.lists.proofs.Truths.{bool?, not_both, or_cases, or_left, or_right}
+use Rattle.lists.proofs.Truths.{bool?, not_both, or_cases}
+use Rattle.std.proofs.lemmas.Bool.{or_left, or_right}
 use Rattle.number.specs.Number.{narrow, EndsEarly, EndsInZero, EndsAbove}
 use Rattle.store.specs.declared.Answer.{Answer}
 use Rattle.store.specs.Answers.{DONE, PLAN, SMALL, CUT, NUMBER, OP, MANY, answer}

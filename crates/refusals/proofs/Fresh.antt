@@ -4,7 +4,8 @@ use mathlib.Core.Bool.{true, false}
 use mathlib.Core.Logic.{◌↔◌, ◌⊎◌, inl, inr}
 use Prim.Native.Nat.{ℕ, ◌≤◌}
 use native.Mathlib.Omega.{arith}
-use Rattle.lists.proofs.Truths.{bool?, refuted, both_le, le_both, not_both}
+use Rattle.lists.proofs.Truths.{bool?, both_le, le_both, not_both}
+use Rattle.std.proofs.lemmas.Bool.{false_from_ne_true}
 use Rattle.plan_table.specs.PlanTable.{plans}
 use Rattle.store.specs.declared.Outcome.{Outcome}
 use Rattle.store.specs.Answers.{DONE, PLAN, bare}
@@ -20,7 +21,7 @@ module _ (plan : ℕ) where
 
   -- "plan not 1 to 3"
   pub plan_test_fails : (plan_number_test plan ≡ false) ↔ (IsPlan plan → ⊥)
-  plan_test_fails = (λ f h. not_both (plan_test_lem.1 h) f, λ no. refuted (plan_number_test plan) (λ t. no (plan_test_lem.0 t)))
+  plan_test_fails = (λ f h. not_both (plan_test_lem.1 h) f, λ no. false_from_ne_true (plan_number_test plan) (λ t. no (plan_test_lem.0 t)))
 
   made : plan_number_test plan ≡ true → fresh_outcome plan ≡ record { answer = bare DONE; store = fresh_store plan }
   unfolding fresh_outcome
@@ -32,7 +33,7 @@ module _ (plan : ℕ) where
 
   pub fresh_plan : ((fresh_outcome plan).answer.number ≡ PLAN) ↔ (IsPlan plan → ⊥)
   fresh_plan = (
-    λ e. plan_test_fails.0 (refuted (plan_number_test plan) λ t.
+    λ e. plan_test_fails.0 (false_from_ne_true (plan_number_test plan) λ t.
         let d : ◌≡◌ {A = ℕ} DONE PLAN = sym (ap (λ (o : Outcome). o.answer.number) (made t)) ∙ e in omega arith),
     λ no. ap (λ (o : Outcome). o.answer.number) (refused (plan_test_fails.1 no)),
   )

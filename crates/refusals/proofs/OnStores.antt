@@ -6,7 +6,8 @@ use mathlib.Core.List.{List, ◌∷◌}
 use mathlib.Core.Logic.{◌≢◌, ◌↔◌, ◌⊎◌, inl, inr}
 use Prim.Native.Nat.{ℕ}
 use lib.Dec.{eqb}
-use Rattle.lists.proofs.Truths.{bool?, not_both, refuted, or_right}
+use Rattle.lists.proofs.Truths.{bool?, not_both}
+use Rattle.std.proofs.lemmas.Bool.{false_from_ne_true, or_right}
 use Rattle.plan.specs.Plan.{Plan}
 use Rattle.store.specs.declared.Answer.{Answer}
 use Rattle.store.specs.declared.Outcome.{Outcome}
@@ -23,7 +24,7 @@ use Rattle.refusals.specs.Given.{Among, StepRefuses, Refuses}
 
 -- "a store rule is broken": the test fails exactly when not all rules hold.
 pub rule_broken : (z : Store) → (good_store z ≡ false) ↔ (StoreRules z → ⊥)
-rule_broken z = (λ bad rules. not_both (rules_good z rules) bad, λ broken. refuted (good_store z) (λ good. broken (good_rules z good)))
+rule_broken z = (λ bad rules. not_both (rules_good z rules) bad, λ broken. false_from_ne_true (good_store z) (λ good. broken (good_rules z good)))
 
 -- A number that is not among them is not given.
 pub not_given : (numbers : List ℕ) (n : ℕ) {m : ℕ} → member n numbers ≡ true → member m numbers ≡ false → n ≢ m
@@ -46,7 +47,7 @@ module _ (f : Plan → State → Effect) (z : Store) where
       → ((on_store f z).answer.number ≡ BADSTORE) ↔ (good_store z ≡ false)
   on_badstore numbers among lacks =
       let other = not_given numbers stepped.answer.number among lacks in
-      (λ e. refuted (good_store z) (λ good. other (sym (numbered_good good) ∙ e)), numbered_bad)
+      (λ e. false_from_ne_true (good_store z) (λ good. other (sym (numbered_good good) ∙ e)), numbered_bad)
 
   -- Any other number is given exactly when the store is good and the step gives it.
   pub on_exactly : (n : ℕ) {Line : Type 0} → BADSTORE ≢ n → (good_store z ≡ true → (stepped.answer.number ≡ n) ↔ Line)
@@ -91,7 +92,7 @@ module _ (f : Plan → State → Answer) (z : Store) where
   asked_good good = ap (λ (r : Answer). r.number) (of_good f z good)
 
   pub of_badstore : (f (plan_of z) (state_of z)).number ≢ BADSTORE → ((of_store f z).number ≡ BADSTORE) ↔ (good_store z ≡ false)
-  of_badstore other = (λ e. refuted (good_store z) (λ good. other (sym (asked_good good) ∙ e)), asked_bad)
+  of_badstore other = (λ e. false_from_ne_true (good_store z) (λ good. other (sym (asked_good good) ∙ e)), asked_bad)
 
   pub of_among : (numbers : List ℕ) → Among numbers (f (plan_of z) (state_of z)) → Among (BADSTORE ∷ numbers) (of_store f z)
   unfolding member

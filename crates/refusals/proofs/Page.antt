@@ -10,7 +10,8 @@ use lib.Dec.{leb}
 use lib.ListN.{length, length-append}
 use denote.Ref.{Bor}
 use borrow.Author.Tests.{le-leb, lt-leb, leb-true}
-use Rattle.lists.proofs.Truths.{bool?, not_both, refuted, and_left, and_right, and_both}
+use Rattle.lists.proofs.Truths.{bool?, not_both, and_left, and_right, and_both}
+use Rattle.std.proofs.lemmas.Bool.{false_from_ne_true}
 use Rattle.number.specs.Number.{form}
 use Rattle.number.proofs.Forms.{form_some}
 use Rattle.store.specs.declared.Answer.{Answer}
@@ -149,7 +150,7 @@ module _ (z : Store) (sample : ℕ) where
   pub stale_exactly : (kept : List ℕ) → (still_true z sample kept ≡ false) ↔ (StillTrue z sample kept → ⊥)
   stale_exactly kept = (
     λ f h. not_both ((true_exactly kept).1 h) f,
-    λ no. refuted (still_true z sample kept) (λ t. no ((true_exactly kept).0 t)),
+    λ no. false_from_ne_true (still_true z sample kept) (λ t. no ((true_exactly kept).0 t)),
   )
 
   -- "exactly that beginning is returned"

@@ -8,9 +8,7 @@ use Prim.Native.Nat.{ℕ, ◌<◌}
 use native.Mathlib.Decide.{dec_lt}
 use native.Mathlib.Omega.{arith}
 use lib.ListN.{length}
-use Rattle.number.specs.declared.Reading.{Reading}
-use Rattle.number.specs.declared.Reading.TheVariants.{Value, Cut, Malformed}
-use Rattle.number.specs.Number.{narrow, read_at, EndsEarly, EndsInZero, EndsAbove}
+use Rattle.number.specs.Number.{Reading, Value, Cut, Malformed, narrow, read_at, EndsEarly, EndsInZero, EndsAbove}
 use Rattle.number.proofs.Ways.{read_cut}
 use Rattle.number.proofs.Refusals.{cut_when, malformed_when}
 use Rattle.store.specs.Answers.{CUT, NUMBER}

@@ -1,11 +1,12 @@
--- The test of a node's own numbers, part by part, on columns.
-use Rattle.std.specs.Prelude.{◌≡◌, Bool, ◌&&◌, ◌||◌, List, ℕ, suc, ◌+◌, ◌-◌, ◌*◌, leb, ltb, length}
-use Rattle.std.specs.Borrow.{Bor}
+-- The test of a node's own numbers, part by part.
+use Rattle.std.specs.Prelude.{Bool, ◌&&◌, ◌||◌, List, ℕ, suc, ◌+◌, ◌*◌, leb, ltb}
 use Rattle.lists.specs.Indexed.{all_from, all_below}
 use Rattle.plan.specs.Sizes.{most_nodes}
 use Rattle.plan.specs.PlanArrays.{at_node}
+use Rattle.plan.specs.declared.rows.Rows.{Rows}
 use Rattle.store.specs.declared.Copy.{Copy}
-use Rattle.store.specs.Layout.{width, places, copy_in}
+use Rattle.store.specs.declared.Store.{Store}
+use Rattle.store.specs.Layout.{width, copy_of, count_of}
 use Rattle.store.specs.StoreRules.{kind_test, unused_test}
 use Rattle.store.specs.Workers.{number_in}
 
@@ -18,36 +19,20 @@ abbrev pub key_rises : List ℕ → ℕ → ℕ → Bool
 key_rises keys end i = leb end (suc i) || ltb (number_in keys i) (number_in keys (suc i))
 
 -- both at a used place, in a node whose used places go up to the end,
-unfoldable pub used_test : ℕ → List ℕ → List ℕ → List ℕ → List ℕ → ℕ → ℕ → Bool
-used_test clock keys kinds values stamps end i = key_rises keys end i && mark_test clock (copy_in keys kinds values stamps i)
+unfoldable pub used_test : Store → ℕ → ℕ → Bool
+used_test z end i = key_rises z.keys end i && mark_test z.clock (copy_of z i)
+
+-- the other places,
+abbrev pub unused_in : Store → ℕ → ℕ → Bool
+unused_in z = unused_test z.keys z.kinds z.values z.stamps
 
 -- and the count, within what the node may hold, the used places and the others of a node.
-unfoldable pub tidy_test : List ℕ → ℕ → List ℕ → List ℕ → List ℕ → List ℕ → List ℕ → ℕ → Bool
-tidy_test capacities clock counts keys kinds values stamps n =
-    let count = number_in counts n in
-    let end = width * n + count in
-    leb count (at_node capacities n) && all_from (width * n) count (used_test clock keys kinds values stamps end)
-    && unused_test keys kinds values stamps end (width * n + width)
+unfoldable pub tidy_test : Rows → Store → ℕ → Bool
+tidy_test r z n =
+    let end = width * n + count_of z n in
+    leb (count_of z n) (at_node r.capacities n) && all_from (width * n) (count_of z n) (used_test z end)
+    && unused_in z end (width * n + width)
 
--- Four lent columns that are as long as a store's.
-abbrev pub LentColumns : Bor (List ℕ) → Bor (List ℕ) → Bor (List ℕ) → Bor (List ℕ) → Type 0
-LentColumns keys kinds values stamps =
-    (length keys.now ≡ places) × (length kinds.now ≡ places) × (length values.now ≡ places) × (length stamps.now ≡ places)
-
--- The tests over references: the places from..end are well used,
-abbrev pub lent_used : ℕ → Bor (List ℕ) → Bor (List ℕ) → Bor (List ℕ) → Bor (List ℕ) → ℕ → ℕ → Bool
-lent_used clock keys kinds values stamps from end =
-    all_from from (end - from) (used_test clock keys.now kinds.now values.now stamps.now end)
-
--- they are unused,
-abbrev pub lent_unused : Bor (List ℕ) → Bor (List ℕ) → Bor (List ℕ) → Bor (List ℕ) → ℕ → ℕ → Bool
-lent_unused keys kinds values stamps = unused_test keys.now kinds.now values.now stamps.now
-
--- a node passes,
-abbrev pub lent_tidy : Bor (List ℕ) → ℕ → Bor (List ℕ) → Bor (List ℕ) → Bor (List ℕ) → Bor (List ℕ) → Bor (List ℕ) → ℕ → Bool
-lent_tidy capacities clock counts keys kinds values stamps =
-    tidy_test capacities.now clock counts.now keys.now kinds.now values.now stamps.now
-
--- and all nodes do.
-abbrev pub lent_all_tidy : Bor (List ℕ) → ℕ → Bor (List ℕ) → Bor (List ℕ) → Bor (List ℕ) → Bor (List ℕ) → Bor (List ℕ) → Bool
-lent_all_tidy capacities clock counts keys kinds values stamps = all_below most_nodes (lent_tidy capacities clock counts keys kinds values stamps)
+-- All nodes pass.
+abbrev pub all_tidy : Rows → Store → Bool
+all_tidy r z = all_below most_nodes (tidy_test r z)

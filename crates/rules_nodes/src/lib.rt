@@ -1,40 +1,32 @@
-// The rules of a node's own numbers, on lent columns: its count, its used places and the others.
+// The rules of a node's own numbers: its count, its used places and the others. (That counts or capacities are within a node's places is asked of
+// them alone, and is no fact of a type: the check is of stores that may break any rule.)
 #![tactic(auto)]
 
-ghost use Rattle.std.specs.Prelude.{◌≡◌, ◌<◌, ◌≤◌};
+ghost use Rattle.std.specs.Prelude.{◌≡◌, ◌-◌, ◌<◌, ◌≤◌};
+ghost use Rattle.lists.specs.Indexed.{all_from};
 ghost use Rattle.plan.specs.Sizes.{most_nodes};
 ghost use Rattle.store.specs.Layout.{places};
 ghost use Rattle.store.specs.StoreRules.{kind_test};
-ghost use Rattle.store.specs.Workers.{WithinPlaces, LentSized};
-ghost use Rattle.rules_nodes.specs.Workers.{mark_test, key_rises, LentColumns, lent_used, lent_unused, lent_tidy, lent_all_tidy};
+ghost use Rattle.store.specs.Workers.{WithinPlaces};
+ghost use Rattle.rules_nodes.specs.Workers.{mark_test, key_rises, used_test, unused_in, tidy_test, all_tidy};
 
-use plan::arrays;
+use plan::rows::Rows;
 use store::{Copy, Store, columns};
 
 // A kind that there is, and a value, or 0 where the kind has none.
-fn kind_good(x: Copy) -> bool
-    ensures { result ≡ kind_test x }
+#[tactic(auto, unfolding(store::specs::StoreRules::kind_test))]
+fn kind_good(copy: Copy) -> bool
+    ensures { result ≡ kind_test copy }
 {
-    if Copy::LAST_KIND < x.kind {
-        return false;
-    }
-    if Copy::has_value(x.kind) {
-        return true;
-    }
-    x.value == 0
+    copy.kind <= Copy::LAST_KIND && (Copy::has_value(copy.kind) || copy.value == 0)
 }
 
 // A copy's kind and value, and "stamps from 1 to clock − 1".
-fn mark_good(clock: u32, x: Copy) -> bool
-    ensures { result ≡ mark_test clock x }
+#[tactic(auto, unfolding(crate::specs::Workers::mark_test))]
+fn mark_good(clock: u32, copy: Copy) -> bool
+    ensures { result ≡ mark_test clock copy }
 {
-    if !kind_good(x) {
-        return false;
-    }
-    if x.stamp < 1 {
-        return false;
-    }
-    x.stamp < clock
+    kind_good(copy) && (1..clock).contains(&copy.stamp)
 }
 
 // "keys strictly rising in a node": the key at a used place is below the next one's, if there is one.
@@ -42,118 +34,49 @@ fn key_rises(keys: &[u32; Store::PLACES], end: usize, i: usize) -> bool
     requires { (i < end) × (end ≤ places) }
     ensures { result ≡ key_rises keys.now end i }
 {
-    if end <= i + 1 {
-        return true;
-    }
-    keys[i] < keys[i + 1]
+    end <= i + 1 || keys[i] < keys[i + 1]
 }
 
 // The used places of a node, from..end.
-fn used_good<'a>(
-    clock: u32,
-    keys: &'a [u32; Store::PLACES],
-    kinds: &'a [u32; Store::PLACES],
-    values: &'a [u32; Store::PLACES],
-    stamps: &'a [u32; Store::PLACES],
-    from: usize,
-    end: usize,
-) -> bool
+fn used_good(store: &Store, from: usize, end: usize) -> bool
     requires { end ≤ places }
-    ensures { result ≡ lent_used clock keys.entry kinds.entry values.entry stamps.entry from end }
+    ensures { result ≡ all_from from (end - from) (used_test store.now end) }
 {
-    let mut i = from;
-    while i < end {
-        if !key_rises(keys, end, i) {
-            return false;
-        }
-        let key = keys[i];
-        let kind = kinds[i];
-        let value = values[i];
-        let stamp = stamps[i];
-        let x = Copy {
-            key: key,
-            kind: kind,
-            value: value,
-            stamp: stamp,
-        };
-        if !mark_good(clock, x) {
-            return false;
-        }
-        i += 1;
-    }
-    true
+    (from..end).all(|i| key_rises(&store.keys, end, i) && mark_good(store.clock, store.copy_at(i)))
 }
 
 // "unused places .. all zero": those from..end.
-fn unused_good<'a>(
-    keys: &'a [u32; Store::PLACES],
-    kinds: &'a [u32; Store::PLACES],
-    values: &'a [u32; Store::PLACES],
-    stamps: &'a [u32; Store::PLACES],
-    from: usize,
-    end: usize,
-) -> bool
-    requires { (from ≤ end) × (end ≤ places) × LentColumns keys kinds values stamps }
-    ensures { result ≡ lent_unused keys.entry kinds.entry values.entry stamps.entry from end }
+#[tactic(auto, unfolding(store::specs::StoreRules::unused_test))]
+fn unused_good(store: &Store, from: usize, end: usize) -> bool
+    requires { (from ≤ end) × (end ≤ places) }
+    ensures { result ≡ unused_in store.now from end }
 {
-    if !columns::all_zero(keys, from, end) {
-        return false;
-    }
-    if !columns::all_zero(kinds, from, end) {
-        return false;
-    }
-    if !columns::all_zero(values, from, end) {
-        return false;
-    }
-    columns::all_zero(stamps, from, end)
+    columns::all_zero(&store.keys, from, end)
+        && columns::all_zero(&store.kinds, from, end)
+        && columns::all_zero(&store.values, from, end)
+        && columns::all_zero(&store.stamps, from, end)
 }
 
 // A node: "counts within capacity", its used places, and the others.
-fn node_tidy<'a>(
-    clock: u32,
-    capacities: &'a [u32; plan::MOST_NODES],
-    counts: &'a [u32; Store::NODES],
-    keys: &'a [u32; Store::PLACES],
-    kinds: &'a [u32; Store::PLACES],
-    values: &'a [u32; Store::PLACES],
-    stamps: &'a [u32; Store::PLACES],
-    node: u32,
-) -> bool
-    requires { (node < most_nodes) × WithinPlaces capacities.now × LentSized counts keys kinds values stamps }
-    ensures { result ≡ lent_tidy capacities.entry clock counts.entry keys.entry kinds.entry values.entry stamps.entry node }
+#[tactic(auto, using(store::proofs::Widths::at_fits, crate::proofs::Tidying::node_over, crate::proofs::Tidying::node_used, crate::proofs::Tidying::node_unused))]
+fn node_tidy(store: &Store, rows: &Rows, node: u32) -> bool
+    requires { (node < most_nodes) × WithinPlaces rows.now.capacities }
+    ensures { result ≡ tidy_test rows.now store.now node }
 {
     let n = node as usize;
-    let count = counts[n];
-    if arrays::capacity_in(capacities, node) < count {
+    let count = store.counts[n];
+    if rows.capacity(node) < count {
         return false;
     }
     let from = Store::WIDTH * n;
     let end = from + count as usize;
-    if !used_good(clock, keys, kinds, values, stamps, from, end) {
-        return false;
-    }
-    unused_good(keys, kinds, values, stamps, end, from + Store::WIDTH)
+    used_good(store, from, end) && unused_good(store, end, from + Store::WIDTH)
 }
 
 // All nodes, by what each may hold.
-pub fn nodes_tidy<'a>(
-    clock: u32,
-    capacities: &'a [u32; plan::MOST_NODES],
-    counts: &'a [u32; Store::NODES],
-    keys: &'a [u32; Store::PLACES],
-    kinds: &'a [u32; Store::PLACES],
-    values: &'a [u32; Store::PLACES],
-    stamps: &'a [u32; Store::PLACES],
-) -> bool
-    requires { WithinPlaces capacities.now × LentSized counts keys kinds values stamps }
-    ensures { result ≡ lent_all_tidy capacities.entry clock counts.entry keys.entry kinds.entry values.entry stamps.entry }
+pub fn nodes_tidy(store: &Store, rows: &Rows) -> bool
+    requires { WithinPlaces rows.now.capacities }
+    ensures { result ≡ all_tidy rows.now store.now }
 {
-    let mut node = 0;
-    while node < Store::NODES as u32 {
-        if !node_tidy(clock, capacities, counts, keys, kinds, values, stamps, node) {
-            return false;
-        }
-        node += 1;
-    }
-    true
+    (0..Store::NODES as u32).all(|node| node_tidy(store, rows, node))
 }

@@ -1,4 +1,5 @@
 pub mod Walking
+pub mod Standing
 pub mod Resting
 pub mod Reaching
 pub mod Placing

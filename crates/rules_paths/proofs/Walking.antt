@@ -1,19 +1,16 @@
 -- A walk down a key's path: what is said of the nodes still to come, turn by turn.
 use mathlib.Core.Path.{◌≡◌, refl}
-use mathlib.Core.Bool.{true, false}
 use mathlib.Core.List.{[], ◌∷◌}
 use Prim.Native.Nat.{ℕ, zero, suc, ◌-◌, ◌<◌, ◌≤◌}
 use native.Mathlib.Omega.{arith}
-use lib.Dec.{eqb}
 use borrow.Author.Tests.{eq-eqb, ne_eqb}
-use Rattle.plan.specs.declared.Hop.{Hop}
-use Rattle.plan.specs.declared.Hop.TheVariants.{To, Ends}
+use Rattle.plan.specs.Plan.{Hop}
+use Rattle.std.specs.Prelude.{Some, None}
 use Rattle.plan.specs.Plan.{Plan, size, next, walk, path_from, path}
-use Rattle.store.specs.Copies.{member}
-use Rattle.store.specs.StoreRules.{stands_at}
+use Rattle.rules_paths.specs.Workers.{place_from}
 
 -- A path is a walk from the root, of at most as many nodes as the plan has.
-pub path-walk : (p : Plan) (k left : ℕ) → left ≡ size p → path p k ≡ walk p k left (To 0)
+pub path-walk : (p : Plan) (k left : ℕ) → left ≡ size p → path p k ≡ walk p k left (Some 0)
 unfolding path_from
 path-walk p k left e = rw e
 
@@ -23,61 +20,37 @@ module _ (p : Plan) (k left : ℕ) (hop : Hop) where
   unfolding walk
   walk_out l = let e : left ≡ 0 = omega arith in rw e
 
-  pub walk_ends : hop ≡ Ends → walk p k left hop ≡ []
+  pub walk_ends : hop ≡ None → walk p k left hop ≡ []
   unfolding walk
   walk_ends e = rw e (none left)
     where
-      none : (m : ℕ) → walk p k m Ends ≡ []
+      none : (m : ℕ) → walk p k m None ≡ []
       none zero = refl
       none (suc m) = refl
 
-  pub walk_goes : (n : ℕ) → 0 < left → hop ≡ To n → walk p k left hop ≡ n ∷ walk p k (left - 1) (next p n k)
+  pub walk_goes : (n : ℕ) → 0 < left → hop ≡ Some n → walk p k left hop ≡ n ∷ walk p k (left - 1) (next p n k)
   unfolding walk
   walk_goes n l e = rw e (go left l)
     where
-      go : (m : ℕ) → 0 < m → walk p k m (To n) ≡ n ∷ walk p k (m - 1) (next p n k)
+      go : (m : ℕ) → 0 < m → walk p k m (Some n) ≡ n ∷ walk p k (m - 1) (next p n k)
       go zero h = absurd (omega arith)
       go (suc m) h = let s : suc m - 1 ≡ m = omega arith in rw s
 
-  -- A node stands among those to come.
-  module _ (node : ℕ) where
-    pub on_out : left ≤ 0 → member node (walk p k left hop) ≡ false
-    unfolding member
-    on_out l = rw (walk_out l)
+  -- The place of a node among those to come, counted from a number on.
+  module _ (node over : ℕ) where
+    pub place_out : left ≤ 0 → place_from over node (walk p k left hop) ≡ None
+    unfolding place_from
+    place_out l = rw (walk_out l)
 
-    pub on_ends : hop ≡ Ends → member node (walk p k left hop) ≡ false
-    unfolding member
-    on_ends e = rw (walk_ends e)
+    pub place_ends : hop ≡ None → place_from over node (walk p k left hop) ≡ None
+    unfolding place_from
+    place_ends e = rw (walk_ends e)
 
-    pub on_here : (n : ℕ) → 0 < left → hop ≡ To n → node ≡ n → member node (walk p k left hop) ≡ true
-    unfolding member
-    on_here n l e h = rw (walk_goes n l e, eq-eqb node n h)
+    pub place_here : (n : ℕ) → 0 < left → hop ≡ Some n → node ≡ n → place_from over node (walk p k left hop) ≡ Some over
+    unfolding place_from
+    place_here n l e h = rw (walk_goes n l e, eq-eqb node n h)
 
-    pub on_later : (n : ℕ) → 0 < left → hop ≡ To n → (node ≡ n → ⊥)
-        → member node (walk p k left hop) ≡ member node (walk p k (left - 1) (next p n k))
-    unfolding member
-    on_later n l e h = rw (walk_goes n l e, ne_eqb node n h)
-
-    -- It does, with so many of them above it.
-    module _ (above : ℕ) where
-      pub stands_out : left ≤ 0 → stands_at node (walk p k left hop) above ≡ false
-      unfolding stands_at
-      stands_out l = rw (walk_out l)
-
-      pub stands_ends : hop ≡ Ends → stands_at node (walk p k left hop) above ≡ false
-      unfolding stands_at
-      stands_ends e = rw (walk_ends e)
-
-      pub stands_here : (n : ℕ) → 0 < left → hop ≡ To n → above ≡ 0 → stands_at node (walk p k left hop) above ≡ eqb node n
-      unfolding stands_at
-      stands_here n l e h = rw (walk_goes n l e, h)
-
-      pub stands_later : (n : ℕ) → 0 < left → hop ≡ To n → (above ≡ 0 → ⊥)
-          → stands_at node (walk p k left hop) above ≡ stands_at node (walk p k (left - 1) (next p n k)) (above - 1)
-      unfolding stands_at
-      stands_later n l e h = rw (walk_goes n l e) (go above h)
-        where
-          go : (m : ℕ) → (m ≡ 0 → ⊥)
-              → stands_at node (n ∷ walk p k (left - 1) (next p n k)) m ≡ stands_at node (walk p k (left - 1) (next p n k)) (m - 1)
-          go zero h = absurd (h refl)
-          go (suc m) h = let s : suc m - 1 ≡ m = omega arith in rw s
+    pub place_later : (n : ℕ) → 0 < left → hop ≡ Some n → (node ≡ n → ⊥)
+        → place_from over node (walk p k left hop) ≡ place_from (suc over) node (walk p k (left - 1) (next p n k))
+    unfolding place_from
+    place_later n l e h = rw (walk_goes n l e, ne_eqb node n h)

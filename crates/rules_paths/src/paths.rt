@@ -1,186 +1,78 @@
-// The rules of paths, on the plan's lent rows and lent columns. A key's path is walked down by its next steps, at most as many nodes as the
-// plan has.
+// The rules of paths. A key's path is walked down by its next steps, at most as many nodes as the plan has. (Each promise is of every plan that has
+// these rows. Rows that carried their plan could not be those of a number that no plan has, of which `plan_table::rows_of` speaks too.)
 ghost use Rattle.std.specs.Prelude.{◌≡◌, ◌<◌};
 ghost use Rattle.lists.specs.Indexed.{all_below};
 ghost use Rattle.plan.specs.Sizes.{most_nodes};
 ghost use Rattle.plan.specs.Plan.{path};
-ghost use Rattle.plan.specs.PlanArrays.{EachPlan};
-ghost use Rattle.store.specs.Copies.{member};
+ghost use Rattle.plan.specs.PlanArrays.{OfEachPlan};
 ghost use Rattle.store.specs.Layout.{places};
-ghost use Rattle.store.specs.StoreRules.{stands_at};
-ghost use Rattle.store.specs.Workers.{LentLookable};
-ghost use Rattle.rules_paths.specs.Workers.{lent_below, lent_placed, lent_paths};
+ghost use Rattle.rules_paths.specs.Workers.{Walkable, nodes_above, stamp_below, placed_test, paths_test};
 
-use plan::{Hop, arrays};
-use store::{Store, columns};
+use plan::rows::Rows;
+use store::Store;
 
-// The node stands on the key's path.
-fn on_path<'a>(
-    nodes: u32,
-    edges: &'a [u32; plan::MOST_NODES],
-    lows: &'a [[u32; plan::MOST_EDGES]; plan::MOST_NODES],
-    highs: &'a [[u32; plan::MOST_EDGES]; plan::MOST_NODES],
-    targets: &'a [[u32; plan::MOST_EDGES]; plan::MOST_NODES],
-    key: u32,
-    node: u32,
-) -> bool
-    ensures { EachPlan nodes edges lows highs targets (λ p. result ≡ member node (path p key)) }
+// How many nodes of the key's path stand above the node, if it stands on the path.
+pub fn nodes_above(rows: &Rows, key: u32, node: u32) -> Option<u32>
+    ensures { OfEachPlan rows.now (λ p. result ≡ nodes_above node (path p key)) }
 {
-    let mut left = nodes;
-    let mut hop = Hop::To(0);
-    while 0 < left {
-        let Hop::To(at) = hop else {
-            return false;
-        };
+    let mut at = 0;
+    for above in 0..rows.nodes {
         if node == at {
-            return true;
+            return Some(above);
         }
-        hop = arrays::next_in(edges, lows, highs, targets, at, key);
-        left -= 1;
+        at = rows.next(at, key)?;
     }
-    false
+    None
 }
 
-// The node stands on the key's path, with so many path nodes above it.
-pub fn stands_at<'a>(
-    nodes: u32,
-    edges: &'a [u32; plan::MOST_NODES],
-    lows: &'a [[u32; plan::MOST_EDGES]; plan::MOST_NODES],
-    highs: &'a [[u32; plan::MOST_EDGES]; plan::MOST_NODES],
-    targets: &'a [[u32; plan::MOST_EDGES]; plan::MOST_NODES],
-    key: u32,
-    node: u32,
-    above: u32,
-) -> bool
-    ensures { EachPlan nodes edges lows highs targets (λ p. result ≡ stands_at node (path p key) above) }
+// The stamp of the key's first copy below a node, down its path; 0 where there is none: "'Never' counts as older than every copy."
+fn stamp_below(store: &Store, rows: &Rows, node: u32, key: u32) -> u32
+    requires { Walkable rows.now store.now }
+    ensures { OfEachPlan rows.now (λ p. result ≡ stamp_below p store.now node key) }
 {
-    let mut left = nodes;
-    let mut step = Hop::To(0);
-    let mut over = above;
-    while 0 < left {
-        let Hop::To(at) = step else {
-            return false;
-        };
-        if over == 0 {
-            return node == at;
-        }
-        step = arrays::next_in(edges, lows, highs, targets, at, key);
-        over -= 1;
-        left -= 1;
-    }
-    false
-}
-
-// The stamp of the key's first copy below a node, down its path; 0 where there is none.
-fn stamp_below<'a>(
-    nodes: u32,
-    edges: &'a [u32; plan::MOST_NODES],
-    lows: &'a [[u32; plan::MOST_EDGES]; plan::MOST_NODES],
-    highs: &'a [[u32; plan::MOST_EDGES]; plan::MOST_NODES],
-    targets: &'a [[u32; plan::MOST_EDGES]; plan::MOST_NODES],
-    counts: &'a [u32; Store::NODES],
-    keys: &'a [u32; Store::PLACES],
-    stamps: &'a [u32; Store::PLACES],
-    node: u32,
-    key: u32,
-) -> u32
-    requires { LentLookable nodes edges lows highs targets counts keys }
-    ensures { EachPlan nodes edges lows highs targets (λ p. result ≡ lent_below p nodes counts keys stamps node key) }
-{
-    let mut left = nodes;
-    let mut hop = arrays::next_in(edges, lows, highs, targets, node, key);
-    while 0 < left {
-        let Hop::To(at) = hop else {
+    let mut at = node;
+    for _ in 0..rows.nodes {
+        let Some(next) = rows.next(at, key) else {
             return 0;
         };
-        let n = at as usize;
-        let end = Store::WIDTH * n + counts[n] as usize;
-        let place = columns::seek(keys, Store::WIDTH * n, end, key);
-        if place < end && keys[place] == key {
-            return stamps[place];
+        if let Some(copy) = store.look_in(next, key) {
+            return copy.stamp;
         }
-        hop = arrays::next_in(edges, lows, highs, targets, at, key);
-        left -= 1;
+        at = next;
     }
     0
 }
 
 // "each copy in a node of its key's path"; "down a path, a key's stamps strictly fall".
-fn copy_placed<'a>(
-    nodes: u32,
-    edges: &'a [u32; plan::MOST_NODES],
-    lows: &'a [[u32; plan::MOST_EDGES]; plan::MOST_NODES],
-    highs: &'a [[u32; plan::MOST_EDGES]; plan::MOST_NODES],
-    targets: &'a [[u32; plan::MOST_EDGES]; plan::MOST_NODES],
-    counts: &'a [u32; Store::NODES],
-    keys: &'a [u32; Store::PLACES],
-    stamps: &'a [u32; Store::PLACES],
-    node: u32,
-    i: usize,
-) -> bool
-    requires { (i < places) × LentLookable nodes edges lows highs targets counts keys }
-    ensures { EachPlan nodes edges lows highs targets (λ p. result ≡ lent_placed p nodes counts keys stamps node i) }
+fn copy_placed(store: &Store, rows: &Rows, node: u32, i: usize) -> bool
+    requires { (i < places) × Walkable rows.now store.now }
+    ensures { OfEachPlan rows.now (λ p. result ≡ placed_test p store.now node i) }
 {
-    let key = keys[i];
-    if !on_path(nodes, edges, lows, highs, targets, key, node) {
-        return false;
-    }
-    stamp_below(
-        nodes, edges, lows, highs, targets, counts, keys, stamps, node, key,
-    ) < stamps[i]
+    let key = store.keys[i];
+    nodes_above(rows, key, node).is_some() && stamp_below(store, rows, node, key) < store.stamps[i]
 }
 
 // The copies of a node.
-fn node_placed<'a>(
-    nodes: u32,
-    edges: &'a [u32; plan::MOST_NODES],
-    lows: &'a [[u32; plan::MOST_EDGES]; plan::MOST_NODES],
-    highs: &'a [[u32; plan::MOST_EDGES]; plan::MOST_NODES],
-    targets: &'a [[u32; plan::MOST_EDGES]; plan::MOST_NODES],
-    counts: &'a [u32; Store::NODES],
-    keys: &'a [u32; Store::PLACES],
-    stamps: &'a [u32; Store::PLACES],
-    node: u32,
-) -> bool
-    requires { (node < most_nodes) × LentLookable nodes edges lows highs targets counts keys }
-    ensures { EachPlan nodes edges lows highs targets (λ p. result ≡ lent_paths p nodes counts keys stamps node) }
+fn node_placed(store: &Store, rows: &Rows, node: u32) -> bool
+    requires { (node < most_nodes) × Walkable rows.now store.now }
+    ensures { OfEachPlan rows.now (λ p. result ≡ paths_test p store.now node) }
 {
     let n = node as usize;
-    let end = Store::WIDTH * n + counts[n] as usize;
-    let mut i = Store::WIDTH * n;
-    while i < end {
-        if !copy_placed(
-            nodes, edges, lows, highs, targets, counts, keys, stamps, node, i,
-        ) {
+    let from = Store::WIDTH * n;
+    let end = from + store.counts[n] as usize;
+    // Not by `all`, as in nodes_placed: the check of a full store then takes an eighth longer.
+    for i in from..end {
+        if !copy_placed(store, rows, node, i) {
             return false;
         }
-        i += 1;
     }
     true
 }
 
 // The copies of all nodes.
-pub fn nodes_placed<'a>(
-    nodes: u32,
-    edges: &'a [u32; plan::MOST_NODES],
-    lows: &'a [[u32; plan::MOST_EDGES]; plan::MOST_NODES],
-    highs: &'a [[u32; plan::MOST_EDGES]; plan::MOST_NODES],
-    targets: &'a [[u32; plan::MOST_EDGES]; plan::MOST_NODES],
-    counts: &'a [u32; Store::NODES],
-    keys: &'a [u32; Store::PLACES],
-    stamps: &'a [u32; Store::PLACES],
-) -> bool
-    requires { LentLookable nodes edges lows highs targets counts keys }
-    ensures { EachPlan nodes edges lows highs targets (λ p. result ≡ all_below most_nodes (lent_paths p nodes counts keys stamps)) }
+pub fn nodes_placed(store: &Store, rows: &Rows) -> bool
+    requires { Walkable rows.now store.now }
+    ensures { OfEachPlan rows.now (λ p. result ≡ all_below most_nodes (paths_test p store.now)) }
 {
-    let mut node = 0;
-    while node < Store::NODES as u32 {
-        if !node_placed(
-            nodes, edges, lows, highs, targets, counts, keys, stamps, node,
-        ) {
-            return false;
-        }
-        node += 1;
-    }
-    true
+    (0..Store::NODES as u32).all(|node| node_placed(store, rows, node))
 }

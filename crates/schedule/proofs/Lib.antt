@@ -1,4 +1,4 @@
-pub mod DecodeWays
+pub mod StepsRead
 pub mod ScheduleLaws
 pub mod Beginnings
 pub mod StepLaws

@@ -1,30 +1,25 @@
--- What the functions below decode hand back: a step that was read, and a decoded schedule by value.
-use Rattle.std.specs.Prelude.{true, false, cond, List, ◌++◌, ℕ, ltb, length, drop}
+-- What the functions below decode hand back: steps that were read, and a decoded schedule.
+use Rattle.std.specs.Prelude.{cond, List, ℕ, ltb, Result, Ok, Err}
+use Rattle.arrayvec.specs.ArrayVec.{ArrayVec}
+use Rattle.number.specs.declared.Read.{Read}
 use Rattle.store.specs.Answers.{SMALL}
-use Rattle.wire.specs.Reading.{Got, got, fault, bind}
+use Rattle.store.specs.Refusals.{refusal_number}
+use Rattle.wire.specs.declared.Fault.{Fault}
+use Rattle.wire.specs.Reading.{Got, got, fault}
 use Rattle.schedule.specs.declared.Step.{Step}
-use Rattle.schedule.specs.declared.decoding.StepRead.{StepRead}
 use Rattle.schedule.specs.declared.decoding.Decoded.{Decoded}
-use Rattle.schedule.specs.Schedule.{most_steps, Schedule, schedule_at, schedule_answer, records_of}
-use Rattle.schedule.specs.Running.{no_step, no_steps}
+use Rattle.schedule.specs.Schedule.{most_steps, Schedule, schedule_at}
 
--- A step that was read and the offset after it, or the fault and its offset.
-unfoldable pub step_read_of : Got Step → StepRead
-step_read_of (got x next) = record { ok = true; fault = 0; at = next; step = x }
-step_read_of (fault number at) = record { ok = false; fault = number; at = at; step = no_step }
+-- What a program's result tells of steps: the steps and the offset after them, or the fault and its offset.
+abbrev pub steps_of : Result (Read (ArrayVec Step)) Fault → Got (List Step)
+steps_of (Ok r) = got r.value.items r.next
+steps_of (Err f) = fault (refusal_number f.why) f.at
 
--- A schedule of a plan, from its steps.
-unfoldable pub planned : ℕ → Got (List Step) → Got Schedule
-planned plan g = bind g λ xs b. got (record { plan = plan; steps = xs }) b
+-- What a program's result tells of a schedule.
+abbrev pub schedule_of : Result (Read Decoded) Fault → Got Schedule
+schedule_of (Ok r) = got (record { plan = r.value.plan; steps = r.value.steps.items }) r.next
+schedule_of (Err f) = fault (refusal_number f.why) f.at
 
--- Records at the beginning of a list.
-unfoldable pub with_first : List Step → List Step → List Step
-with_first xs before = xs ++ drop (length xs) before
-
--- A schedule by value: the answer, the number of steps, and the records at the beginning of a list of zeros.
-unfoldable pub decoded_of : Got Schedule → Decoded
-decoded_of g = record { answer = schedule_answer g; count = length (records_of g); steps = with_first (records_of g) no_steps }
-
--- The same for a list of so many records.
-unfoldable pub decoded_into : List ℕ → ℕ → Decoded
-decoded_into s room = cond (ltb room most_steps) (decoded_of (fault SMALL most_steps)) (decoded_of (schedule_at s))
+-- A schedule for a list of so many records: "fewer than 256 records answers SMALL, a 256, before a byte is read."
+unfoldable pub decoded_into : List ℕ → ℕ → Got Schedule
+decoded_into s room = cond (ltb room most_steps) (fault SMALL most_steps) (schedule_at s)

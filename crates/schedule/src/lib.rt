@@ -3,8 +3,9 @@
 
 pub mod decoding; // decoding.rt: a schedule's bytes into a list of records by value
 
-// "step number and two more, 0 where unused"
-#[derive(Clone, Copy)]
+// "step number and two more, 0 where unused"; by default all zero. The number stays one, since run promises OP for each that no step has
+// (`record_outcome`), and C passes it to olipranj_step.
+#[derive(Clone, Copy, Default)]
 pub struct Step {
     pub number: u32,
     pub x: u32,

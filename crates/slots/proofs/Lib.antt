@@ -1,3 +1,3 @@
+pub mod Checked
 pub mod Idling
 pub mod Slotting
-pub mod Visiting

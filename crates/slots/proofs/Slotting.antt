@@ -1,168 +1,167 @@
 -- What start, step and cancel do with the slots, way out by way out.
-use mathlib.Core.Path.{◌≡◌, refl, sym, ap, subst, ◌∙◌}
-use mathlib.Core.Logic.{◌≢◌}
+use mathlib.Core.Path.{◌≡◌, refl, sym, ap, ◌∙◌}
+use mathlib.Core.Logic.{◌≢◌, inl, inr}
 use mathlib.Core.List.{List}
-use mathlib.Core.Option.{none, some}
-use Prim.Native.Nat.{ℕ, suc, ◌<◌, ◌≤◌}
+use mathlib.Core.Option.{Option, none, some}
+use Prim.Native.Nat.{ℕ, ◌+◌, ◌<◌, ◌≤◌}
 use native.Mathlib.Omega.{arith}
+use native.Mathlib.Numerals.{add-one}
 use lib.ListN.{length, get_or, set}
-use lib.Seq.{set-get_or}
-use lib.Dec.{lit<}
 use borrow.Author.Tests.{lt-ltb, le-ltb, eq-eqb, ne_eqb}
-use Rattle.plan.specs.declared.Hop.TheVariants.{To, Ends}
-use Rattle.plan.specs.Plan.{Plan, next}
+use Rattle.std.specs.Prelude.{Result, Ok, Err, Some, None}
+use Rattle.std.specs.Result.{IsErrAnd}
+use Rattle.std.proofs.lemmas.Result.{err_from_is_err_and}
+use Rattle.plan.specs.declared.rows.Rows.{Rows}
+use Rattle.plan.specs.Plan.{Plan, Hop, size, first_edge, next}
+use Rattle.plan.specs.PlanArrays.{RowsOf, row_edges}
+use Rattle.plan.proofs.RowsLent.{next_here}
 use Rattle.store.specs.declared.Answer.{Answer}
 use Rattle.store.specs.declared.Copy.{Copy}
 use Rattle.store.specs.declared.Slot.{Slot}
-use Rattle.store.specs.Answers.{DONE, GOING, SLOTS, SLOT, IDLE, answer, bare}
+use Rattle.store.specs.declared.Store.{Store}
+use Rattle.store.specs.declared.refusal.Refusal.{Refusal}
+use Rattle.store.specs.declared.refusal.Refusal.TheVariants as because
+use Rattle.store.specs.Answers.{DONE, GOING, answer, bare}
+use Rattle.store.specs.Refusals.{refusal_number}
 use Rattle.store.specs.State.{State, slot_count, slot_at, idle, line, idle_mark}
+use Rattle.store.specs.Copies.{Found, key_of, find, found_of}
+use Rattle.store.specs.Layout.{node_of, state_in}
 use Rattle.store.specs.Calls.{Effect}
-use Rattle.steps.specs.Searches.{running, lowest_idle, start_step, ended, with_running, step_step, cancel_step}
-use Rattle.slots.specs.declared.Moved.{Moved}
-use Rattle.slots.specs.declared.Change.{Change}
-use Rattle.slots.specs.Workers.{moved_by, changed_by, stays, ChangesBy}
+use Rattle.store.proofs.Laying.{parts_node}
+use Rattle.steps.specs.Entries.{refused}
+use Rattle.steps.specs.Searches.{running, with_slot, lowest_idle, start_step, ended, with_running, step_step, cancel_step}
+use Rattle.looks.specs.Workers.{copy_found}
+use Rattle.slots.specs.Workers.{with_slots, moved, moved_by, ChangesBy, SearchesIn, StepsBy, RunsAt, RestsAt}
 
--- One slot is written; or a refusal, and the slots as they were.
-abbrev pub wrote : Answer → List Slot → ℕ → Slot → Moved
-wrote a slots i q = record { answer = a; slots = set slots i q }
+-- A refusal that `?` hands on.
+pub handed_on : (P : Result Answer Refusal → Type 0) (r : Result Answer Refusal) (why : Refusal) → IsErrAnd r (λ y. y ≡ why) → P (Err why) → P r
+handed_on P r why given e = let w = err_from_is_err_and r given in rw (w.1, w.2) e
 
-abbrev pub kept : ℕ → List Slot → Moved
-kept number slots = record { answer = bare number; slots = slots }
+-- One slot is written, by a step that is known.
+wrote : (f : Plan → State → Effect) (p : Plan) (s : State) (i : ℕ) {a b : Answer} {q r : Slot} → b ≡ a → r ≡ q
+    → f p s ≡ record { answer = a; after = with_slot i q s } → moved (Ok b) (set s.slots i r) ≡ moved_by (f p s)
+wrote f p s i d g e = (λ t. moved (Ok (d t)) (set s.slots i (g t))) ∙ sym (ap moved_by e)
 
--- A change that frees a slot, and one that is a refusal.
-abbrev pub frees : Answer → ℕ → Change
-frees a i = record { answer = a; at = i; slot = idle }
+-- What is done with a slot in which a search runs, and why it is refused where none does.
+module _ (f : Slot → Effect) (i : ℕ) (s : State) (long : length s.slots ≡ slot_count) where
+  rests : {why : Refusal} → RestsAt s.slots i why → with_running f i s ≡ refused (refusal_number why) s
+  unfolding with_running
+  rests (inl (h, e)) = rw (le-ltb i (length s.slots) (omega arith), e)
+  rests (inr (h, r, e)) = rw (lt-ltb i (length s.slots) (omega arith), eq-eqb (slot_at s i).running idle_mark r, e)
 
-pub change_kept : (number : ℕ) (qs : List Slot) {r : Change} → r ≡ stays number qs → changed_by qs r ≡ kept number qs
-change_kept number qs e =
-    ap (changed_by qs) e ∙ ap (λ (l : List Slot). record { answer = bare number; slots = l }) (set-get_or qs 0 idle)
+  runs : i < slot_count → (slot_at s i).running ≢ idle_mark → with_running f i s ≡ f (slot_at s i)
+  unfolding with_running
+  runs h r = rw (lt-ltb i (length s.slots) (omega arith), ne_eqb (slot_at s i).running idle_mark r)
 
-pub stays_at : (number : ℕ) (qs : List Slot) {r : Change} → r ≡ stays number qs → r.at < slot_count
-stays_at number qs e = subst (λ (u : Change). u.at < slot_count) (sym e) (lit< tt)
-
-pub frees_at : {r : Change} {a : Answer} {i : ℕ} → r ≡ frees a i → i < slot_count → r.at < slot_count
-frees_at e h = subst (λ (u : Change). u.at < slot_count) (sym e) h
-
--- A slot written with an answer, both known by equations.
-pub wrote_same : {a b : Answer} {q r : Slot} (qs : List Slot) (i : ℕ) → a ≡ b → q ≡ r → wrote a qs i q ≡ wrote b qs i r
-wrote_same qs i e g = λ t. wrote (e t) qs i (g t)
-
-pub change_freed : (qs : List Slot) {r : Change} {a b : Answer} {i : ℕ} → r ≡ frees a i → a ≡ b → changed_by qs r ≡ wrote b qs i idle
-change_freed qs {i = i} e g = ap (changed_by qs) e ∙ wrote_same qs i g refl
-
-module _ (p : Plan) (s : State) where
-  -- A start: no slot is idle, or slot i is the lowest that is.
-  start_none : (k : ℕ) → length s.slots ≤ lowest_idle s.slots → moved_by (start_step k p s) ≡ kept SLOTS s.slots
+module _ (slots : List Slot) (long : length slots ≡ slot_count) where
+  -- A start: no slot is idle, or the lowest idle one takes the key.
+  pub start_refused : (k : ℕ) → slot_count ≤ lowest_idle slots → ChangesBy (start_step k) slots (Err because.Slots) slots
   unfolding start_step
-  start_none k h = rw (le-ltb (lowest_idle s.slots) (length s.slots) h)
+  start_refused k h = λ p clock nodes. rw (le-ltb (lowest_idle slots) (length slots) (omega (arith, long)))
 
-  start_at : (k i : ℕ) → lowest_idle s.slots ≡ i → i < length s.slots
-      → moved_by (start_step k p s) ≡ wrote (answer DONE i 0 0 0) s.slots i (running k 0 0)
+  pub starts : (k i : ℕ) → i ≡ lowest_idle slots → i < slot_count → {b : Answer} {r : Slot} → b ≡ answer DONE i 0 0 0 → r ≡ running k 0 0
+      → ChangesBy (start_step k) slots (Ok b) (set slots i r)
   unfolding start_step
-  start_at k i e h = rw (e, lt-ltb i (length s.slots) h)
+  starts k i e h d g =
+      λ p clock nodes.
+      wrote (start_step k) p (record { clock = clock; nodes = nodes; slots = slots }) i d g
+      (rw (sym e, lt-ltb i (length slots) (omega (arith, long))))
 
-  -- What is done with a running slot: there is no such slot, or it is idle, or it runs.
-  module _ (f : Slot → Effect) (i : ℕ) where
-    no_slot : length s.slots ≤ i → moved_by (with_running f i s) ≡ kept SLOT s.slots
-    unfolding with_running
-    no_slot h = rw (le-ltb i (length s.slots) h)
-
-    module _ (h : i < length s.slots) where
-      slot_rests : (slot_at s i).running ≡ idle_mark → moved_by (with_running f i s) ≡ kept IDLE s.slots
-      unfolding with_running
-      slot_rests e = rw (lt-ltb i (length s.slots) h, eq-eqb (slot_at s i).running idle_mark e)
-
-      slot_runs : (slot_at s i).running ≢ idle_mark → with_running f i s ≡ f (slot_at s i)
-      unfolding with_running
-      slot_runs e = rw (lt-ltb i (length s.slots) h, ne_eqb (slot_at s i).running idle_mark e)
-
+  -- A cancel: no search runs in the slot, or the slot becomes idle.
   module _ (i : ℕ) where
-    -- A step or a cancel of no slot, and of an idle one.
-    pub step_no_slot : length s.slots ≤ i → moved_by (step_step i p s) ≡ kept SLOT s.slots
-    unfolding step_step
-    step_no_slot h = no_slot _ i h
-
-    pub step_idle : i < length s.slots → (slot_at s i).running ≡ idle_mark → moved_by (step_step i p s) ≡ kept IDLE s.slots
-    unfolding step_step
-    step_idle h e = slot_rests _ i h e
-
-    cancel_no_slot : length s.slots ≤ i → moved_by (cancel_step i p s) ≡ kept SLOT s.slots
+    pub cancel_refused : {why : Refusal} → RestsAt slots i why → ChangesBy (cancel_step i) slots (Err why) slots
     unfolding cancel_step
-    cancel_no_slot h = no_slot _ i h
+    cancel_refused h = λ p clock nodes. sym (ap moved_by (rests _ i (record { clock = clock; nodes = nodes; slots = slots }) long h))
 
-    cancel_idle : i < length s.slots → (slot_at s i).running ≡ idle_mark → moved_by (cancel_step i p s) ≡ kept IDLE s.slots
+    pub cancels : {at : ℕ} → RunsAt slots i at → {b : Answer} {r : Slot} → b ≡ bare DONE → r ≡ idle
+        → ChangesBy (cancel_step i) slots (Ok b) (set slots at r)
     unfolding cancel_step
-    cancel_idle h e = slot_rests _ i h e
+    cancels {at} w d g =
+        rw (← w.0)
+        (λ p clock nodes.
+        wrote (cancel_step at) p (record { clock = clock; nodes = nodes; slots = slots }) at d g
+        (runs _ at (record { clock = clock; nodes = nodes; slots = slots }) long w.1 w.2))
 
-    module _ (h : i < length s.slots) (runs : (slot_at s i).running ≢ idle_mark) where
-      cancel_runs : moved_by (cancel_step i p s) ≡ wrote (bare DONE) s.slots i idle
-      unfolding cancel_step
-      cancel_runs = ap moved_by (slot_runs _ i h runs)
+-- A node's line is what a look in it found.
+found_back : (o : Option Copy) → copy_found (found_of o) ≡ o
+found_back none = refl
+found_back (some x) = refl
 
-      -- A step of a search that runs. The node has a copy of the key,
-      module _ (visits : ℕ) (e : visits ≡ suc (slot_at s i).visits) where
-        abbrev q : Slot
-        q = slot_at s i
+module _ (rows : Rows) (z : Store) (long : length z.slots ≡ slot_count) (i : ℕ) where
+  -- The state of the store by a plan, at a clock.
+  abbrev at_clock : Plan → ℕ → State
+  at_clock p clock = state_in (size p) clock z.counts z.keys z.kinds z.values z.stamps z.slots
 
-        pub step_held : (x : Copy) → line s q.key q.node ≡ some x
-            → moved_by (step_step i p s) ≡ wrote (ended (some x) visits) s.slots i idle
-        unfolding step_step
-        step_held x g = ap moved_by (slot_runs _ i h runs) ∙ rw (g, e)
-
-        -- or it has none, and the path ends,
-        pub step_never : line s q.key q.node ≡ none → next p q.node q.key ≡ Ends
-            → moved_by (step_step i p s) ≡ wrote (ended none visits) s.slots i idle
-        unfolding step_step
-        step_never g n = ap moved_by (slot_runs _ i h runs) ∙ rw (g, n, e)
-
-        -- or goes on.
-        pub step_goes : (t : ℕ) → line s q.key q.node ≡ none → next p q.node q.key ≡ To t
-            → moved_by (step_step i p s) ≡ wrote (answer GOING t visits 0 0) s.slots i (running q.key t visits)
-        unfolding step_step
-        step_goes t g n = ap moved_by (slot_runs _ i h runs) ∙ rw (g, n, e)
-
--- What a start decides.
-module _ (slots : List Slot) (long : length slots ≡ slot_count) (k : ℕ) where
-  pub starts_none : {r : Change} → slot_count ≤ lowest_idle slots → r ≡ stays SLOTS slots → ChangesBy (start_step k) slots r
-  starts_none h e =
+  -- A step: no search runs in the slot,
+  pub step_refused : {why : Refusal} → RestsAt z.slots i why → StepsBy rows z i (Err why) z
+  unfolding step_step
+  step_refused h =
       record {
-        at_slot = stays_at SLOTS slots e;
-        does = λ p clock nodes.
-            change_kept SLOTS slots e ∙ sym (start_none p (record { clock = clock; nodes = nodes; slots = slots }) k (omega arith));
+        does = λ p clock has stand. sym (ap moved_by (rests _ i (at_clock p clock) long h));
+        slots_alone = refl;
+        refused_stays = λ why e. refl;
       }
 
-  pub starts_at : (i : ℕ) → lowest_idle slots ≡ i → i < slot_count → {a : Answer} {q : Slot} → a ≡ answer DONE i 0 0 0 → q ≡ running k 0 0
-      → ChangesBy (start_step k) slots (record { answer = a; at = i; slot = q })
-  starts_at i e h f g =
-      record {
-        at_slot = h;
-        does = λ p clock nodes.
-            wrote_same slots i f g ∙ sym (start_at p (record { clock = clock; nodes = nodes; slots = slots }) k i e (omega arith));
-      }
+  module _ {at : ℕ} (w : RunsAt z.slots i at) where
+    -- or one runs,
+    abbrev search : Slot
+    search = get_or z.slots at idle
 
--- What a cancel decides.
-module _ (slots : List Slot) (long : length slots ≡ slot_count) (i : ℕ) where
-  pub cancels_no_slot : {r : Change} → slot_count ≤ i → r ≡ stays SLOT slots → ChangesBy (cancel_step i) slots r
-  cancels_no_slot h e =
-      record {
-        at_slot = stays_at SLOT slots e;
-        does = λ p clock nodes.
-            change_kept SLOT slots e ∙ sym (cancel_no_slot p (record { clock = clock; nodes = nodes; slots = slots }) i (omega arith));
-      }
+    -- and its node is looked in.
+    module _ (held : Found) (f : held ≡ found_of (find key_of (node_of z search.node) search.key)) where
+      line_here : (p : Plan) (clock : ℕ) → SearchesIn p z.slots → (to : Found) → held ≡ to
+          → line (at_clock p clock) search.key search.node ≡ copy_found to
+      line_here p clock stand to e =
+          ap (λ (xs : List Copy). find key_of xs search.key)
+          (parts_node (size p) clock z.counts z.keys z.kinds z.values z.stamps z.slots search.node (stand at w.1 w.2))
+          ∙ sym (ap copy_found f ∙ found_back (find key_of (node_of z search.node) search.key))
+          ∙ ap copy_found e
 
-  module _ (h : i < slot_count) where
-    pub cancels_idle : {r : Change} → (get_or slots i idle).running ≡ idle_mark → r ≡ stays IDLE slots → ChangesBy (cancel_step i) slots r
-    cancels_idle rests e =
-        record {
-          at_slot = stays_at IDLE slots e;
-          does = λ p clock nodes.
-              change_kept IDLE slots e ∙ sym (cancel_idle p (record { clock = clock; nodes = nodes; slots = slots }) i (omega arith) rests);
-        }
+      -- A copy was found,
+      pub found : {b : Answer} {r : Slot} → (x : Copy) → held ≡ Some x → b ≡ ended (some x) (search.visits + 1) → r ≡ idle
+          → StepsBy rows z i (Ok b) (with_slots (set z.slots at r) z)
+      unfolding step_step
+      found x e d g =
+          rw (← w.0)
+          (record {
+            does = λ p clock has stand.
+                wrote (step_step at) p (at_clock p clock) at d g
+                (runs _ at (at_clock p clock) long w.1 w.2 ∙ rw (line_here p clock stand (Some x) e, add-one));
+            slots_alone = refl;
+            refused_stays = λ why e. absurd cc;
+          })
 
-    pub cancels : {r : Change} {a : Answer} → (get_or slots i idle).running ≢ idle_mark → a ≡ bare DONE → r ≡ frees a i → ChangesBy (cancel_step i) slots r
-    cancels runs f e =
-        record {
-          at_slot = frees_at e h;
-          does = λ p clock nodes.
-              change_freed slots e f ∙ sym (cancel_runs p (record { clock = clock; nodes = nodes; slots = slots }) i (omega arith) runs);
-        }
+      module _ (nothing : held ≡ None) (hop : Hop) (o : hop ≡ first_edge (row_edges rows search.node) search.key) where
+        next_known : (p : Plan) → RowsOf p (size p) rows.counts rows.lows rows.highs rows.targets → (to : Hop) → hop ≡ to
+            → next p search.node search.key ≡ to
+        next_known p has to e = sym (next_here has search.node search.key hop o) ∙ e
+
+        -- or nothing, and the path ends,
+        pub never : {b : Answer} {r : Slot} → hop ≡ None → b ≡ ended none (search.visits + 1) → r ≡ idle
+            → StepsBy rows z i (Ok b) (with_slots (set z.slots at r) z)
+        unfolding step_step
+        never e d g =
+            rw (← w.0)
+            (record {
+              does = λ p clock has stand.
+                  wrote (step_step at) p (at_clock p clock) at d g
+                  (runs _ at (at_clock p clock) long w.1 w.2
+                  ∙ rw (line_here p clock stand None nothing, next_known p has None e, add-one));
+              slots_alone = refl;
+              refused_stays = λ why e. absurd cc;
+            })
+
+        -- or it goes on.
+        pub goes : {b : Answer} {r : Slot} → (to : ℕ) → hop ≡ Some to → b ≡ answer GOING to (search.visits + 1) 0 0
+            → r ≡ running search.key to (search.visits + 1) → StepsBy rows z i (Ok b) (with_slots (set z.slots at r) z)
+        unfolding step_step
+        goes to e d g =
+            rw (← w.0)
+            (record {
+              does = λ p clock has stand.
+                  wrote (step_step at) p (at_clock p clock) at d g
+                  (runs _ at (at_clock p clock) long w.1 w.2
+                  ∙ rw (line_here p clock stand None nothing, next_known p has (Some to) e, add-one));
+              slots_alone = refl;
+              refused_stays = λ why e. absurd cc;
+            })

@@ -1,28 +1,18 @@
-// What start, step and cancel decide: an answer, and what one search slot holds after it. Document 01, "What each step does".
+// Start, step and cancel: what each does with one search slot of a store, or why it is refused. Document 01, "What each step does".
+// A refusal leaves the store as it was. A slot's mark and an answer's number are numbers, not enums: the C interface has them in its structs.
 #![tactic(auto)]
 
-ghost use Rattle.std.specs.Prelude.{◌≡◌, ◌<◌};
-ghost use Rattle.store.specs.State.{slot_count, idle};
-ghost use Rattle.steps.specs.Searches.{running, start_step, cancel_step};
-ghost use Rattle.slots.specs.Workers.{stays, changed_by, LentSteppable, LentRunning, ChangesBy, LentStepsBy};
+ghost use Rattle.std.specs.Prelude.{◌≡◌, ◌<◌, ◌≤◌, true, false, length, MatchOption, MatchResult};
+ghost use Rattle.store.specs.State.{slot_count};
+ghost use Rattle.store.specs.StoreRules.{good_store};
+ghost use Rattle.store.specs.declared.refusal.Refusal.TheVariants.{BadStore};
+ghost use Rattle.steps.specs.Promises.{Starts, Steps, Cancels};
+ghost use Rattle.steps.specs.Searches.{running, lowest_idle, start_step, cancel_step};
+ghost use Rattle.slots.specs.Workers.{RunsAt, RestsAt, ChangesBy, Steppable, StepsBy, outcome_of};
 
-use plan::{Hop, arrays};
-use store::{Answer, Found, Slot, Store, columns};
-
-// An answer, and the slots after it.
-#[derive(Clone, Copy)]
-pub struct Moved {
-    pub answer: Answer,
-    pub slots: [Slot; Store::SLOTS],
-}
-
-// What is decided before the slots are written: the answer, and what one slot holds after it.
-#[derive(Clone, Copy)]
-pub struct Change {
-    pub answer: Answer,
-    pub at: usize,
-    pub slot: Slot,
-}
+use plan::rows::Rows;
+use store::refusal::Refusal;
+use store::{Answer, Slot, Store};
 
 // A running search: its key, the node that it stands at, and the nodes visited.
 fn search_at(key: u32, node: u32, visits: u32) -> Slot
@@ -30,144 +20,105 @@ fn search_at(key: u32, node: u32, visits: u32) -> Slot
 {
     Slot {
         running: Slot::RUNNING,
-        key: key,
-        node: node,
-        visits: visits,
+        key,
+        node,
+        visits,
     }
 }
 
-// "Ending makes the slot idle."
-fn freed(answer: Answer, i: usize) -> Change
-    ensures { result ≡ record { answer = answer; at = i; slot = idle } }
+// All store rules hold; else BADSTORE.
+fn check(store: &Store) -> Result<(), Refusal>
+    ensures { MatchResult result (λ _. good_store store.now ≡ true) (λ refusal. (refusal ≡ BadStore) × (good_store store.now ≡ false)) }
 {
-    Change {
-        answer: answer,
-        at: i,
-        slot: Slot::idle(),
+    if rules::is_good(store) {
+        Ok(())
+    } else {
+        Err(Refusal::BadStore)
     }
 }
 
-// A refusal leaves the slots as they were: the first is to hold what it holds.
-pub fn refused(number: u32, slots: [Slot; Store::SLOTS]) -> Change
-    ensures { result ≡ stays number slots }
+// The lowest idle slot, if not all run.
+fn lowest_idle(slots: &[Slot; Store::SLOTS]) -> Option<usize>
+    ensures { MatchOption result (slot_count ≤ lowest_idle slots.now) (λ i. (i ≡ lowest_idle slots.now) × (i < slot_count)) }
 {
-    let first = slots[0];
-    Change {
-        answer: Answer::bare(number),
-        at: 0,
-        slot: first,
-    }
+    slots.iter().position(|slot| slot.running == Slot::IDLE)
 }
 
-// The slots are written in one place, whatever was decided: with a write on each way out the compiler took them apart, number by number.
-pub fn changed(change: Change, mut slots: [Slot; Store::SLOTS]) -> Moved
-    requires { change.at < slot_count }
-    ensures { result ≡ changed_by slots change }
-{
-    let at = change.at;
-    let slot = change.slot;
-    slots[at] = slot;
-    let answer = change.answer;
-    Moved {
-        answer: answer,
-        slots: slots,
-    }
-}
-
-// "The lowest idle slot takes the key, at the root, 0 visits." SLOTS where none is idle.
-pub fn started(slots: [Slot; Store::SLOTS], key: u32) -> Change
-    ensures { ChangesBy (start_step key) slots result }
-{
-    let mut n = 0;
-    let slot = loop {
-        if Store::SLOTS <= n {
-            return refused(Answer::SLOTS, slots);
-        }
-        if slots[n].running == Slot::IDLE {
-            break n;
-        }
-        n += 1;
-    };
-    Change {
-        answer: Answer::of(Answer::DONE, slot as u64, 0, 0, 0),
-        at: slot,
-        slot: search_at(key, 0, 0),
-    }
-}
-
-// "One node is visited" by the search in slot i. Found ends it; nothing sends it to the key's next node, or ends it as never entered.
-fn visited<'a>(
-    edges: &'a [u32; plan::MOST_NODES],
-    lows: &'a [[u32; plan::MOST_EDGES]; plan::MOST_NODES],
-    highs: &'a [[u32; plan::MOST_EDGES]; plan::MOST_NODES],
-    targets: &'a [[u32; plan::MOST_EDGES]; plan::MOST_NODES],
-    counts: &'a [u32; Store::NODES],
-    keys: &'a [u32; Store::PLACES],
-    kinds: &'a [u32; Store::PLACES],
-    values: &'a [u32; Store::PLACES],
-    stamps: &'a [u32; Store::PLACES],
-    slots: [Slot; Store::SLOTS],
-    i: usize,
-) -> Change
-    requires { LentRunning counts keys slots i }
-    ensures { LentStepsBy edges lows highs targets counts keys kinds values stamps slots i result }
-{
-    let search = slots[i];
-    let node = search.node;
-    let key = search.key;
-    let visits = search.visits + 1;
-    let Found::Held(copy) = columns::look_at(counts, keys, kinds, values, stamps, node, key) else {
-        let Hop::To(to) = arrays::next_in(edges, lows, highs, targets, node, key) else {
-            return freed(looks::never(visits), i);
-        };
-        return Change {
-            answer: Answer::of(Answer::GOING, to as u64, visits as u64, 0, 0),
-            at: i,
-            slot: search_at(key, to, visits),
-        };
-    };
-    freed(looks::held(copy, visits), i)
-}
-
-// A step of the search in a slot. SLOT before IDLE.
-pub fn stepped<'a>(
-    edges: &'a [u32; plan::MOST_NODES],
-    lows: &'a [[u32; plan::MOST_EDGES]; plan::MOST_NODES],
-    highs: &'a [[u32; plan::MOST_EDGES]; plan::MOST_NODES],
-    targets: &'a [[u32; plan::MOST_EDGES]; plan::MOST_NODES],
-    counts: &'a [u32; Store::NODES],
-    keys: &'a [u32; Store::PLACES],
-    kinds: &'a [u32; Store::PLACES],
-    values: &'a [u32; Store::PLACES],
-    stamps: &'a [u32; Store::PLACES],
-    slots: [Slot; Store::SLOTS],
-    slot: u32,
-) -> Change
-    requires { LentSteppable counts keys slots }
-    ensures { LentStepsBy edges lows highs targets counts keys kinds values stamps slots slot result }
+// The place of a slot in which a search runs. "SLOT: slot above 7"; "IDLE: slot not running".
+fn running(slots: &[Slot; Store::SLOTS], slot: u32) -> Result<usize, Refusal>
+    ensures long { length slots.now ≡ slot_count }
+    ensures place { MatchResult result (RunsAt slots.now slot) (RestsAt slots.now slot) }
 {
     let i = slot as usize;
     if Store::SLOTS <= i {
-        return refused(Answer::SLOT, slots);
+        Err(Refusal::Slot)
+    } else if slots[i].running == Slot::IDLE {
+        Err(Refusal::Idle)
+    } else {
+        Ok(i)
     }
-    if slots[i].running == Slot::IDLE {
-        return refused(Answer::IDLE, slots);
-    }
-    visited(
-        edges, lows, highs, targets, counts, keys, kinds, values, stamps, slots, i,
-    )
 }
 
-// "The slot becomes idle." SLOT before IDLE.
-pub fn cancelled(slots: [Slot; Store::SLOTS], slot: u32) -> Change
-    ensures { ChangesBy (cancel_step slot) slots result }
+// "The lowest idle slot takes the key, at the root, 0 visits." SLOTS where all run. Whatever else the store holds.
+pub fn started(slots: &mut [Slot; Store::SLOTS], key: u32) -> Result<Answer, Refusal>
+    ensures { ChangesBy (start_step key) slots.old result slots.new }
 {
-    let at = slot as usize;
-    if Store::SLOTS <= at {
-        return refused(Answer::SLOT, slots);
-    }
-    if slots[at].running == Slot::IDLE {
-        return refused(Answer::IDLE, slots);
-    }
-    freed(Answer::bare(Answer::DONE), at)
+    let slot = lowest_idle(slots).ok_or(Refusal::Slots)?;
+    slots[slot] = search_at(key, 0, 0);
+    Ok(Answer::of(Answer::DONE, slot as u64, 0, 0, 0))
+}
+
+// "One node is visited" by the search in a slot. Found ends it; nothing sends it to the key's next node, or ends it as never entered.
+// "Ending makes the slot idle." SLOT, or IDLE where none runs. By each plan that has the rows, whatever the clock.
+pub fn stepped(store: &mut Store, rows: &Rows, slot: u32) -> Result<Answer, Refusal>
+    requires { Steppable store.old }
+    ensures { StepsBy rows.now store.old slot result store.new }
+{
+    let i = running(&store.slots, slot)?;
+    let search = store.slots[i];
+    let visits = search.visits + 1;
+    let Some(copy) = store.look_in(search.node, search.key) else {
+        let Some(to) = rows.next(search.node, search.key) else {
+            store.slots[i] = Slot::idle();
+            return Ok(looks::ended(None, visits));
+        };
+        store.slots[i] = search_at(search.key, to, visits);
+        return Ok(Answer::of(Answer::GOING, to as u64, visits as u64, 0, 0));
+    };
+    store.slots[i] = Slot::idle();
+    Ok(looks::ended(Some(copy), visits))
+}
+
+// "The slot becomes idle." SLOT, or IDLE where none runs. Whatever else the store holds.
+pub fn cancelled(slots: &mut [Slot; Store::SLOTS], slot: u32) -> Result<Answer, Refusal>
+    ensures { ChangesBy (cancel_step slot) slots.old result slots.new }
+{
+    let at = running(slots, slot)?;
+    slots[at] = Slot::idle();
+    Ok(Answer::bare(Answer::DONE))
+}
+
+// Of a store that is checked first: start. BADSTORE, or SLOTS where all run.
+pub fn start(store: &mut Store, key: u32) -> Result<Answer, Refusal>
+    ensures { Starts store.old key (outcome_of result store.new) }
+{
+    check(store)?;
+    started(&mut store.slots, key)
+}
+
+// Step. BADSTORE, SLOT, or IDLE where none runs.
+pub fn step(store: &mut Store, slot: u32) -> Result<Answer, Refusal>
+    ensures { Steps store.old slot (outcome_of result store.new) }
+{
+    check(store)?;
+    let rows = plan_table::rows_of(store.plan);
+    stepped(store, rows, slot)
+}
+
+// Cancel. BADSTORE, SLOT, or IDLE where none runs.
+pub fn cancel(store: &mut Store, slot: u32) -> Result<Answer, Refusal>
+    ensures { Cancels store.old slot (outcome_of result store.new) }
+{
+    check(store)?;
+    cancelled(&mut store.slots, slot)
 }

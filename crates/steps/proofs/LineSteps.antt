@@ -12,8 +12,8 @@ use lib.ListN.{length, get_or, set, length-set}
 use lib.Seq.{get_or-set_same, get_or-set_other}
 use borrow.Author.Tests.{eq-eqb, ne_eqb}
 use Rattle.plan.specs.declared.Edge.{Edge}
-use Rattle.plan.specs.declared.Hop.{Hop}
-use Rattle.plan.specs.declared.Hop.TheVariants.{To}
+use Rattle.plan.specs.Plan.{Hop}
+use Rattle.std.specs.Prelude.{Some}
 use Rattle.plan.specs.Plan.{Plan, size, capacity_of, edge_of, next}
 use Rattle.plan.specs.PlanRules.{IsEdge, PlanRules}
 use Rattle.plan.proofs.NextLaws.{edge_next}
@@ -51,7 +51,7 @@ pub record Entered (x : Copy) (l l' : Line) : Type 0 where
 -- The line's copy x goes from node n to its next node t.
 pub record Carried (hop : ℕ → Hop) (n t : ℕ) (x : Copy) (l l' : Line) : Type 0 where
   pub had : l n ≡ some x
-  pub via : hop n ≡ To t
+  pub via : hop n ≡ Some t
   pub gone : l' n ≡ none
   pub got : l' t ≡ some x
   pub other : (m : ℕ) → m ≢ n → m ≢ t → l' m ≡ l m

@@ -8,7 +8,7 @@ use native.Mathlib.Decide.{ℕ_discrete}
 use Rattle.lists.proofs.Options.{not_none_and_some, one_some}
 use Rattle.lists.proofs.Orders.{Order, order?}
 use Rattle.lists.proofs.Orders.Order.{less, equal, more}
-use Rattle.plan.specs.declared.Hop.TheVariants.{To}
+use Rattle.std.specs.Prelude.{Some}
 use Rattle.plan.specs.Plan.{Plan, next}
 use Rattle.plan.specs.PlanRules.{PlanRules}
 use Rattle.plan.proofs.NextLaws.{next_down}
@@ -25,7 +25,7 @@ module _ (p : Plan) (rules : PlanRules p) (s s' : State) (moves entries : ℕ �
   -- Where a line's copy comes from: it was there, it was at the node before, or it is new.
   pub data Came (k m : ℕ) (y : Copy) : Type 0 where
     stood : line s k m ≡ some y → Came k m y
-    moved : (n : ℕ) → line s k n ≡ some y → next p n k ≡ To m → Came k m y
+    moved : (n : ℕ) → line s k n ≡ some y → next p n k ≡ Some m → Came k m y
     entered : entries k ≡ 1 → m ≡ 0 → y.stamp ≡ s.clock → s.clock < s'.clock → Came k m y
 
   pub came : (k m : ℕ) (y : Copy) → line s' k m ≡ some y → Came k m y

@@ -11,7 +11,8 @@ use native.Mathlib.Decide.{ℕ_discrete}
 use lib.Dec.{ltb}
 use lib.ListN.{length, get_or}
 use borrow.Author.Tests.{ltb-true, lt-ltb, le-ltb, eq-eqb, ne_eqb}
-use Rattle.lists.proofs.Truths.{not_both, or_right}
+use Rattle.lists.proofs.Truths.{not_both}
+use Rattle.std.proofs.lemmas.Bool.{or_right}
 use Rattle.lists.proofs.Options.{option?, not_none_and_some, one_some}
 use Rattle.lists.proofs.Orders.{Order, order?}
 use Rattle.lists.proofs.Orders.Order.{less, equal, more}

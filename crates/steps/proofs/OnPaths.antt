@@ -6,7 +6,7 @@ use native.Mathlib.Decide.{dec_lt}
 use lib.ListN.{length, get_or}
 use Rattle.lists.proofs.Orders.{Order, order?}
 use Rattle.lists.proofs.Orders.Order.{less, equal, more}
-use Rattle.plan.specs.declared.Hop.TheVariants.{To}
+use Rattle.std.specs.Prelude.{Some}
 use Rattle.plan.specs.Plan.{Plan, size, next, path, IsPath}
 use Rattle.plan.specs.PlanRules.{PlanRules}
 use Rattle.plan.proofs.NextLaws.{not_both_hops, one_target, root_in_plan}
@@ -26,10 +26,10 @@ module _ (p : Plan) (rules : PlanRules p) (k : ℕ) where
   on_path_in_plan n above o = omega (arith, path_in_plan p rules k above o.inside, o.here)
 
   -- and its next node stands in the next place.
-  pub next_on_path : (n t above : ℕ) → OnPath p k n above → next p n k ≡ To t → OnPath p k t (suc above)
+  pub next_on_path : (n t above : ℕ) → OnPath p k n above → next p n k ≡ Some t → OnPath p k t (suc above)
   next_on_path n t above o e = go (dec_lt (suc above) (length (path p k)))
     where
-      goes : next p (get_or (path p k) above 0) k ≡ To t
+      goes : next p (get_or (path p k) above 0) k ≡ Some t
       goes = rw o.here e
 
       go : Dec (suc above < length (path p k)) → OnPath p k t (suc above)
@@ -39,7 +39,7 @@ module _ (p : Plan) (rules : PlanRules p) (k : ℕ) where
           absurd (not_both_hops (rw last at (path_end p rules k)) goes)
 
   -- So no node of the path stands between a node and its next.
-  pub none_between : (n t m a b : ℕ) → OnPath p k n a → next p n k ≡ To t → OnPath p k m b → n < m → t ≤ m
+  pub none_between : (n t m a b : ℕ) → OnPath p k n a → next p n k ≡ Some t → OnPath p k m b → n < m → t ≤ m
   none_between n t m a b o e q h = go (order? (suc a) b) (order? b a)
     where
       after : OnPath p k t (suc a)

@@ -9,7 +9,7 @@ use native.Mathlib.Nat.{zero-add}
 use lib.ListN.{length, length-set}
 use borrow.Author.Tests.{lt-ltb}
 use Rattle.lists.proofs.Options.{option?}
-use Rattle.plan.specs.declared.Hop.TheVariants.{To, Ends}
+use Rattle.std.specs.Prelude.{Some, None}
 use Rattle.plan.specs.Plan.{Plan, next, path, path_from, IsPath}
 use Rattle.plan.specs.Plan.IsPath.{last, more}
 use Rattle.plan.specs.PlanRules.{PlanRules}
@@ -37,12 +37,12 @@ module _ (p : Plan) (s : State) (i k n visits : ℕ) (h : i < length s.slots) (e
   unfolding step_step with_running
   step_finds x f = rw (lt-ltb i (length s.slots) h, e, f)
 
-  pub step_never : line s k n ≡ none → next p n k ≡ Ends
+  pub step_never : line s k n ≡ none → next p n k ≡ None
       → step_step i p s ≡ record { answer = ended none (suc visits); after = with_slot i idle s }
   unfolding step_step with_running
   step_never f g = rw (lt-ltb i (length s.slots) h, e, f, g)
 
-  pub step_goes : line s k n ≡ none → (t : ℕ) → next p n k ≡ To t
+  pub step_goes : line s k n ≡ none → (t : ℕ) → next p n k ≡ Some t
       → step_step i p s ≡ record { answer = answer GOING t (suc visits) 0 0; after = with_slot i (running k t (suc visits)) s }
   unfolding step_step with_running
   step_goes f t g = rw (lt-ltb i (length s.slots) h, e, f, g)

@@ -10,8 +10,8 @@ use native.Mathlib.Nat.{le_of_suc-le-suc, not-suc-le-zero}
 use lib.Dec.{ltb, eqb}
 use lib.ListN.{length, get_or}
 use borrow.Author.Tests.{ltb-true, ltb-false, eqb-true, eqb-false}
-use Rattle.plan.specs.declared.Hop.{Hop}
-use Rattle.plan.specs.declared.Hop.TheVariants.{To, Ends}
+use Rattle.plan.specs.Plan.{Hop}
+use Rattle.std.specs.Prelude.{Some, None}
 use Rattle.plan.specs.Plan.{Plan, size, capacity_of, edges_of, edge_of, next}
 use Rattle.plan.specs.PlanRules.{IsEdge}
 use Rattle.store.specs.declared.Copy.{Copy}
@@ -132,9 +132,9 @@ running_way Done f i s d = go (ltb i (length s.slots)) (eqb (slot_at s i).runnin
 pub data Visit (i : ℕ) (p : Plan) (s : State) : Effect → Type 0 where
   finds : (x : Copy) → line s (slot_at s i).key (slot_at s i).node ≡ some x
       → Visit i p s (record { answer = ended (some x) (suc (slot_at s i).visits); after = with_slot i idle s })
-  never : line s (slot_at s i).key (slot_at s i).node ≡ none → next p (slot_at s i).node (slot_at s i).key ≡ Ends
+  never : line s (slot_at s i).key (slot_at s i).node ≡ none → next p (slot_at s i).node (slot_at s i).key ≡ None
       → Visit i p s (record { answer = ended none (suc (slot_at s i).visits); after = with_slot i idle s })
-  goes : line s (slot_at s i).key (slot_at s i).node ≡ none → (t : ℕ) → next p (slot_at s i).node (slot_at s i).key ≡ To t
+  goes : line s (slot_at s i).key (slot_at s i).node ≡ none → (t : ℕ) → next p (slot_at s i).node (slot_at s i).key ≡ Some t
       → Visit i p s
       (record {
         answer = answer GOING t (suc (slot_at s i).visits) 0 0;
@@ -150,8 +150,8 @@ step_way i p s =
     go : (o : Option Copy) (h : Hop) → line s (slot_at s i).key (slot_at s i).node ≡ o → next p (slot_at s i).node (slot_at s i).key ≡ h
         → Visit i p s (visited o h i (slot_at s i) s)
     go (some x) h a b = finds x a
-    go none Ends a b = never a b
-    go none (To t) a b = goes a t b
+    go none None a b = never a b
+    go none (Some t) a b = goes a t b
 
 -- A cancel makes the slot idle.
 pub data Freed (i : ℕ) (s : State) : Effect → Type 0 where

@@ -1,8 +1,8 @@
 -- Searches (start, step, cancel) and look. Document 01, "What each step does".
 use Rattle.std.specs.Prelude.{cond, List, [], ◌∷◌, ℕ, suc, ltb, eqb, length, set}
 use Rattle.std.proofs.Math.Option.{Option, none, some}
-use Rattle.plan.specs.declared.Hop.{Hop}
-use Rattle.plan.specs.declared.Hop.TheVariants.{To, Ends}
+use Rattle.plan.specs.Plan.{Hop}
+use Rattle.std.specs.Prelude.{Some, None}
 use Rattle.plan.specs.Plan.{Plan, next, path}
 use Rattle.store.specs.declared.Answer.{Answer}
 use Rattle.store.specs.declared.Copy.{Copy}
@@ -43,8 +43,8 @@ ended (some x) visits = answer DONE (suc x.kind) x.value x.stamp visits
 -- Ending makes the slot idle."
 abbrev pub visited : Option Copy → Hop → ℕ → Slot → State → Effect
 visited (some x) h i q s = record { answer = ended (some x) (suc q.visits); after = with_slot i idle s }
-visited none Ends i q s = record { answer = ended none (suc q.visits); after = with_slot i idle s }
-visited none (To t) i q s =
+visited none None i q s = record { answer = ended none (suc q.visits); after = with_slot i idle s }
+visited none (Some t) i q s =
     record { answer = answer GOING t (suc q.visits) 0 0; after = with_slot i (running q.key t (suc q.visits)) s }
 
 -- What is done with a running slot: SLOT before IDLE.

@@ -1,21 +1,19 @@
 -- The nodes of a good store as the workers on its columns take them: by places, with rising keys.
 use mathlib.Core.Path.{◌≡◌, sym, ap}
 use mathlib.Core.Bool.{true}
-use mathlib.Core.List.{List}
 use Prim.Native.Nat.{ℕ, ◌+◌, ◌-◌, ◌*◌, ◌<◌}
 use native.Mathlib.Omega.{arith}
 use lib.ListN.{length}
 use Rattle.lists.specs.Indexed.{tabulate}
 use Rattle.plan.specs.Sizes.{most_nodes}
 use Rattle.plan.specs.Plan.{size}
-use Rattle.plan.specs.PlanArrays.{Grid, RowsOf}
 use Rattle.store.specs.declared.Copy.{Copy}
 use Rattle.store.specs.declared.Store.{Store}
 use Rattle.store.specs.Copies.{key_of}
 use Rattle.store.specs.State.{node_at}
 use Rattle.store.specs.Layout.{plan_of, width, node_in, node_of, count_of, state_of, column, store_of}
 use Rattle.store.specs.StoreRules.{good_store}
-use Rattle.store.specs.Workers.{below, place_in, RisesIn, WithinPlaces, Lookable}
+use Rattle.store.specs.Workers.{below, place_in, RisesIn, WithinPlaces}
 use Rattle.store.proofs.Lifting.{plan_good, good_ordered, good_back}
 use Rattle.store.proofs.Halving.{place_of-copy}
 
@@ -26,11 +24,6 @@ unfolding node_in
 node_place z n from end k f e =
     let c : end - from ≡ count_of z n = omega arith in
     rw (c, f) (ap (λ (b : ℕ). width * n + b) (place_of-copy z.keys z.kinds z.values z.stamps (width * n) (count_of z n) k))
-
--- A good store and the rows of its plan are what a look down a path asks for.
-pub good_lookable : (z : Store) → good_store z ≡ true → {nodes : ℕ} {edges : List ℕ} {lows highs targets : Grid}
-    → RowsOf (plan_of z) nodes edges lows highs targets → Lookable nodes edges lows highs targets z.counts z.keys
-good_lookable z good rows = record { plan = plan_of z; rows = rows; ordered = good_ordered z good }
 
 module _ (z : Store) (good : good_store z ≡ true) where
   -- The root is a node of its plan.

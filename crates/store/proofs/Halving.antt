@@ -7,8 +7,8 @@ use native.Mathlib.Omega.{arith}
 use Rattle.lists.specs.Indexed.{tabulate}
 use Rattle.lists.proofs.Tabulating.{map-tabulate}
 use Rattle.store.specs.declared.Copy.{Copy}
-use Rattle.store.specs.declared.Found.TheVariants.{Held, Nothing}
-use Rattle.store.specs.Copies.{copy, no_copy, key_of, find, found_of}
+use Rattle.std.specs.Prelude.{Some, None}
+use Rattle.store.specs.Copies.{no_copy, key_of, find, found_of}
 use Rattle.store.specs.Layout.{copy_in}
 use Rattle.store.specs.Workers.{number_in, itself, below, place_in, Rises, RisesIn}
 use Rattle.store.proofs.Seeking.{below_keys, rises_tabulated, place_within, place_up, place_down, place_hit, place_none}
@@ -55,23 +55,16 @@ module _ (keys : List ℕ) (from end : ℕ) (o : from ≤ end) where
           (e ∙ ap (λ (n : ℕ). from + n) (place_of-copy keys kinds values stamps from (end - from) k))
           copies_rise (λ p. h (omega arith))
 
-      -- The two ways out of a look.
-      pub look_held : (k at : ℕ) → from ≤ at → at < end → number_in keys at ≡ k
-          → Held (copy k (number_in kinds at) (number_in values at) (number_in stamps at))
-          ≡ found_of (find key_of (tabulate from (end - from) (copy_in keys kinds values stamps)) k)
-      look_held k at p q e =
-          ap (λ (j : ℕ). Held (copy j (number_in kinds at) (number_in values at) (number_in stamps at))) (sym e)
-          ∙ ap found_of (sym (found_at k at p q e))
-
+      -- A look that ends with no place left found nothing.
       pub look_nothing : (k at : ℕ) → at ≡ place_in keys from end k → (at < end → k < number_in keys at)
-          → Nothing ≡ found_of (find key_of (tabulate from (end - from) (copy_in keys kinds values stamps)) k)
+          → None ≡ found_of (find key_of (tabulate from (end - from) (copy_in keys kinds values stamps)) k)
       look_nothing k at e h = ap found_of (sym (none_at k at e (λ p q. let a = h p in omega arith)))
 
 -- What an answer says that was found.
-pub found_none : {o : Option Copy} → found_of o ≡ Nothing → o ≡ none
+pub found_none : {o : Option Copy} → found_of o ≡ None → o ≡ none
 found_none {o = none} e = refl
 found_none {o = some x} e = cc
 
-pub found_some : {o : Option Copy} {x : Copy} → found_of o ≡ Held x → o ≡ some x
+pub found_some : {o : Option Copy} {x : Copy} → found_of o ≡ Some x → o ≡ some x
 found_some {o = none} e = cc
 found_some {o = some y} e = cc

@@ -10,6 +10,7 @@ pub mod Ruling
 pub mod Lifting
 pub mod Seeking
 pub mod Halving
+pub mod Parting
 pub mod Freshening
 pub mod Opening
 pub mod Zeros

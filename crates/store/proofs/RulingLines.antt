@@ -8,8 +8,8 @@ use Prim.Native.Nat.{ℕ, zero, suc, ◌<◌, ◌≤◌}
 use native.Mathlib.Omega.{arith}
 use lib.ListN.{length, get_or}
 use Rattle.lists.proofs.Options.{option?, not_none_and_some}
-use Rattle.plan.specs.declared.Hop.{Hop}
-use Rattle.plan.specs.declared.Hop.TheVariants.{To, Ends}
+use Rattle.plan.specs.Plan.{Hop}
+use Rattle.std.specs.Prelude.{Some, None}
 use Rattle.plan.specs.Plan.{Plan, size, next, walk, path_from, Reach}
 use Rattle.plan.specs.Plan.Reach.{here, there}
 use Rattle.plan.specs.PlanRules.{PlanRules}
@@ -36,7 +36,7 @@ first_at l (n ∷ ns) y e =
     (option? (l n))
 
 -- Of two nodes that one leads to, the lower number leads to the higher.
-lower_leads : (hop : ℕ → Hop) (most : ℕ) → ((n t : ℕ) → hop n ≡ To t → (n < t) × (t < most))
+lower_leads : (hop : ℕ → Hop) (most : ℕ) → ((n t : ℕ) → hop n ≡ Some t → (n < t) × (t < most))
     → {r n m : ℕ} → Reach hop r n → Reach hop r m → n < m → Reach hop n m
 lower_leads hop most down here b h = b
 lower_leads hop most down (there {n = r} {t = t} e a) here h = absurd (omega (arith, down r t e, reach_le hop most down a))
@@ -47,28 +47,28 @@ module _ (p : Plan) (rules : PlanRules p) (s : State) (k : ℕ) where
   abbrev hop : ℕ → Hop
   hop m = next p m k
 
-  down : (n t : ℕ) → next p n k ≡ To t → (n < t) × (t < size p)
+  down : (n t : ℕ) → next p n k ≡ Some t → (n < t) × (t < size p)
   down n t e = next_down p rules n k t e
 
   -- In reach from a node: its own copy, or what is in reach from its next step.
-  pub reach_ends : in_reach p s k Ends ≡ none
+  pub reach_ends : in_reach p s k None ≡ none
   unfolding in_reach first_on walk
   reach_ends = go (size p)
     where
-      go : (most : ℕ) → first_on (line s k) (walk p k most Ends) ≡ none
+      go : (most : ℕ) → first_on (line s k) (walk p k most None) ≡ none
       go zero = refl
       go (suc most) = refl
 
-  pub reach_goes : (n : ℕ) → n < size p → in_reach p s k (To n) ≡ or_else (line s k n) (in_reach p s k (next p n k))
+  pub reach_goes : (n : ℕ) → n < size p → in_reach p s k (Some n) ≡ or_else (line s k n) (in_reach p s k (next p n k))
   unfolding in_reach first_on path_from
   reach_goes n h =
-      ⊎_elim (λ (e : next p n k ≡ Ends).
+      ⊎_elim (λ (e : next p n k ≡ None).
       rw (path_ends p rules k n h e, e, reach_ends))
-      (λ (w : (t : ℕ) × (next p n k ≡ To t)). rw (path_goes p rules k n w.0 h w.1, w.1))
+      (λ (w : (t : ℕ) × (next p n k ≡ Some t)). rw (path_goes p rules k n w.0 h w.1, w.1))
       (hop? (next p n k))
 
   -- What is in reach from a node is held there or below.
-  pub reach_held : (n : ℕ) (y : Copy) → n < size p → in_reach p s k (To n) ≡ some y → (m : ℕ) × (n ≤ m) × (line s k m ≡ some y)
+  pub reach_held : (n : ℕ) (y : Copy) → n < size p → in_reach p s k (Some n) ≡ some y → (m : ℕ) × (n ≤ m) × (line s k m ≡ some y)
   unfolding in_reach path_from
   reach_held n y h e =
       let w = first_at (line s k) (path_from p k n) y e in
@@ -80,17 +80,17 @@ module _ (p : Plan) (rules : PlanRules p) (s : State) (k : ℕ) where
   AboveReach = (n : ℕ) (x : Copy) → line s k n ≡ some x → stamp_of (in_reach p s k (next p n k)) < x.stamp
 
   -- Then what is in reach from a node is no older than any copy that the node leads to,
-  reach_newest : AboveReach → {n m : ℕ} → Reach hop n m → n < size p → (y : Copy) → line s k m ≡ some y → y.stamp ≤ stamp_of (in_reach p s k (To n))
+  reach_newest : AboveReach → {n m : ℕ} → Reach hop n m → n < size p → (y : Copy) → line s k m ≡ some y → y.stamp ≤ stamp_of (in_reach p s k (Some n))
   reach_newest above (here {n = n}) h y e = rw (reach_goes n h, e) (omega arith)
   reach_newest above (there {n = n} {t = t} f r) h y e =
-      let below : y.stamp ≤ stamp_of (in_reach p s k (To t)) = reach_newest above r (down n t f).1 y e in
+      let below : y.stamp ≤ stamp_of (in_reach p s k (Some t)) = reach_newest above r (down n t f).1 y e in
       rw (reach_goes n h, f) (go below f (line s k n) refl)
     where
-      go : y.stamp ≤ stamp_of (in_reach p s k (To t)) → next p n k ≡ To t → (o : Option Copy) → line s k n ≡ o
-          → y.stamp ≤ stamp_of (or_else o (in_reach p s k (To t)))
+      go : y.stamp ≤ stamp_of (in_reach p s k (Some t)) → next p n k ≡ Some t → (o : Option Copy) → line s k n ≡ o
+          → y.stamp ≤ stamp_of (or_else o (in_reach p s k (Some t)))
       go below f none q = below
       go below f (some x) q =
-          let a : stamp_of (in_reach p s k (To t)) < x.stamp = rw f at (above n x q) in
+          let a : stamp_of (in_reach p s k (Some t)) < x.stamp = rw f at (above n x q) in
           omega arith
 
   -- and so of two copies on the path the one in the higher node is the older.
@@ -103,20 +103,20 @@ module _ (p : Plan) (rules : PlanRules p) (s : State) (k : ℕ) where
       go here q = absurd (omega arith)
       go (there {t = t} g r) q =
           let c = reach_newest above r (down n t g).1 y (rw q f) in
-          let d : stamp_of (in_reach p s k (To t)) < x.stamp = rw g at (above n x e) in
+          let d : stamp_of (in_reach p s k (Some t)) < x.stamp = rw g at (above n x e) in
           omega arith
 
   -- The other way: what is in reach from the next step is held in a higher node, and so is older.
   falls_reach : ((n m : ℕ) (x y : Copy) → line s k n ≡ some x → line s k m ≡ some y → n < m → y.stamp < x.stamp)
       → (n : ℕ) (x : Copy) → line s k n ≡ some x → 1 ≤ x.stamp → stamp_of (in_reach p s k (next p n k)) < x.stamp
   falls_reach falls n x e late =
-      ⊎_elim (λ (q : next p n k ≡ Ends). rw (q, reach_ends) late)
-      (λ (w : (t : ℕ) × (next p n k ≡ To t)).
+      ⊎_elim (λ (q : next p n k ≡ None). rw (q, reach_ends) late)
+      (λ (w : (t : ℕ) × (next p n k ≡ Some t)).
       let d = down n w.0 w.1 in
-      rw w.1 (go w.0 d.0 d.1 (in_reach p s k (To w.0)) refl))
+      rw w.1 (go w.0 d.0 d.1 (in_reach p s k (Some w.0)) refl))
       (hop? (next p n k))
     where
-      go : (t : ℕ) → n < t → t < size p → (o : Option Copy) → in_reach p s k (To t) ≡ o → stamp_of o < x.stamp
+      go : (t : ℕ) → n < t → t < size p → (o : Option Copy) → in_reach p s k (Some t) ≡ o → stamp_of o < x.stamp
       go t h g none q = late
       go t h g (some y) q =
           let w = reach_held t y g q in

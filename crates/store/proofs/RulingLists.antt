@@ -12,7 +12,8 @@ use lib.ListN.{length, get_or, take, length-take, length-drop}
 use lib.Seq.{slice, get_or-take, get_or-drop}
 use borrow.Author.Tests.{eqb-true, eq-eqb, not-true}
 use Rattle.lists.specs.Indexed.{tabulate}
-use Rattle.lists.proofs.Truths.{bool?, not_both, and_left, and_right, and_both, or_cases, or_left, or_right}
+use Rattle.lists.proofs.Truths.{bool?, not_both, and_left, and_right, and_both, or_cases}
+use Rattle.std.proofs.lemmas.Bool.{or_left, or_right}
 use Rattle.lists.proofs.Tabulating.{length-tabulate, get_d_tabulate}
 use Rattle.store.specs.Copies.{member, different}
 use Rattle.store.specs.StoreRules.{all_zero, stands_at}

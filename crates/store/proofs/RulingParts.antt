@@ -9,7 +9,8 @@ use native.Mathlib.Decide.{dec_lt, ℕ_discrete}
 use lib.Dec.{leb, ltb, eqb}
 use lib.ListN.{length}
 use borrow.Author.Tests.{eqb-true, eq-eqb, ne_eqb, leb-true, le-leb, ltb-true, lt-ltb}
-use Rattle.lists.proofs.Truths.{and_left, and_right, and_both, or_cases, or_left, or_right}
+use Rattle.lists.proofs.Truths.{and_left, and_right, and_both, or_cases}
+use Rattle.std.proofs.lemmas.Bool.{or_left, or_right}
 use Rattle.plan.specs.Plan.{Plan, size, next, path}
 use Rattle.store.specs.declared.Copy.{Copy}
 use Rattle.store.specs.declared.Slot.{Slot}

@@ -7,7 +7,8 @@ use Rattle.lists.proofs.Truths.{both_le}
 use Rattle.plan.specs.declared.Edge.{Edge}
 use Rattle.plan.specs.Plan.{Plan, size}
 use Rattle.plan.specs.PlanRules.{PlanRules}
-use Rattle.plan.specs.PlanArrays.{Grid, RowsOf, capacities_row, counts_row, grid_of}
+use Rattle.plan.specs.declared.rows.Rows.{Rows}
+use Rattle.plan.specs.PlanArrays.{Grid, RowsOf, RowsOfPlan, rows_of, capacities_row, counts_row, grid_of}
 use Rattle.plan_table.specs.PlanTable.{plan_numbered, plans}
 use Rattle.plan_table.proofs.TableLaws.{table_rules}
 use Rattle.store.specs.declared.Store.{Store}
@@ -39,7 +40,7 @@ module _ (z : Store) where
   capacities_known capacities e = e ∙ ap capacities_row (sym (plan_numbered_lem z))
 
   -- and so are the node count and the rows.
-  pub rows_known : PlanRules (plan_of z) → (nodes : ℕ) (edges : List ℕ) (lows highs targets : Grid)
+  rows_known : PlanRules (plan_of z) → (nodes : ℕ) (edges : List ℕ) (lows highs targets : Grid)
       → nodes ≡ size (plan_numbered z.plan) → edges ≡ counts_row (plan_numbered z.plan)
       → lows ≡ grid_of (λ (e : Edge). e.lowest) (plan_numbered z.plan) → highs ≡ grid_of (λ (e : Edge). e.highest) (plan_numbered z.plan)
       → targets ≡ grid_of (λ (e : Edge). e.target) (plan_numbered z.plan) → RowsOf (plan_of z) nodes edges lows highs targets
@@ -53,3 +54,15 @@ module _ (z : Store) where
         highs_are = h ∙ ap (grid_of (λ (d : Edge). d.highest)) same;
         targets_are = t ∙ ap (grid_of (λ (d : Edge). d.target)) same;
       }
+
+  -- The rows taken by the store's number are those of its plan, if that meets the plan rules,
+  pub rows_here : PlanRules (plan_of z) → (r : Rows) → r ≡ rows_of (plan_numbered z.plan) → RowsOfPlan (plan_of z) r
+  unfolding rows_of
+  rows_here rules r e =
+      rows_known rules r.nodes r.counts r.lows r.highs r.targets (ap (λ (s : Rows). s.nodes) e) (ap (λ (s : Rows). s.counts) e)
+      (ap (λ (s : Rows). s.lows) e) (ap (λ (s : Rows). s.highs) e) (ap (λ (s : Rows). s.targets) e)
+
+  -- and so are the capacities.
+  pub capacities_here : (r : Rows) → r ≡ rows_of (plan_numbered z.plan) → r.capacities ≡ capacities_row (plan_of z)
+  unfolding rows_of
+  capacities_here r e = capacities_known r.capacities (ap (λ (s : Rows). s.capacities) e)

@@ -3,8 +3,8 @@
 use Rattle.std.specs.Prelude.{Bool, true, false, cond, not, ◌&&◌, ◌||◌, List, [], ◌∷◌, ℕ, eqb}
 use Rattle.std.proofs.Math.Option.{Option, none, some}
 use Rattle.store.specs.declared.Copy.{Copy}
-use Rattle.store.specs.declared.Found.{Found}
-use Rattle.store.specs.declared.Found.TheVariants.{Held, Nothing}
+use Rattle.std.specs.Prelude.{Some, None}
+use Rattle.std.specs.declared.option.Option as answer
 
 -- The kind of a withdrawn copy.
 abbrev pub WITHDRAWN : ℕ
@@ -58,10 +58,14 @@ abbrev pub is_some : {A : Type 0} → Option A → Bool
 is_some none = false
 is_some (some x) = true
 
+-- What a look in one node gives.
+abbrev pub Found : Type 0
+Found = answer.Option Copy
+
 -- "A look in one node gives a found copy or nothing."
 abbrev pub found_of : Option Copy → Found
-found_of none = Nothing
-found_of (some x) = Held x
+found_of none = None
+found_of (some x) = Some x
 
 -- The stamp of what was found: "'Never' counts as older than every copy."
 abbrev pub stamp_of : Option Copy → ℕ

@@ -7,3 +7,4 @@ pub mod StoreRules
 pub mod Calls
 pub mod Workers
 pub mod Promises
+pub mod Refusals

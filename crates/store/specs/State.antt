@@ -1,8 +1,8 @@
 -- The state of a store: each node's copies, the clock and the searches. Document 01, "Lines, copies, plans".
 use Rattle.std.specs.Prelude.{List, [], ◌∷◌, ℕ, get_or, replicate}
 use Rattle.std.proofs.Math.Option.{Option, none, some}
-use Rattle.plan.specs.declared.Hop.{Hop}
-use Rattle.plan.specs.declared.Hop.TheVariants.{To}
+use Rattle.plan.specs.Plan.{Hop}
+use Rattle.std.specs.Prelude.{Some}
 use Rattle.plan.specs.Plan.{Plan, size, walk}
 use Rattle.store.specs.declared.Copy.{Copy}
 use Rattle.store.specs.declared.Slot.{Slot}
@@ -70,4 +70,4 @@ in_reach p s k h = first_on (line s k) (walk p k (size p) h)
 
 -- A line's current result: the first copy on its path.
 abbrev pub current : Plan → State → ℕ → Option Copy
-current p s k = in_reach p s k (To 0)
+current p s k = in_reach p s k (Some 0)

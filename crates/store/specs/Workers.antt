@@ -1,18 +1,9 @@
--- What the workers on lent columns promise: the place of a key by rising keys, and a number put in between others.
+-- What the workers on columns promise: the place of a key by rising keys, and a number put in between others.
 use Rattle.std.specs.Prelude.{◌≡◌, cond, List, [], ◌∷◌, ◌++◌, ℕ, suc, ◌+◌, ◌-◌, ◌*◌, ◌<◌, ◌≤◌, ltb, length, get_or, take, drop}
 use Rattle.std.proofs.Math.Seq.{slice}
 use Rattle.lists.specs.Indexed.{tabulate}
-use Rattle.lists.specs.Lending.{LentMutList}
-use Rattle.std.specs.Borrow.{Bor}
 use Rattle.plan.specs.Sizes.{most_nodes}
-use Rattle.plan.specs.Plan.{Plan}
-use Rattle.plan.specs.PlanArrays.{Grid, RowsOf}
-use Rattle.store.specs.declared.Found.{Found}
-use Rattle.store.specs.declared.Slot.{Slot}
-use Rattle.store.specs.declared.Store.{Store}
-use Rattle.store.specs.Copies.{key_of, find, found_of}
-use Rattle.store.specs.State.{State}
-use Rattle.store.specs.Layout.{width, places, copy_in, node_in, state_in}
+use Rattle.store.specs.Layout.{width, places}
 
 -- The number of a column at a place.
 abbrev pub number_in : List ℕ → ℕ → ℕ
@@ -51,10 +42,6 @@ HasPlaces list n = number_in list n ≤ width
 abbrev pub WithinPlaces : List ℕ → Type 0
 WithinPlaces list = (n : ℕ) → n < most_nodes → HasPlaces list n
 
--- The same of a lent list, and there are no more nodes than a store has.
-abbrev pub LentWithinPlaces : ℕ → Bor (List ℕ) → Type 0
-LentWithinPlaces nodes list = (nodes ≤ most_nodes) × WithinPlaces list.now
-
 -- A node in which a look can go by halves: it has places for its copies, and their keys rise.
 pub record Ordered (counts keys : List ℕ) (n : ℕ) : Type 0 where
   pub fits : HasPlaces counts n
@@ -71,56 +58,6 @@ pub record Sized (counts keys kinds values stamps : List ℕ) : Type 0 where
   pub kinds_long : length kinds ≡ places
   pub values_long : length values ≡ places
   pub stamps_long : length stamps ≡ places
-
--- The store of the parts that a worker is lent.
-abbrev pub of_parts : ℕ → ℕ → List ℕ → List ℕ → List ℕ → List ℕ → List ℕ → List Slot → Store
-of_parts plan clock counts keys kinds values stamps slots =
-    record { plan = plan; clock = clock; counts = counts; keys = keys; kinds = kinds; values = values; stamps = stamps; slots = slots }
-
--- The store whose columns are lent.
-abbrev pub lent_store : ℕ → ℕ → Bor (List ℕ) → Bor (List ℕ) → Bor (List ℕ) → Bor (List ℕ) → Bor (List ℕ) → List Slot → Store
-lent_store plan clock counts keys kinds values stamps slots =
-    of_parts plan clock counts.now keys.now kinds.now values.now stamps.now slots
-
--- The store that is lent to a call, as the call begins,
-abbrev pub store_at_entry : ℕ → ℕ → LentMutList → LentMutList → LentMutList → LentMutList → LentMutList → List Slot → Store
-store_at_entry plan clock counts keys kinds values stamps slots =
-    of_parts plan clock counts.entry.now keys.entry.now kinds.entry.now values.entry.now stamps.entry.now slots
-
--- and as it ends.
-abbrev pub store_at_exit : ℕ → ℕ → LentMutList → LentMutList → LentMutList → LentMutList → LentMutList → List Slot → Store
-store_at_exit plan clock counts keys kinds values stamps slots =
-    of_parts plan clock counts.exit.now keys.exit.now kinds.exit.now values.exit.now stamps.exit.now slots
-
--- The state that a look reads: of so many nodes, whose columns are lent.
-abbrev pub lent_state : ℕ → Bor (List ℕ) → Bor (List ℕ) → Bor (List ℕ) → Bor (List ℕ) → Bor (List ℕ) → State
-lent_state nodes counts keys kinds values stamps =
-    state_in nodes 0 counts.now keys.now kinds.now values.now stamps.now []
-
--- What a look finds among the places from..end of lent columns,
-abbrev pub lent_among : Bor (List ℕ) → Bor (List ℕ) → Bor (List ℕ) → Bor (List ℕ) → ℕ → ℕ → ℕ → Found
-lent_among keys kinds values stamps from end k =
-    found_of (find key_of (tabulate from (end - from) (copy_in keys.now kinds.now values.now stamps.now)) k)
-
--- and in a node.
-abbrev pub lent_found : Bor (List ℕ) → Bor (List ℕ) → Bor (List ℕ) → Bor (List ℕ) → Bor (List ℕ) → ℕ → ℕ → Found
-lent_found counts keys kinds values stamps n k =
-    found_of (find key_of (node_in counts.now keys.now kinds.now values.now stamps.now n) k)
-
--- Lent columns that are as long as a store's.
-abbrev pub LentSized : Bor (List ℕ) → Bor (List ℕ) → Bor (List ℕ) → Bor (List ℕ) → Bor (List ℕ) → Type 0
-LentSized counts keys kinds values stamps = Sized counts.now keys.now kinds.now values.now stamps.now
-
--- What a look down a path asks for: the rows of a plan, and nodes in which a look can go by halves. A good store has both.
-pub record Lookable (nodes : ℕ) (edges : List ℕ) (lows highs targets : Grid) (counts keys : List ℕ) : Type 0 where
-  pub plan : Plan
-  pub rows : RowsOf plan nodes edges lows highs targets
-  pub ordered : AllOrdered counts keys
-
--- The same over references.
-abbrev pub LentLookable : ℕ → Bor (List ℕ) → Bor Grid → Bor Grid → Bor Grid → Bor (List ℕ) → Bor (List ℕ) → Type 0
-LentLookable nodes edges lows highs targets counts keys =
-    Lookable nodes edges.now lows.now highs.now targets.now counts.now keys.now
 
 -- A list with x put in at a place; those from there up to end stand one place further up, over the one that stood at end.
 unfoldable pub opened : {A : Type 0} → List A → ℕ → ℕ → A → List A

@@ -9,11 +9,15 @@ ghost use Rattle.store.specs.State.{slot_count, idle};
 ghost use Rattle.store.specs.StoreRules.{plan_number_test};
 ghost use Rattle.store.specs.Promises.{Freshens};
 
-pub mod columns; // columns.rt: the workers on lent columns
+use refusal::Refusal;
 
-// "A copy has a key, a kind (0 withdrawn, 1 result), a value .. and a stamp."
+pub mod columns; // columns.rt: what is done with the columns
+pub mod refusal; // refusal.rt: why a call is refused
+
+// "A copy has a key, a kind (0 withdrawn, 1 result), a value .. and a stamp." The kind stays a number, as in the store's column of kinds: a field of
+// the C interface, in which a store that breaks a rule may have any.
 #[repr(C)]
-#[derive(Clone, Copy)]
+#[derive(Clone, Copy, Debug, PartialEq, Eq)]
 pub struct Copy {
     pub key: u32,
     pub kind: u32,
@@ -21,9 +25,10 @@ pub struct Copy {
     pub stamp: u32,
 }
 
-// A search slot: whether a search runs in it, its key, the node that it stands at, and the nodes visited. An idle slot is all zero.
+// A search slot: whether a search runs in it, its key, the node that it stands at, and the nodes visited. An idle slot is all zero. Its mark stays a
+// number: a field of the C interface, in which a store that breaks a rule may have any.
 #[repr(C)]
-#[derive(Clone, Copy)]
+#[derive(Clone, Copy, Debug, PartialEq, Eq)]
 pub struct Slot {
     pub running: u32,
     pub key: u32,
@@ -31,7 +36,8 @@ pub struct Slot {
     pub visits: u32,
 }
 
-// The places in four columns; node n has those from WIDTH n on, and uses the first, as many as its count says, by rising key.
+// The places in four columns; node n has those from WIDTH n on, and uses the first, as many as its count says, by rising key. Counts beside columns,
+// and four columns side by side, are the struct of the C interface.
 #[repr(C)]
 #[derive(Clone, Copy)]
 pub struct Store {
@@ -45,9 +51,9 @@ pub struct Store {
     pub slots: [Slot; Store::SLOTS],
 }
 
-// "Each answer has a number and four numbers a, b, c, d, zero unless named."
+// "Each answer has a number and four numbers a, b, c, d, zero unless named." A number, since C reads it; refusals have names (refusal.rt).
 #[repr(C)]
-#[derive(Clone, Copy)]
+#[derive(Clone, Copy, Debug, PartialEq, Eq)]
 pub struct Answer {
     pub number: u32,
     pub a: u64,
@@ -62,13 +68,6 @@ pub struct Answer {
 pub struct Outcome {
     pub answer: Answer,
     pub store: Store,
-}
-
-// "A look in one node gives a found copy or nothing."
-#[derive(Clone, Copy)]
-pub enum Found {
-    Held(Copy),
-    Nothing,
 }
 
 // A slot's running mark, and the idle slot.
@@ -106,54 +105,18 @@ impl Copy {
     }
 }
 
-// The answer numbers, in the table's order.
+// The answer numbers of a call that is done, and of a search that goes on; the others are of refusals (refusal.rt).
 impl Answer {
     pub const DONE: u32 = 0;
 
     pub const GOING: u32 = 1;
-
-    pub const BADSTORE: u32 = 2;
-
-    pub const PLAN: u32 = 3;
-
-    pub const CLOCK: u32 = 4;
-
-    pub const FULL: u32 = 5;
-
-    pub const NODE: u32 = 6;
-
-    pub const EDGE: u32 = 7;
-
-    pub const SLOTS: u32 = 8;
-
-    pub const SLOT: u32 = 9;
-
-    pub const IDLE: u32 = 10;
-
-    pub const SMALL: u32 = 11;
-
-    pub const SAMPLE: u32 = 12;
-
-    pub const CUT: u32 = 13;
-
-    pub const NUMBER: u32 = 14;
-
-    pub const FORMAT: u32 = 15;
-
-    pub const RULE: u32 = 16;
-
-    pub const TRAIL: u32 = 17;
-
-    pub const OP: u32 = 18;
-
-    pub const MANY: u32 = 19;
 
     // An answer of which nothing but the number is named.
     pub fn bare(number: u32) -> Answer
         ensures { result ≡ bare number }
     {
         Answer {
-            number: number,
+            number,
             a: 0,
             b: 0,
             c: 0,
@@ -165,13 +128,7 @@ impl Answer {
     pub fn of(number: u32, a: u64, b: u64, c: u64, d: u64) -> Answer
         ensures { result ≡ answer number a b c d }
     {
-        Answer {
-            number: number,
-            a: a,
-            b: b,
-            c: c,
-            d: d,
-        }
+        Answer { number, a, b, c, d }
     }
 }
 
@@ -191,29 +148,22 @@ impl Store {
     pub fn idle_slots() -> [Slot; Store::SLOTS]
         ensures { result ≡ replicate slot_count idle }
     {
-        let idle = Slot::idle();
-        [idle; Store::SLOTS]
+        [Slot::idle(); Store::SLOTS]
     }
 
     // "Fresh: clock 1, nothing held, all slots idle."
     fn empty(plan: u32) -> Store
         ensures { result ≡ fresh_store plan }
     {
-        let counts = [0; Store::NODES];
-        let keys = [0; Store::PLACES];
-        let kinds = [0; Store::PLACES];
-        let values = [0; Store::PLACES];
-        let stamps = [0; Store::PLACES];
-        let slots = Store::idle_slots();
         Store {
-            plan: plan,
+            plan,
             clock: 1,
-            counts: counts,
-            keys: keys,
-            kinds: kinds,
-            values: values,
-            stamps: stamps,
-            slots: slots,
+            counts: [0; Store::NODES],
+            keys: [0; Store::PLACES],
+            kinds: [0; Store::PLACES],
+            values: [0; Store::PLACES],
+            stamps: [0; Store::PLACES],
+            slots: Store::idle_slots(),
         }
     }
 
@@ -228,10 +178,7 @@ impl Store {
     pub fn is_plan(plan: u32) -> bool
         ensures { result ≡ plan_number_test plan }
     {
-        if plan < 1 {
-            return false;
-        }
-        plan as usize <= plan_table::PLANS
+        1 <= plan && plan as usize <= plan_table::PLANS
     }
 
     // A fresh store of the plan; "plan not 1 to 3": PLAN, and a fresh store of plan 1.
@@ -239,14 +186,15 @@ impl Store {
         ensures { Freshens plan result }
     {
         if Store::is_plan(plan) {
-            return Outcome {
+            Outcome {
                 answer: Answer::bare(Answer::DONE),
                 store: Store::empty(plan),
-            };
-        }
-        Outcome {
-            answer: Answer::bare(Answer::PLAN),
-            store: Store::refused(),
+            }
+        } else {
+            Outcome {
+                answer: Answer::from(Refusal::Plan),
+                store: Store::refused(),
+            }
         }
     }
 }

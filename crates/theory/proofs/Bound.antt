@@ -9,8 +9,8 @@ use native.Mathlib.Omega.{arith}
 use native.Mathlib.Nat.{add-zero, zero-add, suc-add, mul-zero, mul-one, mul-add, le_trans, mul-le-mul_left}
 use lib.Dec.{eqb}
 use lib.ListN.{length, get_or, drop}
-use Rattle.plan.specs.declared.Hop.{Hop}
-use Rattle.plan.specs.declared.Hop.TheVariants.{To}
+use Rattle.plan.specs.Plan.{Hop}
+use Rattle.std.specs.Prelude.{Some}
 use Rattle.plan.specs.Plan.{Plan, next, path, edges_on, IsPath, Reach}
 use Rattle.plan.specs.Plan.IsPath.{last, more}
 use Rattle.plan.specs.Plan.Reach.{here, there}
@@ -35,7 +35,7 @@ unfolding worth_on
 worth_same l l' h [] = refl
 worth_same l l' h (n ∷ ns) = rw (h n, worth_same l l' h ns)
 
-module _ (hop : ℕ → Hop) (down : (n t : ℕ) → hop n ≡ To t → n < t) where
+module _ (hop : ℕ → Hop) (down : (n t : ℕ) → hop n ≡ Some t → n < t) where
   reach_not_up : {n m : ℕ} → Reach hop n m → n ≤ m
   reach_not_up here = omega arith
   reach_not_up (there {n = n} {t = t} e r) = omega (arith, down n t e, reach_not_up r)
@@ -157,7 +157,7 @@ copies_later : (k : ℕ) (xss : List (List Copy)) (n d : ℕ) → copies_of k (f
 copies_later k xss n zero = rw zero-add (omega arith)
 copies_later k xss n (suc d) = rw suc-add (omega (arith, copies_from k xss (d + n), copies_later k xss n d))
 
-copies_on_path : (hop : ℕ → Hop) → ((n t : ℕ) → hop n ≡ To t → n < t) → (s : State) (k : ℕ) {n : ℕ} {ns : List ℕ} → IsPath hop n ns
+copies_on_path : (hop : ℕ → Hop) → ((n t : ℕ) → hop n ≡ Some t → n < t) → (s : State) (k : ℕ) {n : ℕ} {ns : List ℕ} → IsPath hop n ns
     → copies_on (line s k) ns ≤ copies_of k (flatten (drop n s.nodes))
 unfolding copies_on
 copies_on_path hop down s k (last {n = n} e) =
@@ -169,7 +169,7 @@ copies_on_path hop down s k (more {n = n} {t = t} e q) =
     omega (arith, found_counts (node_at s n) k, copies_from k s.nodes n, copies_on_path hop down s k q)
 
 module _ (p : Plan) (rules : PlanRules p) (k : ℕ) where
-  down : (n t : ℕ) → next p n k ≡ To t → n < t
+  down : (n t : ℕ) → next p n k ≡ Some t → n < t
   down n t e = (next_down p rules n k t e).0
 
   is_path : IsPath (λ n. next p n k) 0 (path p k)

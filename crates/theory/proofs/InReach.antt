@@ -6,8 +6,8 @@ use mathlib.Core.Option.{Option, none, some}
 use Prim.Native.Nat.{ℕ, ◌<◌, ◌≤◌}
 use native.Mathlib.Omega.{arith}
 use Rattle.lists.proofs.Options.{option?, not_none_and_some}
-use Rattle.plan.specs.declared.Hop.{Hop}
-use Rattle.plan.specs.declared.Hop.TheVariants.{To, Ends}
+use Rattle.plan.specs.Plan.{Hop}
+use Rattle.std.specs.Prelude.{Some, None}
 use Rattle.plan.specs.Plan.{Plan, size, next, path_from, IsPath, Reach}
 use Rattle.plan.specs.Plan.IsPath.{last, more}
 use Rattle.plan.specs.Plan.Reach.{here, there}
@@ -40,10 +40,10 @@ first_led_to hop l y (more {n = n} {t = t} {ns = ns} h r) e = go (option? (l n))
 
 module _ (p : Plan) (rules : PlanRules p) where
   -- An edgeset gives the key's next step, and the next step an edgeset;
-  pub edgeset_next : (n m k : ℕ) → Edgeset p n m k → next p n k ≡ To m
-  edgeset_next n m k d = edge_next p rules n d.edge k d.is_edge d.key ∙ ap To d.target
+  pub edgeset_next : (n m k : ℕ) → Edgeset p n m k → next p n k ≡ Some m
+  edgeset_next n m k d = edge_next p rules n d.edge k d.is_edge d.key ∙ ap Some d.target
 
-  pub next_edgeset : (n m k : ℕ) → next p n k ≡ To m → Edgeset p n m k
+  pub next_edgeset : (n m k : ℕ) → next p n k ≡ Some m → Edgeset p n m k
   next_edgeset n m k e =
       let w = next_edge p n k m e in
       record { edge = w.0; is_edge = w.1.is_edge; target = w.1.goes; key = w.1.held }
@@ -62,23 +62,23 @@ module _ (p : Plan) (rules : PlanRules p) where
           nowhere = λ e f. passed e ∙ ends f (hop? (next p n k));
         }
       where
-        passed : line s k n ≡ none → in_reach p s k (To n) ≡ in_reach p s k (next p n k)
+        passed : line s k n ≡ none → in_reach p s k (Some n) ≡ in_reach p s k (next p n k)
         passed e = reach_goes p rules s k n h ∙ ap (λ (o : Option Copy). or_else o (in_reach p s k (next p n k))) e
 
-        ends : ((m : ℕ) → Edgeset p n m k → ⊥) → (next p n k ≡ Ends) ⊎ ((t : ℕ) × (next p n k ≡ To t))
+        ends : ((m : ℕ) → Edgeset p n m k → ⊥) → (next p n k ≡ None) ⊎ ((t : ℕ) × (next p n k ≡ Some t))
             → in_reach p s k (next p n k) ≡ none
         ends f (inl e) = ap (in_reach p s k) e ∙ reach_ends p rules s k
         ends f (inr w) = absurd (f w.0 (next_edgeset n w.0 k w.1))
 
     -- What is in reach of a node is held in a node that it leads to,
-    pub in_reach-held : (n : ℕ) (y : Copy) → n < size p → in_reach p s k (To n) ≡ some y
+    pub in_reach-held : (n : ℕ) (y : Copy) → n < size p → in_reach p s k (Some n) ≡ some y
         → (m : ℕ) × Reach (λ j. next p j k) n m × (line s k m ≡ some y)
     unfolding in_reach path_from
     in_reach-held n y h e = first_led_to (λ j. next p j k) (line s k) y (path_is p rules k n h) e
 
     -- and is the newest held there.
     pub in_reach_newest : StateRules p s → {n m : ℕ} → Reach (λ j. next p j k) n m → n < size p → (y : Copy) → line s k m ≡ some y
-        → y.stamp ≤ stamp_of (in_reach p s k (To n))
+        → y.stamp ≤ stamp_of (in_reach p s k (Some n))
     in_reach_newest good (here {n = n}) h y e =
         omega (arith, ap stamp_of ((in_reach_equation n h).here y e))
     in_reach_newest good (there {n = n} {t = t} {m = m} f r) h y e =
@@ -90,8 +90,8 @@ module _ (p : Plan) (rules : PlanRules p) where
         lower : n < m
         lower = omega (arith, down.0, reach_le (λ j. next p j k) (size p) (λ a b. next_down p rules a k b) r)
 
-        go : y.stamp ≤ stamp_of (in_reach p s k (To t)) → (line s k n ≡ none) ⊎ ((x : Copy) × (line s k n ≡ some x))
-            → y.stamp ≤ stamp_of (in_reach p s k (To n))
+        go : y.stamp ≤ stamp_of (in_reach p s k (Some t)) → (line s k n ≡ none) ⊎ ((x : Copy) × (line s k n ≡ some x))
+            → y.stamp ≤ stamp_of (in_reach p s k (Some n))
         go again (inl q) = omega (arith, ap stamp_of ((in_reach_equation n h).below q t (next_edgeset n t k f)))
         go again (inr w) =
             omega (

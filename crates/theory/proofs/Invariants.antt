@@ -21,7 +21,7 @@ use Rattle.lists.proofs.Options.{option?, not_none_and_some, one_some}
 use Rattle.lists.proofs.Orders.{Order, order?}
 use Rattle.lists.proofs.Orders.Order.{less, equal, more}
 use Rattle.lists.proofs.Members.{member_place, place_member, member_flatten, flatten_member}
-use Rattle.plan.specs.declared.Hop.TheVariants.{To}
+use Rattle.std.specs.Prelude.{Some}
 use Rattle.plan.specs.Plan.{Plan, size, next, Reach}
 use Rattle.plan.specs.Plan.Reach.{here, there}
 use Rattle.plan.specs.PlanRules.{PlanRules}
@@ -289,7 +289,7 @@ module _ (p : Plan) (rules : PlanRules p) where
                   let is : x ≡ y = one_some g.had (subst (λ (j : ℕ). line s k j ≡ some y) q f) in
                   record {
                     at = t;
-                    led = there (subst (λ (j : ℕ). next p j k ≡ To t) (sym q) g.via) here;
+                    led = there (subst (λ (j : ℕ). next p j k ≡ Some t) (sym q) g.via) here;
                     newer = y;
                     stands = g.got ∙ ap some is;
                     no_older = omega arith;
@@ -310,10 +310,10 @@ module _ (p : Plan) (rules : PlanRules p) where
 
       -- Invariant 2: "The contents-in-reach of every node only increases."
       pub reach_increases : (n k : ℕ) → n < size p → stamp_of (ContentsInReach p s n k) ≤ stamp_of (ContentsInReach p s' n k)
-      reach_increases n k h = go (option? (in_reach p s k (To n)))
+      reach_increases n k h = go (option? (in_reach p s k (Some n)))
         where
-          go : (in_reach p s k (To n) ≡ none) ⊎ ((y : Copy) × (in_reach p s k (To n) ≡ some y))
-              → stamp_of (in_reach p s k (To n)) ≤ stamp_of (in_reach p s' k (To n))
+          go : (in_reach p s k (Some n) ≡ none) ⊎ ((y : Copy) × (in_reach p s k (Some n) ≡ some y))
+              → stamp_of (in_reach p s k (Some n)) ≤ stamp_of (in_reach p s' k (Some n))
           go (inl q) = omega (arith, ap stamp_of q)
           go (inr w) =
               let v = in_reach-held p rules s k n w.0 h w.1 in

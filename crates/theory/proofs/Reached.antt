@@ -13,7 +13,7 @@ use lib.ListN.{length, get_or}
 use borrow.Author.Tests.{lt-ltb, eq-eqb}
 use Rattle.lists.proofs.Truths.{bool?, and_both}
 use Rattle.plan.specs.declared.Edge.{Edge}
-use Rattle.plan.specs.declared.Hop.TheVariants.{To}
+use Rattle.std.specs.Prelude.{Some}
 use Rattle.plan.specs.Plan.{Plan, no_edge, size, capacity_of, edges_of, edge_of, holds, first_edge, next, path, edges_on, IsPath}
 use Rattle.plan.specs.Plan.IsPath.{last, more}
 use Rattle.plan.specs.PlanRules.{IsEdge, PlanRules}
@@ -79,14 +79,14 @@ record EdgeFor (es : List Edge) (k t : ℕ) : Type 0 where
   held : holds (get_or es (edge_for es k) no_edge) k ≡ true
   goes : (get_or es (edge_for es k) no_edge).target ≡ t
 
-edge_for_lem : (es : List Edge) (k t : ℕ) → first_edge es k ≡ To t → EdgeFor es k t
+edge_for_lem : (es : List Edge) (k t : ℕ) → first_edge es k ≡ Some t → EdgeFor es k t
 unfolding first_edge edge_for
 edge_for_lem [] k t e = absurd (not_both_hops refl e)
 edge_for_lem (d ∷ es) k t e = go (bool? (holds d k)) (edge_for_lem es k t)
   where
-    go : (holds d k ≡ true) ⊎ (holds d k ≡ false) → (first_edge es k ≡ To t → EdgeFor es k t) → EdgeFor (d ∷ es) k t
+    go : (holds d k ≡ true) ⊎ (holds d k ≡ false) → (first_edge es k ≡ Some t → EdgeFor es k t) → EdgeFor (d ∷ es) k t
     go (inl h) again =
-        let q : To d.target ≡ To t = rw h at e in
+        let q : Some d.target ≡ Some t = rw h at e in
         record { within = rw h (omega arith); held = rw h h; goes = rw h (one_target refl q) }
     go (inr h) again =
         let w = again (rw h at e) in
@@ -162,7 +162,7 @@ module _ (p : Plan) (rules : PlanRules p) (k : ℕ) where
   abbrev onward : ℕ → Event
   onward n = carries n (edge_for (edges_of p n) k)
 
-  carries_alone : (s : State) → Ready s → (n t : ℕ) → next p n k ≡ To t → (x : Copy) → x.key ≡ k → node_at s n ≡ x ∷ []
+  carries_alone : (s : State) → Ready s → (n t : ℕ) → next p n k ≡ Some t → (x : Copy) → x.key ≡ k → node_at s n ≡ x ∷ []
       → Leads t x s (onward n) 1 0 0
   unfolding effect entry_of carries_line next
   carries_alone s r n t e x q at =

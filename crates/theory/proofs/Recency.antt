@@ -18,7 +18,7 @@ use native.Mathlib.Omega.{arith}
 use native.Mathlib.Nat.{add-zero}
 use lib.ListN.{length}
 use borrow.Author.Tests.{eq-eqb}
-use Rattle.plan.specs.declared.Hop.TheVariants.{To}
+use Rattle.std.specs.Prelude.{Some}
 use Rattle.plan.specs.Plan.{Plan, path}
 use Rattle.plan.specs.PlanRules.{PlanRules}
 use Rattle.store.specs.declared.Answer.{Answer}
@@ -107,7 +107,7 @@ module _ (p : Plan) (rules : PlanRules p) (s : State) (good : StateRules p s) (b
       go : Finishes p k (stamp_of (current p s₁ k)) i (own_steps i between) s₃
           ⊎ (Searches p k (stamp_of (current p s₁ k)) i (suc (own_steps i between)) (after p (steps i) s₃) × ((answer_of p (steps i) s₃).number ≡ GOING))
           → (answer_of p (steps i) s₃).number ≡ DONE
-      go (inl f) = ap (λ (a : Answer). a.number) f.says ∙ ended-done (in_reach p s₃ k (To f.node)) (suc (own_steps i between))
+      go (inl f) = ap (λ (a : Answer). a.number) f.says ∙ ended-done (in_reach p s₃ k (Some f.node)) (suc (own_steps i between))
       go (inr w) =
           absurd
           (omega (
@@ -197,7 +197,7 @@ module _ (p : Plan) (rules : PlanRules p) (s : State) (good : StateRules p s) (b
           ⊎ (Searches p k (stamp_of (current p s₁ k)) i (suc (own_steps i between)) (after p (steps i) s₃) × ((answer_of p (steps i) s₃).number ≡ GOING))
           → SearchRecency p s before between k i
       go (inl f) =
-          finds_recent (in_reach p s₃ k (To f.node)) f.says f.recent
+          finds_recent (in_reach p s₃ k (Some f.node)) f.says f.recent
           (λ x e. let w = in_reach-held p rules s₃ k f.node x f.inside e in (w.0, w.2))
       go (inr w) = absurd (omega (arith, w.1))
 

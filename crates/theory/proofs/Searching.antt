@@ -14,8 +14,8 @@ use lib.Dec.{eqb}
 use lib.ListN.{length, get_or, get_or-eq_default}
 use borrow.Author.Tests.{eqb-true, eqb-false, eq-eqb}
 use Rattle.lists.proofs.Truths.{bool?, not_both, and_left, and_right, and_both}
-use Rattle.plan.specs.declared.Hop.{Hop}
-use Rattle.plan.specs.declared.Hop.TheVariants.{To, Ends}
+use Rattle.plan.specs.Plan.{Hop}
+use Rattle.std.specs.Prelude.{Some, None}
 use Rattle.plan.specs.Plan.{Plan, size, next, path}
 use Rattle.plan.specs.PlanRules.{PlanRules}
 use Rattle.plan.proofs.NextLaws.{next_down, root_in_plan}
@@ -132,14 +132,14 @@ module _ (p : Plan) (s : State) (i : ℕ) where
 pub record Searches (p : Plan) (k t₀ i v : ℕ) (s : State) : Type 0 where
   pub node : ℕ
   pub at : slot_at s i ≡ running k node v
-  pub recent : t₀ ≤ stamp_of (in_reach p s k (To node))
+  pub recent : t₀ ≤ stamp_of (in_reach p s k (Some node))
 
 -- Its next step ends it: the answer is of what is in reach of the node where it stands.
 pub record Finishes (p : Plan) (k t₀ i v : ℕ) (s : State) : Type 0 where
   pub node : ℕ
   pub inside : node < size p
-  pub says : answer_of p (steps i) s ≡ ended (in_reach p s k (To node)) (suc v)
-  pub recent : t₀ ≤ stamp_of (in_reach p s k (To node))
+  pub says : answer_of p (steps i) s ≡ ended (in_reach p s k (Some node)) (suc v)
+  pub recent : t₀ ≤ stamp_of (in_reach p s k (Some node))
 
 pub ended-done : (o : Option Copy) (v : ℕ) → (ended o v).number ≡ DONE
 ended-done none v = refl
@@ -175,13 +175,13 @@ module _ (p : Plan) (rules : PlanRules p) (k t₀ i : ℕ) where
         there : i < length s.slots
         there = slot_there s i (runs v r)
 
-        reach : in_reach p s k (To n) ≡ or_else (line s k n) (in_reach p s k (next p n k))
+        reach : in_reach p s k (Some n) ≡ or_else (line s k n) (in_reach p s k (next p n k))
         reach = reach_goes p rules s k n inside
 
-        past : line s k n ≡ none → in_reach p s k (To n) ≡ in_reach p s k (next p n k)
+        past : line s k n ≡ none → in_reach p s k (Some n) ≡ in_reach p s k (next p n k)
         past a = reach ∙ ap (λ (o : Option Copy). or_else o (in_reach p s k (next p n k))) a
 
-        finishes : (o : Option Copy) → in_reach p s k (To n) ≡ o → (step_step i p s).answer ≡ ended o (suc v) → Finishes p k t₀ i v s
+        finishes : (o : Option Copy) → in_reach p s k (Some n) ≡ o → (step_step i p s).answer ≡ ended o (suc v) → Finishes p k t₀ i v s
         finishes o f says = record { node = n; inside = inside; says = rw f says; recent = r.recent }
 
         go : (o : Option Copy) (h : Hop) → line s k n ≡ o → next p n k ≡ h
@@ -190,11 +190,11 @@ module _ (p : Plan) (rules : PlanRules p) (k t₀ i : ℕ) where
             inl
             (finishes (some x) (reach ∙ ap (λ (o : Option Copy). or_else o (in_reach p s k (next p n k))) a)
             (ap (λ (o : Effect). o.answer) (step_finds p s i k n v there r.at x a)))
-        go none Ends a b =
+        go none None a b =
             inl
             (finishes none (past a ∙ ap (in_reach p s k) b ∙ reach_ends p rules s k)
             (ap (λ (o : Effect). o.answer) (step_never p s i k n v there r.at a b)))
-        go none (To t) a b =
+        go none (Some t) a b =
             let went = step_goes p s i k n v there r.at a t b in
             inr (
               record {
@@ -232,7 +232,7 @@ module _ (p : Plan) (rules : PlanRules p) (k t₀ i : ℕ) where
             → Finishes p k t₀ i v s ⊎ (Searches p k t₀ i (suc v) (after p (steps i) s) × ((answer_of p (steps i) s).number ≡ GOING))
             → Searches p k t₀ i (suc v) (after p (steps i) s)
         own g (inl f) =
-            let says = ap (λ (a : Answer). a.number) f.says ∙ ended-done (in_reach p s k (To f.node)) (suc v) in
+            let says = ap (λ (a : Answer). a.number) f.says ∙ ended-done (in_reach p s k (Some f.node)) (suc v) in
             absurd (omega (arith, eqb-true (answer_of p (steps i) s).number GOING (sym (own_still_runs p s i) ∙ g)))
         own g (inr w) = w.0
 
@@ -299,7 +299,7 @@ module _ (p : Plan) (rules : PlanRules p) (k t₀ i : ℕ) where
                 rest = es;
                 parts = ap (λ (d : Event). d ∷ es) is;
                 until = refl;
-                done = ap (λ (x : Answer). x.number) f.says ∙ ended-done (in_reach p s k (To f.node)) (suc v);
+                done = ap (λ (x : Answer). x.number) f.says ∙ ended-done (in_reach p s k (Some f.node)) (suc v);
               }
           own (inr w) =
               later e es s

@@ -3,7 +3,7 @@
 use Rattle.std.specs.Prelude.{◌≡◌, true, cond, ◌⊎◌, ℕ, suc, ◌<◌, ◌≤◌, eqb, length}
 use mathlib.Core.List.{List, ◌∷◌, ◌++◌, Memᴰ}
 use Rattle.std.proofs.Math.Option.{Option, none, some}
-use Rattle.plan.specs.declared.Hop.TheVariants.{To}
+use Rattle.std.specs.Prelude.{Some}
 use Rattle.plan.specs.Plan.{Plan, edge_of, holds, path}
 use Rattle.plan.specs.PlanRules.{IsEdge}
 use Rattle.store.specs.declared.Copy.{Copy}
@@ -26,7 +26,7 @@ pub record Edgeset (p : Plan) (n m k : ℕ) : Type 0 where
 
 -- Contents-in-reach: C_ir(n)(k).
 abbrev pub ContentsInReach : Plan → State → ℕ → ℕ → Option Copy
-ContentsInReach p s n k = in_reach p s k (To n)
+ContentsInReach p s n k = in_reach p s k (Some n)
 
 -- (5): "C_n(k) if k ∈ dom(C_n); C_ir(n')(k) else if ∃n'. k ∈ es(n, n'); ⊥ otherwise".
 pub record InReachEquation (p : Plan) (s : State) (n k : ℕ) : Type 0 where

@@ -7,7 +7,6 @@ use Rattle.store.specs.Answers.{DONE, answer}
 use Rattle.store.specs.State.{slot_count, idle}
 use Rattle.copies.specs.CopyBytes.{last_value}
 use Rattle.image_loading.specs.Loading.{copies_held}
-use Rattle.image_loading.specs.Workers.{idle_store}
 
 -- A store of the declared type: its keys and values have 32 bits. (Its other numbers have them by the store rules.)
 pub record Declared (z : Store) : Type 0 where
@@ -16,7 +15,7 @@ pub record Declared (z : Store) : Type 0 where
 
 -- A store as it is, but with all slots idle.
 unfoldable pub idled : Store → Store
-idled z = idle_store z.plan z.clock z.counts z.keys z.kinds z.values z.stamps
+idled z = record z { slots = replicate slot_count idle }
 
 -- "loading a saved store gives it with all slots idle": DONE with the copies held, and the store.
 abbrev pub loaded_as_itself : Store → Outcome

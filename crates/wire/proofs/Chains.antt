@@ -1,18 +1,14 @@
 -- Readings one after another: where a chain succeeds or stops, and what a number that is read says of the bytes.
-use mathlib.Core.Path.{◌≡◌, refl, sym, ap, ◌∙◌, subst}
+use mathlib.Core.Path.{◌≡◌, refl, ap, subst}
 use mathlib.Core.Bool.{Bool, true, false, cond}
 use mathlib.Core.List.{List}
 use Prim.Native.Nat.{ℕ, ◌≤◌}
 use native.Mathlib.Omega.{arith}
 use Rattle.lists.specs.Stands.{Stands}
-use Rattle.lists.proofs.Truths.{not_both}
-use Rattle.number.specs.declared.Reading.{Reading}
-use Rattle.number.specs.declared.Reading.TheVariants.{Value, Cut, Malformed}
-use Rattle.number.specs.Number.{Bytes, NumberSize, narrow, form, read_at}
+use Rattle.number.specs.Number.{Reading, Value, Cut, Malformed, Bytes, NumberSize, narrow, form, read_at}
 use Rattle.number.proofs.Readings.{read_back, read_stands, read_small}
 use Rattle.store.specs.Answers.{CUT, NUMBER}
-use Rattle.wire.specs.declared.Num.{Num}
-use Rattle.wire.specs.Reading.{Got, got, fault, bind, numbered, number_at, num_of}
+use Rattle.wire.specs.Reading.{Got, got, fault, bind, numbered, number_at}
 
 -- ---- chains
 
@@ -151,19 +147,3 @@ number_gives s bytes at =
     record {
       each = λ v next e. record { stands = read_stands s at bytes (value_of narrow s at e); small = read_small s at bytes (value_of narrow s at e) };
     }
-
--- What a reading hands back is told as the declared record.
-pub told : (n : NumberSize) (s : List ℕ) (at : ℕ) {r q : Reading} → q ≡ read_at n s at → q ≡ r → num_of (numbered at r) ≡ num_of (number_at n s at)
-unfolding number_at
-told n s at e q = ap (λ (x : Reading). num_of (numbered at x)) (sym q ∙ e)
-
--- What the declared record says of what was read.
-pub num_got : (g : Got ℕ) {r : Num} → r ≡ num_of g → r.ok ≡ true → g ≡ got r.value r.at
-unfolding num_of
-num_got (got v next) e h = rw e
-num_got (fault number at) e h = absurd (not_both h (ap (λ (x : Num). x.ok) e))
-
-pub num_fault : (g : Got ℕ) {r : Num} → r ≡ num_of g → r.ok ≡ false → g ≡ fault r.fault r.at
-unfolding num_of
-num_fault (got v next) e h = absurd (not_both (ap (λ (x : Num). x.ok) e) h)
-num_fault (fault number at) e h = rw e

@@ -38,9 +38,6 @@ module _ {A : Type 0} (bytes : A → List ℕ) (all : List A → List ℕ) (none
     pub kept : length buffer ≡ length before
     pub joins : (next : ℕ) (after : List ℕ) → Wrote buffer at (parts_from i) next after → Wrote before start whole next after
 
-  pub write_begins : (before : List ℕ) (i at : ℕ) → at + length (parts_from i) ≤ length before → Writes before at (parts_from i) i at before
-  write_begins before i at h = record { fits = h; kept = refl; joins = λ next after w. w }
-
   module _ {before : List ℕ} {start : ℕ} {whole : List ℕ} {i at : ℕ} {buffer : List ℕ} (w : Writes before start whole i at buffer) where
     -- There is room for the next part.
     pub write_room : i < end → at + length (bytes (f i)) ≤ length buffer

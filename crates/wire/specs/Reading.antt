@@ -1,10 +1,10 @@
 -- Reading numbers from the left, one after another: the first fault wins. Document 01, "Bytes".
-use Rattle.std.specs.Prelude.{Bool, true, false, cond, List, ℕ}
-use Rattle.number.specs.declared.Reading.{Reading}
-use Rattle.number.specs.declared.Reading.TheVariants.{Value, Cut, Malformed}
-use Rattle.number.specs.Number.{NumberSize, read_at}
+use Rattle.std.specs.Prelude.{Bool, cond, List, ℕ, Result, Ok, Err}
+use Rattle.number.specs.Number.{Reading, Value, Cut, Malformed, NumberSize, read_at}
 use Rattle.store.specs.Answers.{CUT, NUMBER}
-use Rattle.wire.specs.declared.Num.{Num}
+use Rattle.number.specs.declared.Read.{Read}
+use Rattle.store.specs.Refusals.{refusal_number}
+use Rattle.wire.specs.declared.Fault.{Fault}
 
 -- What was read and the offset after it, or a fault: an answer number and an offset.
 pub data Got (A : Type 0) : Type 0 where
@@ -30,7 +30,7 @@ number_at n s at = numbered at (read_at n s at)
 abbrev pub checked : {A : Type 0} → Bool → ℕ → ℕ → Got A → Got A
 checked test number at rest = cond test rest (fault number at)
 
--- What was read, as the declared record: the number and the offset after it, or the fault and its offset.
-unfoldable pub num_of : Got ℕ → Num
-num_of (got v next) = record { ok = true; fault = 0; at = next; value = v }
-num_of (fault number at) = record { ok = false; fault = number; at = at; value = 0 }
+-- What a program's result tells: each reading that a program gives is told by one result.
+abbrev pub got_of : {A : Type 0} → Result (Read A) Fault → Got A
+got_of (Ok r) = got r.value r.next
+got_of (Err f) = fault (refusal_number f.why) f.at

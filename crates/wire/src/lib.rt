@@ -3,43 +3,44 @@
 
 ghost use Rattle.std.specs.Prelude.{◌≡◌};
 ghost use Rattle.number.specs.Number.{narrow};
-ghost use Rattle.wire.specs.Reading.{number_at, num_of};
+ghost use Rattle.store.specs.Answers.{answer};
+ghost use Rattle.store.specs.Refusals.{refusal_number};
+ghost use Rattle.wire.specs.Reading.{number_at, got_of};
 
-use number::Reading;
+use number::{NumberError, Read};
 use store::Answer;
+use store::refusal::Refusal;
 
-// A number and the offset after it, or a fault: an answer number and its offset.
-#[derive(Clone, Copy)]
-pub struct Num {
-    pub ok: bool,
-    pub fault: u32,
+// A fault in bytes: why, and the offset.
+#[derive(Clone, Copy, Debug, PartialEq, Eq)]
+pub struct Fault {
+    pub why: Refusal,
     pub at: usize,
-    pub value: u32,
+}
+
+// "the first fault wins": its answer has the offset.
+impl From<Fault> for Answer {
+    ghost from_gives = { λ fault reply. reply ≡ answer (refusal_number fault.why) fault.at 0 0 0 };
+
+    fn from(fault: Fault) -> Answer {
+        fault.why.with(fault.at as u64)
+    }
 }
 
 // The 32-bit number at an offset, or CUT or NUMBER with that offset.
-pub fn read_number(bytes: &[u8], at: usize) -> Num
-    ensures { result ≡ num_of (number_at narrow bytes.now at) }
+#[tactic(auto, unfolding(crate::specs::Reading::number_at, crate::specs::Reading::numbered))]
+pub fn read_number(bytes: &[u8], at: usize) -> Result<Read<u32>, Fault>
+    ensures { got_of result ≡ number_at narrow bytes.now at }
 {
-    let reading = number::read_at(bytes, at);
-    match reading {
-        Reading::Value(value, next) => Num {
-            ok: true,
-            fault: 0,
-            at: next,
-            value,
-        },
-        Reading::Cut => Num {
-            ok: false,
-            fault: Answer::CUT,
+    match number::read_at(bytes, at) {
+        Ok(read) => Ok(read),
+        Err(NumberError::Cut) => Err(Fault {
+            why: Refusal::Cut,
             at,
-            value: 0,
-        },
-        Reading::Malformed => Num {
-            ok: false,
-            fault: Answer::NUMBER,
+        }),
+        Err(NumberError::Malformed) => Err(Fault {
+            why: Refusal::Number,
             at,
-            value: 0,
-        },
+        }),
     }
 }

@@ -1,26 +1,19 @@
 -- `image_reading::read_copies` meets its contract.
-use borrow.Author.Tests.{not-true, not-false}
-use Rattle.copies.proofs.CopyReading.{copy_got, copy_fault}
-use Rattle.image_reading.proofs.ReadWays.{lays_end, lays_fault, lays_turn}
+use mathlib.Core.Path.{sym, ◌∙◌}
 use borrow.Author.Rules.{rules}
+use Rattle.std.proofs.lemmas.Result.{err_from_is_err_and}
+use Rattle.image_reading.proofs.ReadWays.{into_end, into_stops, into_turn}
 use Rattle.image_reading.proofs.read_copies.Goals as goal
 
-pub loop-i-init : goal.loop-i-init
-loop-i-init c = (search rules, search rules, λ r after f. f)
-
-pub returns-then-not-read : goal.returns-then-not-read
-returns-then-not-read c =
-    c.loop-i.invariant.2 _ _
-    (lays_fault c.args.bytes.now c.args.end c.loop-i.keys c.loop-i.kinds c.loop-i.values c.loop-i.stamps c.loop-i.i c.loop-i.next _ c.loop-i-test.true (copy_fault _ c.read_copy-read.ensures (not-true _ c.if-not-read.true)))
+pub returns-in_err-copy-clause-laid : goal.returns-in_err-copy-clause-laid
+returns-in_err-copy-clause-laid c =
+    let p = err_from_is_err_and c.from_residual.result c.from_residual.ensures.1 in
+    rw (p.1, p.2)
+    (sym (into_stops c.args.bytes.now c.args.end c.loop-i.store c.loop-i.i c.loop-i.next c.loop-i-test.true (sym c.in_err-copy.ensures)) ∙ c.loop-i.invariant.0)
 
 pub loop-i-preserved : goal.loop-i-preserved
-loop-i-preserved c = (
-  search rules,
-  search rules,
-  λ r after f. c.loop-i.invariant.2 r after
-      (lays_turn c.args.bytes.now c.args.end c.loop-i.keys c.loop-i.kinds c.loop-i.values c.loop-i.stamps c.loop-i.i c.loop-i.next _ r after c.loop-i-test.true (copy_got _ c.read_copy-read.ensures (not-false _ c.if-not-read.false)) f),
-)
+loop-i-preserved c =
+    (sym (into_turn c.args.bytes.now c.args.end c.loop-i.store c.loop-i.i c.loop-i.next c.loop-i-test.true (sym c.in_ok-copy.ensures)) ∙ c.loop-i.invariant.0, search rules, search rules, search rules)
 
-pub returns : goal.returns
-returns c =
-    c.loop-i.invariant.2 _ _ (lays_end c.args.bytes.now c.args.end c.loop-i.keys c.loop-i.kinds c.loop-i.values c.loop-i.stamps c.loop-i.i c.loop-i.next c.loop-i-test.false)
+pub returns-clause-laid : goal.returns-clause-laid
+returns-clause-laid c = sym (into_end c.args.bytes.now c.args.end c.loop-i.store c.loop-i.i c.loop-i.next c.loop-i-test.false) ∙ c.loop-i.invariant.0

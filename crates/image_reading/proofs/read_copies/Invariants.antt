@@ -1,15 +1,11 @@
 -- `image_reading::read_copies` meets its contract.
-use Prim.Native.Nat.{◌-◌, ◌≤◌}
-use Rattle.wire.specs.declared.Num.{Num}
-use Rattle.image_reading.specs.ImageReading.{read_copies}
-use Rattle.image_reading.specs.Workers.{Columns, columns, no_number, Lays}
+use mathlib.Core.Path.{◌≡◌}
+use Prim.Native.Nat.{◌-◌}
+use Rattle.image_reading.proofs.ReadWays.{copies_into}
 use Rattle.image_reading.proofs.read_copies.Given as goal
 
+-- What is still to read into the store decides; and the store's plan, clock and slots are as they were.
 abbrev pub invariant-loop-i : goal.invariant-loop-i
 invariant-loop-i l =
-    (l.from ≤ l.i) × (l.i ≤ l.end)
-    × ((r : Num) (after : Columns) → Lays (read_copies l.bytes (l.end - l.i) l.next) no_number (columns l.keys l.kinds l.values l.stamps) l.i r after
-    → Lays (read_copies l.bytes (l.end - l.from) l.at) no_number (columns l.initial.keys l.initial.kinds l.initial.values l.initial.stamps) l.from r after)
-
-abbrev pub decreases-loop-i : goal.decreases-loop-i
-decreases-loop-i l = l.end - l.i
+    (copies_into l.bytes (l.end - l.i) l.next l.store l.i ≡ copies_into l.bytes (l.end - l.from) l.at l.fn.store l.from)
+    × (l.store.plan ≡ l.fn.store.plan) × (l.store.clock ≡ l.fn.store.clock) × (l.store.slots ≡ l.fn.store.slots)

@@ -1,17 +1,13 @@
 -- `lines::print_into` meets its contract.
 use native.Mathlib.Omega.{arith}
-use Rattle.lines.proofs.LineLaws.{line-printed}
+use Rattle.lines.proofs.LineLaws.{printing_starts, printing_turns, printing_ends}
 use Rattle.lines.proofs.print_into.Goals as goal
 
+pub loop-number-init : goal.loop-number-init
+loop-number-init c = printing_starts c.args.first c.write_number-end.ensures
+
+pub loop-number-preserved : goal.loop-number-preserved
+loop-number-preserved c = printing_turns _ (omega arith) c.loop-number.invariant c.write_number-end-in-loop-number.ensures
+
 pub returns : goal.returns
-returns c =
-    let a = c.args in
-    let p₁ = c.write_word-a.ensures in
-    let p₂ = c.write_word-b.ensures in
-    let p₃ = c.write_word-c.ensures in
-    let p₄ = c.write_word-d.ensures in
-    let p₅ = c.write_word-e.ensures in
-    let p₆ = c.write_word.ensures in (
-      line-printed a.first a.answer p₁.0 p₂.0 p₃.0 p₄.0 p₅.0 p₆.0,
-      omega (arith, p₁.1, p₂.1, p₃.1, p₄.1, p₅.1, p₆.1),
-    )
+returns c = printing_ends c.args.answer (omega arith) c.loop-number.invariant

@@ -1,13 +1,12 @@
 -- `merges::decide` meets its contract.
 use mathlib.Core.Path.{◌≡◌}
-use Prim.Native.Nat.{◌+◌, ◌-◌}
+use Prim.Native.Nat.{◌+◌}
 use Rattle.merges.specs.Decisions.{places_merged, outcome, Going}
 use Rattle.merges.proofs.decide.Given as goal
 
-abbrev pub invariant-loop-m : goal.invariant-loop-m
-invariant-loop-m l =
-    Going l.keys l.capacity l.to l.end l.stay l.target l.m
-    × (outcome l.keys l.capacity l.edge l.to l.end l.stay l.target l.m ≡ places_merged l.keys l.capacity l.edge l.from l.had l.start l.held)
+abbrev pub invariant-loop-walk : goal.invariant-loop-walk
+invariant-loop-walk l =
+    Going l.keys l.capacity l.lists l.walk × (outcome l.keys l.capacity l.edge l.lists l.walk ≡ places_merged l.keys l.capacity l.edge l.fn.node l.fn.target)
 
-abbrev pub decreases-loop-m : goal.decreases-loop-m
-decreases-loop-m l = (l.to - l.m.place) + (l.end - l.m.next)
+abbrev pub decreases-loop-walk : goal.decreases-loop-walk
+decreases-loop-walk l = l.walk.node.count + l.walk.own.count

@@ -1,24 +1,14 @@
 -- `merges::rest` meets its contract.
-use mathlib.Core.Path.{refl, ap, ◌∙◌}
+use mathlib.Core.Path.{◌∙◌}
 use native.Mathlib.Omega.{arith}
-use borrow.Author.Rules.{rules}
-use Rattle.merges.specs.declared.Merge.{Merge}
-use Rattle.merges.proofs.Deciding.{rest_turn, rest_end}
+use Rattle.merges.proofs.Deciding.{one_more, begins}
 use Rattle.merges.proofs.rest.Goals as goal
 
-pub loop-m-init : goal.loop-m-init
-loop-m-init c = (search rules, search rules, search rules, refl, refl)
+pub loop-place-init : goal.loop-place-init
+loop-place-init c = let a = c.args in (omega arith, begins a.own.from a.target.now.items)
 
-pub loop-m-smaller : goal.loop-m-smaller
-loop-m-smaller c = omega (arith, ap (λ (x : Merge). x.next) c.get-m.ensures.0)
-
-pub loop-m-preserved : goal.loop-m-preserved
-loop-m-preserved c =
-    let i = c.loop-m.invariant in
-    let t = rest_turn c.loop-m.target c.args.end c.loop-m.m (omega arith) i.1 i.2 c.get-m.result c.get-m.new.target c.get-m.ensures.0 c.get-m.ensures.1 in
-    (t.0, t.1, t.2, t.3 ∙ i.3, t.4 ∙ i.4)
-
-pub returns : goal.returns
-returns c =
-    let i = c.loop-m.invariant in
-    (i.3, rw (← i.4) (rest_end c.loop-m.target c.args.end c.loop-m.m (omega arith) i.2 (omega arith)))
+pub loop-place-preserved : goal.loop-place-preserved
+loop-place-preserved c =
+    let a = c.args in
+    let i = c.loop-place.invariant in
+    (omega (arith, i.0, c.push.ensures.len), c.push.ensures.items ∙ one_more c.loop-place.target.items a.own.from c.loop-place.place a.target.now.items (omega arith) i.1)

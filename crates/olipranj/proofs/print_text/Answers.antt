@@ -1,9 +1,10 @@
 -- The text of what was read is written.
 use Rattle.std.proofs.Common.{rules}
-use Rattle.olipranj.proofs.Printing.{prints_first}
+use Rattle.olipranj.proofs.Printing.{prints_first, done_still}
 use Rattle.olipranj.proofs.print_text.Goals as goal
 
-pub returns-in-Ok-clause-text : goal.returns-in-Ok-clause-text
-returns-in-Ok-clause-text g c =
-    let read = c.read_input-read.ensures in
-    prints_first _ _ _ _ _ _ _ _ (search rules) read.within read.bytes (read.whole c.if-read.false) c.transcribe-written.ensures c.in-Ok.ensures.bytes
+pub returns-clause-text : goal.returns-clause-text
+returns-clause-text g c =
+    let read = c.in_ok-length.ensures in
+    done_still c.write_all.result c.map_err.result c.map_err.ensures.variant
+    (prints_first _ _ _ _ _ _ _ _ (search rules) read.within read.bytes read.whole c.transcribe-written.ensures) c.write_all.ensures.bytes

@@ -1,24 +1,29 @@
 -- `page::write_now` meets its contract.
-use mathlib.Core.List.{[]}
-use native.Mathlib.Omega.{arith}
+use mathlib.Core.Path.{◌≡◌}
+use mathlib.Core.Bool.{true}
 use borrow.Author.Rules.{rules}
-use Rattle.store.specs.Layout.{state_in}
-use Rattle.store.specs.State.{State}
-use Rattle.page.proofs.PageWriting.{page_room, put_now}
+use native.Mathlib.Omega.{arith}
+use Rattle.store.specs.StoreRules.{good_store}
+use Rattle.page.proofs.PageWays.{good_gather, lines_fit, page_held}
 use Rattle.page.proofs.write_now.Goals as goal
-use Rattle.page.proofs.write_now.Goals.{Start}
 
--- The state of the columns lent.
-abbrev lent : Start → State
-lent s = let a = s.args in state_in a.nodes 0 a.counts.now a.keys.now a.kinds.now a.values.now a.stamps.now []
+pub gather-lines-requires : goal.gather-lines-requires
+gather-lines-requires c =
+    let good : good_store c.args.store.now ≡ true = search rules in
+    good_gather c.args.store.now good c.in-Some.sample.number _ c.rows_of.ensures
 
 pub write_page-requires : goal.write_page-requires
 write_page-requires c =
-    let g = c.gather-lines in
-    let p = c.requires.0.plan in
-    let w = page_room p (lent (goal.at.write_page-requires c).Start) c.args.sample g.result (g.ensures p c.requires.0.on_paths) c.requires.1 in
-    (search rules, omega arith)
+    let good : good_store c.args.store.now ≡ true = search rules in
+    let fit =
+    lines_fit c.args.store.now good c.in-Some.sample.number _ c.rows_of.ensures c.gather-lines.result.items c.gather-lines.ensures (omega arith)
+    in
+    rw c.as_slice.ensures.value (fit.0, omega arith)
 
 pub returns : goal.returns
-returns c = λ p paths.
-    put_now p (lent (goal.at.returns c).Start) c.args.sample c.gather-lines.result (c.gather-lines.ensures p paths) c.write_page.ensures
+returns c =
+    let good : good_store c.args.store.now ≡ true = search rules in
+    rw c.in-Some.ensures at (
+    page_held c.args.store.now good c.in-Some.sample.number _ c.rows_of.ensures c.gather-lines.result.items c.gather-lines.ensures (omega arith)
+    (search rules) (rw c.as_slice.ensures.value at c.write_page.ensures)
+    )

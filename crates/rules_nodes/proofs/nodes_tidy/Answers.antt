@@ -1,34 +1,15 @@
--- `rules_nodes::nodes_tidy` meets its contract. The loop's invariant: all nodes pass if those from this one on do. The measure is their number.
-use mathlib.Core.Path.{refl, sym, ◌∙◌}
-use mathlib.Core.Bool.{Bool}
-use Prim.Native.Nat.{ℕ}
-use native.Mathlib.Omega.{arith}
-use borrow.Author.Rules.{rules}
-use Rattle.lists.proofs.Tabulating.{all_stop, all_turn, all_end}
+-- `rules_nodes::nodes_tidy` meets its contract.
+use Rattle.std.proofs.Common.{◌∙◌, refl, rules}
+use borrow.Author.Tests.{tests}
+use Rattle.std.proofs.lemmas.Iterator.{YieldsList-from_range}
+use Rattle.std.proofs.lemmas.Iterator.Search.{all_from_yields_List}
+use Rattle.lists.proofs.Ranges.{range_all}
 use Rattle.plan.specs.Sizes.{most_nodes}
 use Rattle.rules_nodes.specs.Workers.{tidy_test}
 use Rattle.rules_nodes.proofs.nodes_tidy.Goals as goal
-use Rattle.rules_nodes.proofs.nodes_tidy.Goals.{Start}
-
--- The test of the nodes lent.
-abbrev tidy : Start → ℕ → Bool
-tidy s =
-    let a = s.args in
-    tidy_test a.capacities.now a.clock a.counts.now a.keys.now a.kinds.now a.values.now a.stamps.now
-
-pub loop-node-init : goal.loop-node-init
-loop-node-init c = (search rules, refl)
-
-pub returns-then-not-node_tidy : goal.returns-then-not-node_tidy
-returns-then-not-node_tidy c =
-    let node = c.node_tidy in
-    sym (c.loop-node.invariant.1 ∙ all_stop (tidy (goal.at.returns-then-not-node_tidy c).Start) c.loop-node.node most_nodes (omega arith) (sym node.ensures ∙ c.if-not-node_tidy.true))
-
-pub loop-node-preserved : goal.loop-node-preserved
-loop-node-preserved c =
-    let node = c.node_tidy in
-    (omega arith, c.loop-node.invariant.1 ∙ all_turn (tidy (goal.at.loop-node-preserved c).Start) c.loop-node.node most_nodes (omega arith) (sym node.ensures ∙ c.if-not-node_tidy.false))
 
 pub returns : goal.returns
 returns c =
-    sym (c.loop-node.invariant.1 ∙ all_end (tidy (goal.at.returns c).Start) c.loop-node.node most_nodes (omega arith))
+    let tidy = tidy_test c.args.rows.now c.args.store.now in
+    all_from_yields_List tidy _ _ c.all.result c.all.ensures.ran (YieldsList-from_range 0 8 most_nodes refl refl) (λ x b q k. search (rules, tests))
+    ∙ range_all tidy 0 most_nodes

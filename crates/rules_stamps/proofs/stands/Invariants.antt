@@ -1,8 +1,5 @@
--- `rules_stamps::stands` meets its contract. The loop's invariant: the stamp was found, or stands at the places from i on, exactly if it
--- stands at all. The measure is how many are left.
-use mathlib.Core.Path.{◌≡◌}
-use mathlib.Core.Bool.{◌||◌}
-use Prim.Native.Nat.{◌-◌, ◌≤◌}
+-- The loop's invariant: the stamp was found, or stands at the places from i on, exactly if it stands at all.
+use Rattle.std.proofs.Common.{◌≡◌, ◌||◌, ◌-◌}
 use Rattle.lists.specs.Indexed.{tabulate}
 use Rattle.store.specs.Copies.{member}
 use Rattle.store.specs.Workers.{number_in}
@@ -10,7 +7,4 @@ use Rattle.rules_stamps.proofs.stands.Given as goal
 
 abbrev pub invariant-loop-i : goal.invariant-loop-i
 invariant-loop-i l =
-    (l.i ≤ l.end) × ((l.found || member l.stamp (tabulate l.i (l.end - l.i) (number_in l.stamps))) ≡ member l.stamp (tabulate l.from (l.end - l.from) (number_in l.stamps)))
-
-abbrev pub decreases-loop-i : goal.decreases-loop-i
-decreases-loop-i l = l.end - l.i
+    (l.found || member l.stamp (tabulate l.i (l.end - l.i) (number_in l.stamps))) ≡ member l.stamp (tabulate l.from (l.end - l.from) (number_in l.stamps))

@@ -1,28 +1,25 @@
 -- `slots::stepped` meets its contract.
-use mathlib.Core.Path.{◌≡◌}
-use lib.ListN.{length}
-use Rattle.store.specs.State.{slot_count}
-use Rattle.slots.proofs.Visiting.{steps_no_slot, steps_idle}
-use borrow.Author.Rules.{rules}
+use Rattle.slots.specs.Workers.{StepsBy}
+use Rattle.slots.proofs.Slotting.{found, never, goes, handed_on, step_refused}
 use Rattle.slots.proofs.stepped.Goals as goal
-use Rattle.slots.proofs.stepped.Goals.{Start}
 
-long : (s : Start) → length s.args.slots ≡ slot_count
-long s = search rules
+pub returns-in_err-i : goal.returns-in_err-i
+returns-in_err-i c =
+    handed_on (λ r. StepsBy c.args.rows.now c.args.store.now c.args.slot r c.args.store.now) c.from_residual.result c.in_err-i.field-0.0
+    c.from_residual.ensures.1
+    (step_refused c.args.rows.now c.args.store.now c.running.ensures.long c.args.slot c.in_err-i.ensures.place)
 
-pub returns-then-i-ge-SLOTS : goal.returns-then-i-ge-SLOTS
-returns-then-i-ge-SLOTS c =
-    steps_no_slot c.args.slots (long (goal.at.returns-then-i-ge-SLOTS c).Start) c.args.slot c.if-i-ge-SLOTS.true c.refused.ensures
+pub returns-in_default-next : goal.returns-in_default-next
+returns-in_default-next c =
+    never c.args.rows.now c.args.store.now c.running.ensures.long c.args.slot c.in_ok-i.ensures.place c.look_in.result c.look_in.ensures c.in_default.is
+    c.next.result c.next.ensures c.in_default-next.is c.ended.ensures c.idle.ensures
 
-pub returns-then-slots-i-eq-IDLE : goal.returns-then-slots-i-eq-IDLE
-returns-then-slots-i-eq-IDLE c =
-    steps_idle c.args.slots (long (goal.at.returns-then-slots-i-eq-IDLE c).Start) c.args.slot c.if-i-ge-SLOTS.false c.if-slots-i-eq-IDLE.true c.refused-then-slots-i-eq-IDLE.ensures
+pub returns-in_default : goal.returns-in_default
+returns-in_default c =
+    goes c.args.rows.now c.args.store.now c.running.ensures.long c.args.slot c.in_ok-i.ensures.place c.look_in.result c.look_in.ensures c.in_default.is
+    c.next.result c.next.ensures c.in-Some-next.to c.in-Some-next.is c.of.ensures c.search_at.ensures
 
-pub visited-requires : goal.visited-requires
-visited-requires c =
-    record {
-      ordered = c.requires.ordered;
-      slot = c.if-i-ge-SLOTS.false;
-      runs = c.if-slots-i-eq-IDLE.false;
-      stands = c.requires.stand c.args.slot c.if-i-ge-SLOTS.false c.if-slots-i-eq-IDLE.false;
-    }
+pub returns : goal.returns
+returns c =
+    found c.args.rows.now c.args.store.now c.running.ensures.long c.args.slot c.in_ok-i.ensures.place c.look_in.result c.look_in.ensures c.in-Some.copy
+    c.in-Some.is c.ended-2.ensures c.idle-2.ensures

@@ -1,40 +1,40 @@
 -- `carries::settling::along` meets its contract.
-use Rattle.carries.proofs.Carrying.{source_few, goal_few, ready, counts_move, stay_there, settled_along}
+use Rattle.merges.specs.Decisions.{places_merged, Decided}
+use Rattle.carries.specs.Settlings.{copies_at}
+use Rattle.carries.proofs.Carrying.{source_few, goal_few, fits, ready, counts_move, stay_there, settled_along}
 use Rattle.carries.proofs.settling.along.Goals as goal
+use Rattle.carries.proofs.settling.along.Goals.{After-decide}
 
-pub bounds-counts-n : goal.bounds-counts-n
-bounds-counts-n c = source_few c.requires.0.2
+pub copies_at-copies-requires : goal.copies_at-copies-requires
+copies_at-copies-requires c = let w = c.requires.1 in (source_few w, fits w c.args.node (source_few w))
 
--- LEFT cast-had : tie.Need-overflow-cast-had
--- LEFT cast-had c =
--- LEFT     let s = c.before.before in
--- LEFT     let w = s.requires.0.2 in
--- LEFT     omega (arith, fits w s.args.node (source_few w))
+pub copies_at-held-requires : goal.copies_at-held-requires
+copies_at-held-requires c = let w = c.requires.1 in (goal_few w, fits w c.args.edge.target (goal_few w))
 
-pub bounds-counts-t : goal.bounds-counts-t
-bounds-counts-t c = goal_few c.requires.0.2
+pub decide-requires : goal.decide-requires
+decide-requires c = rw (c.copies_at-copies.ensures, c.copies_at-held.ensures) (ready c.requires.1)
 
--- LEFT cast-held : tie.Need-overflow-cast-held
--- LEFT cast-held c =
--- LEFT     let s = c.before.before.before in
--- LEFT     let w = s.requires.0.2 in
--- LEFT     omega (arith, fits w s.args.e.target (goal_few w))
-
-pub decide-m-requires : goal.decide-m-requires
-decide-m-requires c =
-    (ready c.requires.0.2, c.requires.1, c.requires.2)
+-- What is decided, of the places of the two nodes' copies.
+decided : (c : After-decide) → let a = c.args in
+    Decided (places_merged a.store.now.keys a.capacity a.edge (copies_at a.store.now a.node) (copies_at a.store.now a.edge.target)) c.decide.new.lists
+decided c = rw (c.copies_at-copies.ensures, c.copies_at-held.ensures) at c.decide.ensures
 
 pub count_held-left-requires : goal.count_held-left-requires
-count_held-left-requires c =
-    let stays = c.decide-m.ensures.stays in
-    (stays.long, stays.counted, stay_there c.requires.0.2 c.decide-m.ensures)
+count_held-left-requires c = rw c.as_slice.ensures.value (stay_there c.requires.1 (decided (goal.at.count_held-left-requires c).After-decide))
 
 pub tally-requires : goal.tally-requires
-tally-requires c = counts_move c.requires.0.2 c.decide-m.ensures
+tally-requires c =
+    rw (c.copies_at-copies.ensures, c.copies_at-held.ensures, c.len-kept.ensures.value, c.len-got.ensures.value)
+    (counts_move c.requires.1 (decided (goal.at.tally-requires c).After-decide))
 
 pub returns : goal.returns
 returns c =
-    let d = c.decide-m in
-    let w = c.tally in
-    let h = c.count_held-left in
-    λ z i known. settled_along known d.ensures w.result h.result w.ensures h.ensures
+    let z = c.args.store.now in
+    let k = c.copies_at-copies in
+    let h = c.copies_at-held in
+    let d = decided (goal.at.returns c).After-decide in
+    λ i known.
+    rw (k.ensures, h.ensures)
+    (settled_along known d c.tally.result c.count_held-left.result
+    (rw (c.len-kept.ensures.value, c.len-got.ensures.value, k.ensures, h.ensures) at c.tally.ensures)
+    (rw c.as_slice.ensures.value at c.count_held-left.ensures))

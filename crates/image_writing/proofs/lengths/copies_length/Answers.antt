@@ -1,32 +1,31 @@
 -- `image_writing::lengths::copies_length` meets its contract.
-use Prim.Native.Nat.{◌-◌}
+use mathlib.Core.Path.{◌≡◌}
+use Prim.Native.Nat.{◌+◌, ◌-◌}
 use native.Mathlib.Omega.{arith}
+use lib.ListN.{length}
 use Rattle.lists.specs.Indexed.{tabulate}
 use Rattle.lists.proofs.Tabulating.{length-tabulate}
-use Rattle.store.specs.Layout.{copy_in}
+use Rattle.store.specs.Layout.{copy_of}
+use Rattle.image_writing.specs.Image.{copies_bytes}
 use Rattle.image_writing.proofs.ImageLengths.{copies_short, copies_count, copies_counted_all}
-use borrow.Author.Rules.{rules}
 use Rattle.image_writing.proofs.lengths.copies_length.Goals as goal
+use Rattle.image_writing.proofs.lengths.copies_length.Goals.{After-copy_length-sum}
 
-pub loop-i-init : goal.loop-i-init
-loop-i-init c = (search rules, search rules, omega arith)
+-- The invariant after one more copy.
+turn : (c : After-copy_length-sum)
+    → c.loop-i.sum + c.copy_length-sum.result + length (copies_bytes (tabulate (c.loop-i.i + 1) (c.args.end - (c.loop-i.i + 1)) (copy_of c.args.store.now)))
+    ≡ length (copies_bytes (tabulate c.args.from (c.args.end - c.args.from) (copy_of c.args.store.now)))
+turn c =
+    copies_count (copy_of c.args.store.now) c.args.end c.loop-i.sum c.loop-i.i c.loop-i.invariant c.loop-i-test.true
+    (rw c.copy_at.ensures at c.copy_length-sum.ensures)
 
 pub overflow_add-sum : goal.overflow_add-sum
 overflow_add-sum c =
-    let a = c.args in
-    let f = copy_in a.keys.now a.kinds.now a.values.now a.stamps.now in
-    let t = copies_count f a.end c.loop-i.sum c.loop-i.i c.loop-i.invariant.2 c.loop-i-test.true c.copy_length-sum.ensures in
-    omega (arith, copies_short (tabulate a.from (a.end - a.from) f), length-tabulate f a.from (a.end - a.from))
+    let all = tabulate c.args.from (c.args.end - c.args.from) (copy_of c.args.store.now) in
+    omega (arith, turn c, copies_short all, length-tabulate (copy_of c.args.store.now) c.args.from (c.args.end - c.args.from))
 
 pub loop-i-preserved : goal.loop-i-preserved
-loop-i-preserved c =
-    let a = c.args in (
-      search rules,
-      search rules,
-      copies_count (copy_in a.keys.now a.kinds.now a.values.now a.stamps.now) a.end c.loop-i.sum c.loop-i.i c.loop-i.invariant.2 c.loop-i-test.true c.copy_length-sum.ensures,
-    )
+loop-i-preserved c = turn c
 
 pub returns : goal.returns
-returns c =
-    let a = c.args in
-    copies_counted_all (copy_in a.keys.now a.kinds.now a.values.now a.stamps.now) a.end c.loop-i.sum c.loop-i.i c.loop-i.invariant.2 c.loop-i-test.false
+returns c = copies_counted_all (copy_of c.args.store.now) c.args.end c.loop-i.sum c.loop-i.i c.loop-i.invariant c.loop-i-test.false

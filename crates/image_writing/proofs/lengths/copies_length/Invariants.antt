@@ -1,16 +1,13 @@
 -- `image_writing::lengths::copies_length` meets its contract.
 use mathlib.Core.Path.{◌≡◌}
-use Prim.Native.Nat.{◌+◌, ◌-◌, ◌≤◌}
+use Prim.Native.Nat.{◌+◌, ◌-◌}
 use lib.ListN.{length}
 use Rattle.lists.specs.Indexed.{tabulate}
-use Rattle.store.specs.Layout.{copy_in}
+use Rattle.store.specs.Layout.{copy_of}
 use Rattle.image_writing.specs.Image.{copies_bytes}
 use Rattle.image_writing.proofs.lengths.copies_length.Given as goal
 
+-- The bytes counted and those of the copies to come are all.
 abbrev pub invariant-loop-i : goal.invariant-loop-i
 invariant-loop-i l =
-    (l.from ≤ l.i) × (l.i ≤ l.end)
-    × (l.sum + length (copies_bytes (tabulate l.i (l.end - l.i) (copy_in l.keys l.kinds l.values l.stamps))) ≡ length (copies_bytes (tabulate l.from (l.end - l.from) (copy_in l.keys l.kinds l.values l.stamps))))
-
-abbrev pub decreases-loop-i : goal.decreases-loop-i
-decreases-loop-i l = l.end - l.i
+    l.sum + length (copies_bytes (tabulate l.i (l.end - l.i) (copy_of l.store))) ≡ length (copies_bytes (tabulate l.from (l.end - l.from) (copy_of l.store)))

@@ -1,23 +1,20 @@
 -- `rules_paths::paths::copy_placed` meets its contract.
-use mathlib.Core.Path.{sym, ◌∙◌}
-use Rattle.store.specs.State.{State}
-use Rattle.rules_paths.specs.Workers.{keyed}
+use Rattle.std.proofs.Common.{sym, ◌∙◌}
+use Rattle.store.specs.Workers.{number_in}
+use Rattle.rules_paths.proofs.Standing.{above_member}
 use Rattle.rules_paths.proofs.Placing.{placed_off, placed_falls}
 use Rattle.rules_paths.proofs.paths.copy_placed.Goals as goal
-use Rattle.rules_paths.proofs.paths.copy_placed.Goals.{Start}
 
--- The state of the columns lent.
-abbrev lent : Start → State
-lent s = let a = s.args in keyed a.nodes a.counts.now a.keys.now a.stamps.now
-
-pub returns-then-not-on_path : goal.returns-then-not-on_path
-returns-then-not-on_path c =
-    let path = c.on_path in
-    λ p rows. sym (placed_off p (lent (goal.at.returns-then-not-on_path c).Start) c.args.keys.now c.args.stamps.now c.args.node c.args.i (sym (path.ensures p rows) ∙ c.if-not-on_path.true))
-
-pub returns : goal.returns
-returns c =
-    let path = c.on_path in
-    let below = c.stamp_below in
+pub returns-then-is_some : goal.returns-then-is_some
+returns-then-is_some c =
+    let a = c.args in
     λ p rows.
-    sym (placed_falls p (lent (goal.at.returns c).Start) c.args.keys.now c.args.stamps.now c.args.node c.args.i (sym (path.ensures p rows) ∙ c.if-not-on_path.false) below.result (below.ensures p rows))
+    let on = above_member p (number_in a.store.now.keys a.i) a.node c.nodes_above.result c.is_some.result (c.nodes_above.ensures p rows) c.is_some.ensures in
+    sym (placed_falls p a.store.now a.node a.i (sym on ∙ c.if-is_some.true) c.stamp_below.result (c.stamp_below.ensures p rows))
+
+pub returns-else-is_some : goal.returns-else-is_some
+returns-else-is_some c =
+    let a = c.args in
+    λ p rows.
+    let on = above_member p (number_in a.store.now.keys a.i) a.node c.nodes_above.result c.is_some.result (c.nodes_above.ensures p rows) c.is_some.ensures in
+    c.if-is_some.false ∙ sym (placed_off p a.store.now a.node a.i (sym on ∙ c.if-is_some.false))

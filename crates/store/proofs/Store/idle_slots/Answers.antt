@@ -5,4 +5,4 @@ use Rattle.store.specs.State.{slot_count}
 use Rattle.store.proofs.Store.idle_slots.Goals as goal
 
 pub returns : goal.returns
-returns c = ap (replicate slot_count) c.idle-idle.ensures
+returns c = ap (replicate slot_count) c.idle.ensures

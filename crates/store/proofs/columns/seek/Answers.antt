@@ -1,23 +1,16 @@
 -- `store::columns::seek` meets its contract.
-use Prim.Native.Nat.{◌+◌, ◌-◌, ◌/◌}
 use native.Mathlib.Omega.{arith}
+use lib.Dec.{ltb}
 use borrow.Author.Rules.{rules}
-use Rattle.store.proofs.Halving.{place_bounds, half_up, half_down}
+use Rattle.std.proofs.Common.{of_calls}
+use Rattle.std.proofs.lemmas.List.Sorted.{IsPartitionPoint-from_clause}
+use Rattle.store.proofs.Parting.{parted, place_parted}
 use Rattle.store.proofs.columns.seek.Goals as goal
 
-pub loop-low-init : goal.loop-low-init
-loop-low-init c =
-    let w = place_bounds c.args.keys.now c.args.from c.args.end (omega arith) c.args.key in
-    (search rules, search rules, omega arith, omega arith)
-
-pub loop-low-preserved-then-keys-mid : goal.loop-low-preserved-then-keys-mid
-loop-low-preserved-then-keys-mid c =
-    let m = c.loop-low.low + (c.loop-low.high - c.loop-low.low) / 2 in
-    let d = half_up c.args.keys.now c.args.from c.args.end (omega arith) c.requires.2 c.args.key m (omega arith) (omega arith) c.if-keys-mid.true in
-    (omega arith, search rules, omega arith, search rules)
-
-pub loop-low-preserved : goal.loop-low-preserved
-loop-low-preserved c =
-    let m = c.loop-low.low + (c.loop-low.high - c.loop-low.low) / 2 in
-    let d = half_down c.args.keys.now c.args.from c.args.end (omega arith) c.args.key m (omega arith) (omega arith) c.if-keys-mid.false in
-    (search rules, omega arith, search rules, omega arith)
+pub returns : goal.returns
+returns c =
+    let a = c.args in
+    let fits = c.requires.1 in
+    place_parted a.keys.now a.from a.end (omega arith) (omega arith) c.requires.2 a.key c.partition_point-before.result c.partition_point-before.ensures.bound
+    (IsPartitionPoint-from_clause (λ y. ltb y a.key) _ _ c.partition_point-before.ensures.partitioned
+    (parted a.keys.now a.from a.end (omega arith) (omega arith) c.requires.2 a.key) (λ x r f k. search (rules, of_calls)))
