@@ -73,15 +73,11 @@ fn along(store: &Store, node: u32, edge: Edge, capacity: u32, lists: &mut Lists)
 pub fn settle(store: &Store, node: u32, edge: u32, lists: &mut Lists) -> Result<Settled, Refusal>
     ensures { SettlesOr store.now node edge lists.new result }
 {
-    if !rules::is_good(store) {
-        return Err(Refusal::BadStore);
-    }
+    rules::check(store)?;
     let rows = plan_table::rows_of(store.plan);
     if rows.nodes <= node {
         return Err(Refusal::Node);
     }
-    let Some(e) = rows.edge(node, edge) else {
-        return Err(Refusal::Edge);
-    };
+    let e = rows.edge(node, edge).ok_or(Refusal::Edge)?;
     Ok(along(store, node, e, rows.capacity(e.target), lists))
 }

@@ -26,6 +26,7 @@ pub fn value_length(kind: u32, value: u32) -> usize
     }
 }
 
+// (Its numbers are told one after another.)
 // How many bytes a copy takes.
 pub fn copy_length(copy: Copy) -> usize
     ensures { result ≡ length (copy_bytes copy) }
@@ -49,6 +50,7 @@ pub fn write_value(buffer: &mut [u8], at: usize, kind: u32, value: u32) -> usize
     }
 }
 
+// (Its numbers are told one after another.)
 // Writes a copy: key, kind, value, stamp.
 pub fn write_copy(buffer: &mut [u8], at: usize, copy: Copy) -> usize
     requires { HasRoom buffer at (copy_bytes copy) }
@@ -65,11 +67,7 @@ pub fn write_copy(buffer: &mut [u8], at: usize, copy: Copy) -> usize
 pub fn read_value(bytes: &[u8], kind: u32, at: usize) -> Result<Read<u32>, Fault>
     ensures { got_of result ≡ read_value bytes.now kind at }
 {
-    if Copy::has_value(kind) {
-        wire::read_number(bytes, at)
-    } else {
-        Ok(Read { value: 0, next: at })
-    }
+    wire::read_where(Copy::has_value(kind), bytes, at)
 }
 
 // A copy: key, kind (RULE above the last), value, stamp.
@@ -80,10 +78,7 @@ pub fn read_copy(bytes: &[u8], at: usize) -> Result<Read<Copy>, Fault>
     let key = wire::read_number(bytes, at)?;
     let kind = wire::read_number(bytes, key.next)?;
     if Copy::LAST_KIND < kind.value {
-        return Err(Fault {
-            why: Refusal::Rule,
-            at: key.next,
-        });
+        return Err(Fault::at(Refusal::Rule, key.next));
     }
     let held = read_value(bytes, kind.value, kind.next)?;
     let stamp = wire::read_number(bytes, held.next)?;

@@ -17,9 +17,7 @@ fn entry_in(store: &mut Store, kind: u32, key: u32, value: u32) -> Result<Answer
     ensures outcome { record { answer = answered result; store = store.new } ≡ entry_numbered kind store.old key value }
     ensures as_it_was { OnErr result (store.new ≡ store.old) }
 {
-    if !rules::is_good(store) {
-        return Err(Refusal::BadStore);
-    }
+    rules::check(store)?;
     if Store::LAST_CLOCK <= store.clock {
         return Err(Refusal::Clock);
     }
@@ -50,7 +48,7 @@ pub fn withdraw_in(store: &mut Store, key: u32) -> Answer
     entry_in(store, Copy::WITHDRAWN, key, 0).unwrap_or_else(Answer::from)
 }
 
-// Enter: the line gets a result.
+// Enter: the line gets a result. (A public call beside the other; docs/PROMISES.md names both.)
 pub fn enter(mut store: Store, key: u32, value: u32) -> Outcome
     ensures { Enters store key value result }
 {
@@ -58,7 +56,7 @@ pub fn enter(mut store: Store, key: u32, value: u32) -> Outcome
     Outcome { answer, store }
 }
 
-// Withdraw: the line gets a withdrawn copy, which holds 0.
+// Withdraw: the line gets a withdrawn copy, which holds 0. (A public call beside the other; docs/PROMISES.md names both.)
 pub fn withdraw(mut store: Store, key: u32) -> Outcome
     ensures { Withdraws store key result }
 {

@@ -4,7 +4,7 @@
 use std::io;
 use std::io::Write;
 
-// Prints the text of some bytes.
+// Prints the text of some bytes. (An array cut to what was written: no heap.)
 fn print(out: &mut impl Write, bytes: &[u8]) -> io::Result<()> {
     let mut text = [0; transcript::ROOM];
     let length = transcript::transcribe(bytes, &mut text);

@@ -18,6 +18,7 @@ use store::Store;
 use store::refusal::Refusal;
 use wire::Fault;
 
+// (No part of Store: what an image says before its nodes.)
 // What an image's head says of its store.
 #[derive(Clone, Copy, Debug, PartialEq, Eq)]
 pub struct Head {
@@ -25,6 +26,7 @@ pub struct Head {
     pub clock: u32,
 }
 
+// (Four columns are fields of the C interface; from..end as in store/columns.rt.)
 // The copies of the places from..end. Gives the offset after them.
 fn read_copies(
     bytes: &[u8],
@@ -64,10 +66,7 @@ fn read_node(
 {
     let count = wire::read_number(bytes, at)?;
     if capacity < count.value {
-        return Err(Fault {
-            why: Refusal::Rule,
-            at,
-        });
+        return Err(Fault::at(Refusal::Rule, at));
     }
     store.counts[node] = count.value;
     let from = Store::WIDTH * node;
@@ -94,24 +93,15 @@ pub fn read_head(bytes: &[u8]) -> Result<Read<Head>, Fault>
 {
     let format = wire::read_number(bytes, 0)?;
     if format.value != FORMAT {
-        return Err(Fault {
-            why: Refusal::Format,
-            at: 0,
-        });
+        return Err(Fault::at(Refusal::Format, 0));
     }
     let plan = wire::read_number(bytes, format.next)?;
     if !Store::is_plan(plan.value) {
-        return Err(Fault {
-            why: Refusal::Plan,
-            at: format.next,
-        });
+        return Err(Fault::at(Refusal::Plan, format.next));
     }
     let clock = wire::read_number(bytes, plan.next)?;
     if clock.value < 1 {
-        return Err(Fault {
-            why: Refusal::Rule,
-            at: plan.next,
-        });
+        return Err(Fault::at(Refusal::Rule, plan.next));
     }
     let head = Head {
         plan: plan.value,

@@ -1,10 +1,13 @@
 -- How many bytes the parts of an image take, and that they are not too many for a machine's number.
-use mathlib.Core.Path.{◌≡◌, refl, ap}
+use mathlib.Core.Path.{◌≡◌, refl, sym, ap}
 use mathlib.Core.List.{List, [], ◌∷◌, ◌++◌}
-use Prim.Native.Nat.{ℕ, suc, ◌+◌, ◌-◌, ◌*◌, ◌<◌, ◌≤◌}
+use Prim.Native.Nat.{ℕ, zero, suc, ◌+◌, ◌-◌, ◌*◌, ◌<◌, ◌≤◌}
 use native.Mathlib.Omega.{arith}
+use native.Mathlib.Numerals.{add-one}
 use lib.Dec.{lit≤}
 use lib.ListN.{length, get_or, length-append}
+use Rattle.std.specs.List.{sum_by, range_with_len}
+use Rattle.std.proofs.lemmas.List.Sums.{sum_by-cons}
 use Rattle.lists.specs.Indexed.{tabulate}
 use Rattle.lists.proofs.Tabulating.{length-tabulate, get_d_from_start}
 use Rattle.number.specs.Number.{form}
@@ -16,7 +19,6 @@ use Rattle.store.specs.Layout.{width, node_in, copy_of, count_of, node_of, state
 use Rattle.store.specs.State.{State}
 use Rattle.store.specs.Workers.{HasPlaces, WithinPlaces}
 use Rattle.store.proofs.Laying.{length-node}
-use Rattle.wire.proofs.Parts.{count_on, count_off}
 use Rattle.copies.specs.CopyBytes.{copy_bytes}
 use Rattle.copies.proofs.CopyLengths.{longest_copy, copy_short}
 use Rattle.image_writing.specs.Image.{format_number, copies_bytes, node_bytes, nodes_bytes, image_of, nodes_in, image_by}
@@ -110,18 +112,18 @@ module _ (z : Store) (nodes : ℕ) {a b c d : ℕ} (f : a ≡ length (form forma
   image_adds_few few within =
       omega (arith, form-length format_number, form-length z.plan, form-length z.clock, nodes_in_short z nodes few within)
 
--- ---- a loop that counts the bytes of copies, and one of nodes
+-- ---- the bytes of copies, and those of nodes, as a sum over the places or the nodes
 
-module _ (f : ℕ → Copy) (end sum i : ℕ) {total : ℕ} (e : sum + length (copies_bytes (tabulate i (end - i) f)) ≡ total) where
-  pub copies_count : {r : ℕ} → i < end → r ≡ length (copy_bytes (f i)) → sum + r + length (copies_bytes (tabulate (i + 1) (end - (i + 1)) f)) ≡ total
-  copies_count h k = rw k (count_on copy_bytes copies_bytes no_copies more_copies f end sum i h e)
+module _ {A : Type 0} (bytes : A → List ℕ) (all : List A → List ℕ) (none : all [] ≡ []) (more : (x : A) (xs : List A) → all (x ∷ xs) ≡ bytes x ++ all xs) (f : ℕ → A) where
+  sums : (i n : ℕ) → sum_by (λ (k : ℕ). length (bytes (f k))) (range_with_len i n) ≡ length (all (tabulate i n f))
+  unfolding tabulate
+  sums i zero = sym (ap length none)
+  sums i (suc n) =
+      rw (add-one, more (f i) (tabulate (suc i) n f))
+      (omega (arith, sum_by-cons (λ (k : ℕ). length (bytes (f k))) i (range_with_len (suc i) n), sums (suc i) n, length-append (bytes (f i)) (all (tabulate (suc i) n f))))
 
-  pub copies_counted_all : end ≤ i → sum ≡ total
-  copies_counted_all h = count_off copy_bytes copies_bytes no_copies more_copies f end sum i h e
+pub copies_sum : (f : ℕ → Copy) (i n : ℕ) → sum_by (λ (k : ℕ). length (copy_bytes (f k))) (range_with_len i n) ≡ length (copies_bytes (tabulate i n f))
+copies_sum = sums copy_bytes copies_bytes no_copies more_copies
 
-module _ (f : ℕ → List Copy) (end sum i : ℕ) {total : ℕ} (e : sum + length (nodes_bytes (tabulate i (end - i) f)) ≡ total) where
-  pub nodes_count : {r : ℕ} → i < end → r ≡ length (node_bytes (f i)) → sum + r + length (nodes_bytes (tabulate (i + 1) (end - (i + 1)) f)) ≡ total
-  nodes_count h k = rw k (count_on node_bytes nodes_bytes no_nodes more_nodes f end sum i h e)
-
-  pub nodes_counted_all : end ≤ i → sum ≡ total
-  nodes_counted_all h = count_off node_bytes nodes_bytes no_nodes more_nodes f end sum i h e
+pub nodes_sum : (f : ℕ → List Copy) (i n : ℕ) → sum_by (λ (k : ℕ). length (node_bytes (f k))) (range_with_len i n) ≡ length (nodes_bytes (tabulate i n f))
+nodes_sum = sums node_bytes nodes_bytes no_nodes more_nodes

@@ -9,16 +9,14 @@ ghost use Rattle.image_writing.specs.Image.{copies_bytes, node_bytes, nodes_byte
 use crate::FORMAT;
 use store::Store;
 
-// The copies of the places from..end.
+// The copies of the places from..end. (from..end as in store/columns.rt; counts within places are asked, since a store may break any rule.)
 fn copies_length(store: &Store, from: usize, end: usize) -> usize
     requires { (from ≤ end) × (end ≤ places) }
     ensures { result ≡ length (copies_bytes (tabulate from (end - from) (copy_of store.now))) }
 {
-    let mut sum: usize = 0;
-    for i in from..end {
-        sum += copies::copy_length(store.copy_at(i));
-    }
-    sum
+    (from..end)
+        .map(|i| copies::copy_length(store.copy_at(i)))
+        .sum()
 }
 
 // A node: its count and its copies.
@@ -36,11 +34,7 @@ fn nodes_length(store: &Store, nodes: usize) -> usize
     requires { (nodes ≤ most_nodes) × WithinPlaces store.now.counts }
     ensures { result ≡ length (nodes_bytes (nodes_in store.now nodes)) }
 {
-    let mut sum: usize = 0;
-    for node in 0..nodes {
-        sum += node_length(store, node);
-    }
-    sum
+    (0..nodes).map(|node| node_length(store, node)).sum()
 }
 
 // The image of a store: its plan's number, its clock, and so many nodes.

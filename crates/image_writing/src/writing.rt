@@ -12,7 +12,7 @@ ghost use Rattle.image_writing.specs.Image.{copies_bytes, node_bytes, nodes_byte
 use crate::FORMAT;
 use store::Store;
 
-// The copies of the places from..end.
+// The copies of the places from..end. (from..end as in store/columns.rt; counts within places are asked, since a store may break any rule.)
 fn write_copies(buffer: &mut [u8], at: usize, store: &Store, from: usize, end: usize) -> usize
     requires { (from ≤ end) × (end ≤ places) × HasRoom buffer at (copies_bytes (tabulate from (end - from) (copy_of store.now))) }
     ensures { Puts buffer at (copies_bytes (tabulate from (end - from) (copy_of store.now))) result }

@@ -17,6 +17,7 @@ unfolding digits_in
 digits_one zero v h = refl
 digits_one (suc k) v h = rw (lt-ltb v 10 h)
 
+-- (The library's word of this name states another thing.)
 digits_more : (k v : ℕ) → 10 ≤ v → digits_in (suc k) v ≡ digits_in k (v / 10) ++ digit (v % 10) ∷ []
 unfolding digits_in
 digits_more k v h = rw (le-ltb v 10 h)

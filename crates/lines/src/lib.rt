@@ -26,7 +26,8 @@ fn write_number(buffer: &mut [u8], at: usize, number: u64) -> usize
     end
 }
 
-// Writes the line of a first number and an answer at an offset with room for any line, and gives the offset after it.
+// Writes the line of a first number and an answer at an offset with room for any line, and gives the offset after it. (Its numbers are told one after
+// another; `Prints` names the offset.)
 pub fn print_into(buffer: &mut [u8], at: usize, first: u32, answer: Answer) -> usize
     requires { at + most_text ≤ length buffer.old }
     ensures { Prints buffer.old at first answer result buffer.new }

@@ -13,6 +13,7 @@ bool? true = inl refl
 bool? false = inr refl
 
 -- and never both.
+-- (The library's word of this name states another thing.)
 pub not_both : {b : Bool} → b ≡ true → b ≡ false → ⊥
 not_both t f = let z : ◌≡◌ {A = ℕ} 0 1 = cc in omega arith
 
@@ -23,10 +24,12 @@ same_test {a = true} {b = false} f g = sym (f refl)
 same_test {a = false} {b = true} f g = g refl
 same_test {a = false} {b = false} f g = refl
 
+-- (The library's word of this name states another thing.)
 pub and_left : (a b : Bool) → a && b ≡ true → a ≡ true
 and_left true b t = refl
 and_left false b t = t
 
+-- (The library's word of this name states another thing.)
 pub and_right : (a b : Bool) → a && b ≡ true → b ≡ true
 and_right true b t = t
 and_right false b t = absurd (not_both t refl)

@@ -1,9 +1,11 @@
 // Look: a whole search at once, down one line's path. Document 01, "What each step does".
 #![tactic(auto)]
 
-ghost use Rattle.std.specs.Prelude.{◌≡◌, true};
+ghost use Rattle.std.specs.Prelude.{◌≡◌, true, MatchResult};
 ghost use Rattle.plan.specs.PlanArrays.{RowsOfPlan};
+ghost use Rattle.store.specs.Answers.{bare};
 ghost use Rattle.store.specs.Layout.{plan_of, state_of};
+ghost use Rattle.store.specs.Refusals.{refusal_number};
 ghost use Rattle.store.specs.StoreRules.{good_store};
 ghost use Rattle.steps.specs.Promises.{Looks};
 ghost use Rattle.steps.specs.Searches.{ended, look_answer};
@@ -53,14 +55,19 @@ fn look_down(store: &Store, rows: &Rows, key: u32) -> Answer
     ended(Some(copy), visits)
 }
 
+// A look in a store that is checked first.
+fn looked(store: &Store, key: u32) -> Result<Answer, Refusal>
+    ensures { MatchResult result (Looks store.now key) (λ why. Looks store.now key (bare (refusal_number why))) }
+{
+    rules::check(store)?;
+    Ok(look_down(store, plan_table::rows_of(store.plan), key))
+}
+
 // A look in a lent store: its end, or BADSTORE. No slot is used.
 pub fn look_in(store: &Store, key: u32) -> Answer
     ensures { Looks store.now key result }
 {
-    if !rules::is_good(store) {
-        return Refusal::BadStore.into();
-    }
-    look_down(store, plan_table::rows_of(store.plan), key)
+    looked(store, key).unwrap_or_else(Answer::from)
 }
 
 // The same of a store by value.

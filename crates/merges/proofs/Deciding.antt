@@ -1,19 +1,20 @@
 -- The walk through two nodes from its start to its end, and the count of the places that an edge holds.
-use mathlib.Core.Path.{◌≡◌, sym, ap, ◌∙◌}
-use mathlib.Core.Bool.{true, false}
+use mathlib.Core.Path.{◌≡◌, refl, sym, ap, ◌∙◌}
+use mathlib.Core.Bool.{Bool, true, false, cond}
 use mathlib.Core.List.{List, [], append-nil, append_assoc, ◌++◌, ◌∷◌}
-use Prim.Native.Nat.{ℕ, suc, ◌+◌, ◌-◌, ◌<◌, ◌≤◌}
+use Prim.Native.Nat.{ℕ, ◌+◌, ◌-◌, ◌<◌, ◌≤◌}
 use native.Mathlib.Omega.{arith}
-use native.Mathlib.Numerals.{add-one}
-use lib.ListN.{length, drop, drop_of_length-le, length-append}
-use lib.Seq.{drop-cons}
+use lib.ListN.{length, get_or, length-append}
+use Rattle.std.proofs.lemmas.List.{get_or_default}
 use Rattle.arrayvec.specs.ArrayVec.{ArrayVec}
 use Rattle.lists.specs.Indexed.{tabulate}
 use Rattle.lists.proofs.Tabulating.{tabulate_split}
 use Rattle.plan.specs.declared.Edge.{Edge}
 use Rattle.plan.specs.Plan.{holds}
-use Rattle.store.specs.Workers.{number_in, itself}
-use Rattle.steps.specs.Carries.{Merged, merge, count_held}
+use Rattle.store.specs.Workers.{Within, number_in, itself}
+use Rattle.steps.specs.Carries.{Merged, bit, merge, count_held}
+use Rattle.std.specs.Prelude.{count_by}
+use Rattle.std.proofs.lemmas.List.Recursion.{is_count_by}
 use Rattle.moves.specs.declared.Span.{Span}
 use Rattle.merges.specs.declared.Lists.{Lists}
 use Rattle.merges.specs.declared.Walk.{Walk}
@@ -60,6 +61,7 @@ pub begins : (from : ℕ) (was : List ℕ) → was ≡ was ++ span from (from - 
 unfolding tabulate
 begins from was = let k : from - from ≡ 0 = omega arith in rw k (sym (append-nil was))
 
+-- (The library's word of this name states another thing.)
 pub one_more : (list : List ℕ) (from place : ℕ) (was : List ℕ) → from ≤ place → list ≡ was ++ span from (place - from)
     → list ++ place ∷ [] ≡ was ++ span from (place + 1 - from)
 unfolding tabulate
@@ -68,19 +70,16 @@ one_more list from place was h e =
     let l : from + (place - from) ≡ place = omega arith in
     rw (k, e, tabulate_split itself from (place - from) 1, l) (append_assoc was (span from (place - from)) (place ∷ []))
 
--- One more place is counted if the edge holds its key.
-module _ (keys : List ℕ) (e : Edge) (list : List ℕ) (i : ℕ) (h : i < length list) where
-  pub count_one : holds e (number_in keys (number_in list i)) ≡ true
-      → count_held (number_in keys) e (drop i list) ≡ suc (count_held (number_in keys) e (drop (i + 1) list))
-  unfolding count_held
-  count_one t = rw (drop-cons list i 0 h, t, add-one) (omega arith)
-
-  pub count_none : holds e (number_in keys (number_in list i)) ≡ false
-      → count_held (number_in keys) e (drop i list) ≡ count_held (number_in keys) e (drop (i + 1) list)
-  unfolding count_held
-  count_none t = rw (drop-cons list i 0 h, t, add-one) (omega arith)
-
--- and after the last there is none.
-pub count_end : (keys : List ℕ) (e : Edge) (list : List ℕ) (i : ℕ) → length list ≤ i → count_held (number_in keys) e (drop i list) ≡ 0
+-- How many places have a key that the edge holds: a count over the list.
+pub held_count : (keys : List ℕ) (e : Edge) (list : List ℕ)
+    → count_held (number_in keys) e list ≡ count_by (λ (place : ℕ). holds e (number_in keys place)) list
 unfolding count_held
-count_end keys e list i h = rw (drop_of_length-le list h)
+held_count keys e = is_count_by (count_held (number_in keys) e) (λ (place : ℕ). holds e (number_in keys place)) refl (λ x xs. one (holds e (number_in keys x)) (count_held (number_in keys) e xs))
+  where
+    one : (b : Bool) (n : ℕ) → bit b + n ≡ cond b (1 + n) n
+    one true n = refl
+    one false n = omega arith
+
+-- A number at some place of a list whose numbers are below a bound is below it.
+pub within_at : (list : List ℕ) (bound : ℕ) → Within list bound → (x k : ℕ) → k < length list → x ≡ get_or list k x → x < bound
+within_at list bound w x k h e = omega (arith, e, get_or_default list k x 0 h, w k h)

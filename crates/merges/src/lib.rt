@@ -16,7 +16,7 @@ use store::Store;
 // As many places as a node has.
 const WIDTH: usize = Store::WIDTH;
 
-// A node's places, some or all of them.
+// A node's places, some or all of them. (Places are numbers, since the columns are those of the C interface.)
 pub type Places = ArrayVec<usize, WIDTH>;
 
 // The places whose copies stay in the node, and those whose copies the target then has.
@@ -122,16 +122,13 @@ pub fn decide(
     rest(&mut lists.target, walk.own);
 }
 
-// How many of a list's places have a key that the edge holds.
+// How many of a list's places have a key that the edge holds. (Places are numbers, since the columns are those of the C interface.)
+#[tactic(auto, using(crate::proofs::Deciding::held_count))]
 pub fn count_held(keys: &[u32; Store::PLACES], list: &[usize], edge: Edge) -> usize
     requires { Within list.now places }
     ensures { result ≡ count_held (number_in keys.now) edge list.now }
 {
-    let mut count = 0;
-    for place in list {
-        if edge.holds(keys[*place]) {
-            count += 1;
-        }
-    }
-    count
+    list.iter()
+        .filter(|place| edge.holds(keys[**place]))
+        .count()
 }

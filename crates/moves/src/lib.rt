@@ -17,6 +17,7 @@ pub struct Span {
 }
 
 // The numbers at the places of a list go to the places from start on. No place lies beyond its goal: from the last to the first.
+// (By index: two places of one column at a time.)
 fn gather_back(column: &mut [u32; Store::PLACES], list: &[usize], start: usize)
     requires { ToBack start list.now }
     ensures { column.new ≡ sets column.old start (gather column.old list.now) }
@@ -27,7 +28,8 @@ fn gather_back(column: &mut [u32; Store::PLACES], list: &[usize], start: usize)
 }
 
 // The same where no place lies before its goal: from the first to the last. (Not one function with the other: a flag for the direction would
-// only choose between the two loops, and each asks its own of the places.)
+// only choose between the two loops, and each asks its own of the places. The places do not lie side by
+// side, so nothing is copied at once.)
 fn gather_front(column: &mut [u32; Store::PLACES], list: &[usize], start: usize)
     requires { ToFront start list.now }
     ensures { column.new ≡ sets column.old start (gather column.old list.now) }

@@ -39,7 +39,7 @@ fn read_input<R: Read>(input: &mut R, buffer: &mut [u8]) -> Result<usize, Fault>
     Ok(n)
 }
 
-// Writes the text of the input's first bytes; of an input that cannot be read, nothing.
+// Writes the text of the input's first bytes; of an input that cannot be read, nothing. (Arrays cut to what was read and written: no heap.)
 fn print_text<R: Read, W: Write>(input: &mut R, out: &mut W) -> Result<(), Fault>
     ensures text { OnOk result (PrintsFirst (R.remaining input.old) (W.contents out.old) (W.contents out.new)) }
     ensures unread { IfErr result (λ fault. fault ≡ Fault.Unread → Keeps (W.contents out.old) (W.contents out.new)) }

@@ -1,6 +1,9 @@
 // The household's bytes: page and serve. Document 01, "Bytes".
 #![tactic(auto)]
 
+ghost use Rattle.std.specs.Prelude.{MatchResult};
+ghost use Rattle.store.specs.Answers.{bare};
+ghost use Rattle.store.specs.Refusals.{refusal_number};
 ghost use Rattle.page.specs.Promises.{Pages, ServesLength, Serves};
 ghost use Rattle.page.specs.Workers.{WritesNow};
 
@@ -18,31 +21,31 @@ const LONGEST: usize = 357;
 fn write_now(store: &Store, sample: u32, scratch: &mut [u8; LONGEST]) -> Result<usize, Refusal>
     ensures { WritesNow store.now sample scratch.new result }
 {
-    if !rules::is_good(store) {
-        return Err(Refusal::BadStore);
-    }
-    let Some(sample) = Sample::numbered(sample) else {
-        return Err(Refusal::Sample);
-    };
+    rules::check(store)?;
+    let sample = Sample::numbered(sample).ok_or(Refusal::Sample)?;
     let nodes = plan_table::rows_of(store.plan).nodes;
     let lines = page_lines::gather(store, nodes, sample);
     Ok(writing::write_page(scratch, sample.number, lines.as_slice()))
+}
+
+// The sample's page as it is now, into a buffer that may be too short; or BADSTORE, SAMPLE.
+fn paged(store: &Store, sample: u32, buffer: &mut [u8]) -> Result<Answer, Refusal>
+    ensures { MatchResult result (λ answer. Pages store.now sample buffer.old answer buffer.new) (λ why. Pages store.now sample buffer.old (bare (refusal_number why)) buffer.new) }
+{
+    let mut scratch = [0; LONGEST];
+    let n = write_now(store, sample, &mut scratch)?;
+    if buffer.len() < n {
+        return Ok(Refusal::Small.with(n as u64));
+    }
+    buffer[..n].copy_from_slice(&scratch[..n]);
+    Ok(Answer::of(Answer::DONE, n as u64, 0, 0, 0))
 }
 
 // The page of a sample into the buffer: BADSTORE, SAMPLE, SMALL with the bytes needed, or DONE with the bytes written.
 pub fn page_in(store: &Store, sample: u32, buffer: &mut [u8]) -> Answer
     ensures { Pages store.now sample buffer.old result buffer.new }
 {
-    let mut scratch = [0; LONGEST];
-    let n = match write_now(store, sample, &mut scratch) {
-        Ok(n) => n,
-        Err(why) => return Answer::from(why),
-    };
-    if buffer.len() < n {
-        return Refusal::Small.with(n as u64);
-    }
-    buffer[..n].copy_from_slice(&scratch[..n]);
-    Answer::of(Answer::DONE, n as u64, 0, 0, 0)
+    paged(store, sample, buffer).unwrap_or_else(Answer::from)
 }
 
 // The same of a store by value.

@@ -69,11 +69,12 @@ pub fn gather(store: &Store, nodes: u32, sample: Sample) -> ArrayVec<PageLine, M
         let Some(place) = current[analyte as usize] else {
             continue; // never entered
         };
-        if Copy::has_value(store.kinds[place]) {
+        let copy = store.copy_at(place);
+        if Copy::has_value(copy.kind) {
             lines.push(PageLine {
                 analyte,
-                value: store.values[place],
-                stamp: store.stamps[place],
+                value: copy.value,
+                stamp: copy.stamp,
             });
         }
     }

@@ -22,7 +22,7 @@ pub struct Edge {
 }
 
 impl Edge {
-    // The edge's range holds the key: "both included".
+    // The edge's range holds the key: "both included". (A rule in its own words, no order by hand.)
     pub fn holds(self, key: u32) -> bool
         ensures { result ≡ holds self key }
     {

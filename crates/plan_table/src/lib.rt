@@ -11,7 +11,7 @@ use plan::{MOST_EDGES, MOST_NODES};
 // The number of plans.
 pub const PLANS: usize = 3;
 
-// One node's bounds, by edge. No edge:
+// One node's bounds, by edge. (Lows and highs side by side: document 01's constant table.) No edge:
 const NONE: [u32; MOST_EDGES] = [0, 0, 0, 0];
 
 // one edge, all keys:

@@ -13,7 +13,7 @@ ghost use Rattle.rules_nodes.specs.Workers.{mark_test, key_rises, used_test, unu
 use plan::rows::Rows;
 use store::{Copy, Store, columns};
 
-// A kind that there is, and a value, or 0 where the kind has none.
+// A kind that there is, and a value, or 0 where the kind has none. (A rule in its own words, no equality or order by hand.)
 #[tactic(auto, unfolding(store::specs::StoreRules::kind_test))]
 fn kind_good(copy: Copy) -> bool
     ensures { result ≡ kind_test copy }
@@ -29,7 +29,8 @@ fn mark_good(clock: u32, copy: Copy) -> bool
     kind_good(copy) && (1..clock).contains(&copy.stamp)
 }
 
-// "keys strictly rising in a node": the key at a used place is below the next one's, if there is one.
+// "keys strictly rising in a node": the key at a used place is below the next one's, if there is one. (A rule in its
+// own words, no equality or order by hand.)
 fn key_rises(keys: &[u32; Store::PLACES], end: usize, i: usize) -> bool
     requires { (i < end) × (end ≤ places) }
     ensures { result ≡ key_rises keys.now end i }
@@ -45,7 +46,7 @@ fn used_good(store: &Store, from: usize, end: usize) -> bool
     (from..end).all(|i| key_rises(&store.keys, end, i) && mark_good(store.clock, store.copy_at(i)))
 }
 
-// "unused places .. all zero": those from..end.
+// "unused places .. all zero": those from..end. (Four columns: the C interface.)
 #[tactic(auto, unfolding(store::specs::StoreRules::unused_test))]
 fn unused_good(store: &Store, from: usize, end: usize) -> bool
     requires { (from ≤ end) × (end ≤ places) }

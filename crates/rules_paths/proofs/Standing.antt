@@ -41,6 +41,7 @@ none_below over n at (m ∷ ms) h = go (eqb n m) (none_below (suc over) n at ms 
     go false e = e
 
 -- A node does not stand among larger ones.
+-- (The library's word of this name states another thing.)
 not_there : (n : ℕ) (ms : List ℕ) (above : ℕ) → ((i : ℕ) → i < length ms → n < get_or ms i 0) → stands_at n ms above ≡ false
 unfolding stands_at
 not_there n [] above h = refl

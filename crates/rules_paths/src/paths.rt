@@ -69,7 +69,7 @@ fn node_placed(store: &Store, rows: &Rows, node: u32) -> bool
     true
 }
 
-// The copies of all nodes.
+// The copies of all nodes. (Like nodes_tidy in its skeleton alone.)
 pub fn nodes_placed(store: &Store, rows: &Rows) -> bool
     requires { Walkable rows.now store.now }
     ensures { OfEachPlan rows.now (λ p. result ≡ all_below most_nodes (paths_test p store.now)) }

@@ -9,7 +9,7 @@ use crate::paths;
 use plan::rows::Rows;
 use store::{Slot, Store};
 
-// A search runs in the slot.
+// A search runs in the slot. (A rule in its own words: the mark is a number of the C interface.)
 fn runs(slot: Slot) -> bool
     ensures { result ≡ eqb slot.running running_mark }
 {

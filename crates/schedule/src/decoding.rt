@@ -39,13 +39,10 @@ fn has_two(number: u32) -> bool
 fn read_second(bytes: &[u8], number: u32, at: usize) -> Result<Read<u32>, Fault>
     ensures { got_of result ≡ second_at bytes.now number at }
 {
-    if has_two(number) {
-        wire::read_number(bytes, at)
-    } else {
-        Ok(Read { value: 0, next: at })
-    }
+    wire::read_where(has_two(number), bytes, at)
 }
 
+// (Like read_schedule in its skeleton alone.)
 // A step: its number (OP if unknown), then its own numbers.
 #[tactic(auto, unfolding(crate::specs::Schedule::step_at, wire::specs::Reading::bind))]
 fn read_step(bytes: &[u8], at: usize) -> Result<Read<Step>, Fault>
@@ -53,10 +50,7 @@ fn read_step(bytes: &[u8], at: usize) -> Result<Read<Step>, Fault>
 {
     let number = wire::read_number(bytes, at)?;
     if !is_known(number.value) {
-        return Err(Fault {
-            why: Refusal::Op,
-            at,
-        });
+        return Err(Fault::at(Refusal::Op, at));
     }
     let x = wire::read_number(bytes, number.next)?;
     let y = read_second(bytes, number.value, x.next)?;
@@ -81,10 +75,7 @@ fn read_steps(bytes: &[u8], from: usize) -> Result<Read<ArrayVec<Step, { Step::M
     // Each step tells where the next begins, so no index is counted.
     while at < bytes.len() {
         if steps.is_full() {
-            return Err(Fault {
-                why: Refusal::Many,
-                at,
-            });
+            return Err(Fault::at(Refusal::Many, at));
         }
         let read = read_step(bytes, at)?;
         steps.push(read.value);
@@ -103,10 +94,7 @@ fn read_schedule(bytes: &[u8]) -> Result<Read<Decoded>, Fault>
 {
     let plan = wire::read_number(bytes, 0)?;
     if !Store::is_plan(plan.value) {
-        return Err(Fault {
-            why: Refusal::Plan,
-            at: 0,
-        });
+        return Err(Fault::at(Refusal::Plan, 0));
     }
     let steps = read_steps(bytes, plan.next)?;
     let decoded = Decoded {
@@ -125,10 +113,7 @@ pub fn decode_into(bytes: &[u8], room: usize) -> Result<Read<Decoded>, Fault>
     ensures { schedule_of result ≡ decoded_into bytes.now room }
 {
     if room < Step::MOST {
-        return Err(Fault {
-            why: Refusal::Small,
-            at: Step::MOST,
-        });
+        return Err(Fault::at(Refusal::Small, Step::MOST));
     }
     read_schedule(bytes)
 }

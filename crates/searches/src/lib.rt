@@ -27,7 +27,7 @@ pub fn cancel_in(store: &mut Store, slot: u32) -> Answer
     slots::cancel(store, slot).unwrap_or_else(Answer::from)
 }
 
-// The same of a store by value: start,
+// The same of a store by value (public calls beside the others; docs/PROMISES.md names both): start,
 pub fn start(mut store: Store, key: u32) -> Outcome
     ensures { Starts store key result }
 {

@@ -2,10 +2,8 @@
 // A refusal leaves the store as it was. A slot's mark and an answer's number are numbers, not enums: the C interface has them in its structs.
 #![tactic(auto)]
 
-ghost use Rattle.std.specs.Prelude.{◌≡◌, ◌<◌, ◌≤◌, true, false, length, MatchOption, MatchResult};
+ghost use Rattle.std.specs.Prelude.{◌≡◌, ◌<◌, ◌≤◌, length, MatchOption, MatchResult};
 ghost use Rattle.store.specs.State.{slot_count};
-ghost use Rattle.store.specs.StoreRules.{good_store};
-ghost use Rattle.store.specs.declared.refusal.Refusal.TheVariants.{BadStore};
 ghost use Rattle.steps.specs.Promises.{Starts, Steps, Cancels};
 ghost use Rattle.steps.specs.Searches.{running, lowest_idle, start_step, cancel_step};
 ghost use Rattle.slots.specs.Workers.{RunsAt, RestsAt, ChangesBy, Steppable, StepsBy, outcome_of};
@@ -23,17 +21,6 @@ fn search_at(key: u32, node: u32, visits: u32) -> Slot
         key,
         node,
         visits,
-    }
-}
-
-// All store rules hold; else BADSTORE.
-fn check(store: &Store) -> Result<(), Refusal>
-    ensures { MatchResult result (λ _. good_store store.now ≡ true) (λ refusal. (refusal ≡ BadStore) × (good_store store.now ≡ false)) }
-{
-    if rules::is_good(store) {
-        Ok(())
-    } else {
-        Err(Refusal::BadStore)
     }
 }
 
@@ -98,11 +85,12 @@ pub fn cancelled(slots: &mut [Slot; Store::SLOTS], slot: u32) -> Result<Answer, 
     Ok(Answer::bare(Answer::DONE))
 }
 
-// Of a store that is checked first: start. BADSTORE, or SLOTS where all run.
+// Of a store that is checked first: start. BADSTORE, or SLOTS where all run. (Start and cancel stay two: each has its own worker, and one over a closure
+// would be no shorter.)
 pub fn start(store: &mut Store, key: u32) -> Result<Answer, Refusal>
     ensures { Starts store.old key (outcome_of result store.new) }
 {
-    check(store)?;
+    rules::check(store)?;
     started(&mut store.slots, key)
 }
 
@@ -110,7 +98,7 @@ pub fn start(store: &mut Store, key: u32) -> Result<Answer, Refusal>
 pub fn step(store: &mut Store, slot: u32) -> Result<Answer, Refusal>
     ensures { Steps store.old slot (outcome_of result store.new) }
 {
-    check(store)?;
+    rules::check(store)?;
     let rows = plan_table::rows_of(store.plan);
     stepped(store, rows, slot)
 }
@@ -119,6 +107,6 @@ pub fn step(store: &mut Store, slot: u32) -> Result<Answer, Refusal>
 pub fn cancel(store: &mut Store, slot: u32) -> Result<Answer, Refusal>
     ensures { Cancels store.old slot (outcome_of result store.new) }
 {
-    check(store)?;
+    rules::check(store)?;
     cancelled(&mut store.slots, slot)
 }

@@ -50,6 +50,7 @@ abbrev pub lacks : {A : Type 0} → (A → ℕ) → List A → A → Bool
 lacks key ys x = not (has key ys x)
 
 -- The number of things of a list for which a test holds.
+-- (The library's count_by counts by another recursion.)
 unfoldable pub count : {A : Type 0} → (A → Bool) → List A → ℕ
 count f [] = 0
 count f (x ∷ xs) = bit (f x) + count f xs

@@ -17,6 +17,7 @@ use Rattle.store.specs.StoreRules.{all_zero}
 none_left : (x y : ℕ) → bit_or x y ≡ 0 → x ≡ 0
 none_left x y h = omega (arith, or_add_and x y, and_le_r x y, h)
 
+-- (The library's word of this name states another thing.)
 or_none : (x y : ℕ) → eqb (bit_or x y) 0 ≡ (eqb x 0 && eqb y 0)
 or_none zero y = rw (or_zero_l y)
 or_none (suc x) y =

@@ -76,7 +76,7 @@ impl Slot {
 
     pub const RUNNING: u32 = 1;
 
-    // "all slots idle": an idle slot is all zero.
+    // "all slots idle": an idle slot is all zero. (Written out, since the mark has a name.)
     pub fn idle() -> Slot
         ensures { result ≡ idle }
     {
@@ -97,7 +97,7 @@ impl Copy {
 
     pub const LAST_KIND: u32 = Copy::RESULT;
 
-    // A copy of this kind has a value; of any other kind it holds 0.
+    // A copy of this kind has a value; of any other kind it holds 0. (A rule in its own words, no equality by hand.)
     pub fn has_value(kind: u32) -> bool
         ensures { result ≡ has_value kind }
     {
@@ -174,7 +174,7 @@ impl Store {
         Store::empty(1)
     }
 
-    // "plan 1 to 3"
+    // "plan 1 to 3". (A rule in its own words, no order by hand.)
     pub fn is_plan(plan: u32) -> bool
         ensures { result ≡ plan_number_test plan }
     {

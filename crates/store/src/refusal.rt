@@ -29,7 +29,7 @@ pub enum Refusal {
 }
 
 impl Refusal {
-    // Its answer number.
+    // Its answer number. (The one cast of the enum.)
     pub fn number(self) -> u32
         ensures { result ≡ refusal_number self }
     {

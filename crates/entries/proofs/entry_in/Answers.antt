@@ -1,5 +1,6 @@
 -- `entries::entry_in` meets its contract.
-use mathlib.Core.Path.{refl, sym, ◌∙◌}
+-- (What stands three times here is a word with its own arguments; a lemma would name as many.)
+use mathlib.Core.Path.{refl}
 use Prim.Native.Nat.{◌<◌, ◌≤◌}
 use borrow.Author.Rules.{rules}
 use native.Mathlib.Omega.{arith}
@@ -12,20 +13,22 @@ use Rattle.entries.proofs.Entering.{capacity_few, clock_out, enterable, root_ord
 use Rattle.entries.proofs.entry_in.Goals as goal
 use Rattle.entries.proofs.entry_in.Goals.{After-capacity-capacity, After-decide, In_ok-place}
 
-pub returns-then-not-is_good-clause-outcome : goal.returns-then-not-is_good-clause-outcome
-returns-then-not-is_good-clause-outcome c =
+pub returns-in_err-check-clause-outcome : goal.returns-in_err-check-clause-outcome
+returns-in_err-check-clause-outcome c =
     let a = c.args in
-    on_broken (entry a.kind a.key a.value) a.store.now (sym c.is_good.ensures ∙ c.if-not-is_good.true) (bare BADSTORE) refl
+    let w = c.in_err-check.ensures in
+    let e = on_broken (entry a.kind a.key a.value) a.store.now w.1 (bare BADSTORE) refl in
+    search (e, w.0, rules)
 
 pub returns-then-store-ge-LAST_CLOCK-clause-outcome : goal.returns-then-store-ge-LAST_CLOCK-clause-outcome
 returns-then-store-ge-LAST_CLOCK-clause-outcome c =
     let a = c.args in
-    clock_out a.store.now (sym c.is_good.ensures ∙ c.if-not-is_good.false) a.kind a.key a.value (omega arith)
+    clock_out a.store.now c.in_ok-check.ensures a.kind a.key a.value (omega arith)
 
 -- Past the checks of the rules and of the clock, an entry can be decided.
 ready : (c : After-capacity-capacity) → Enterable c.args.store.now c.capacity-capacity.result
 ready c =
-    enterable c.args.store.now (sym c.is_good.ensures ∙ c.if-not-is_good.false) (omega arith) c.rows_of.result.now c.rows_of.ensures
+    enterable c.args.store.now c.in_ok-check.ensures (omega arith) c.rows_of.result.now c.rows_of.ensures
     c.capacity-capacity.result c.capacity-capacity.ensures
 
 pub decide-requires : goal.decide-requires

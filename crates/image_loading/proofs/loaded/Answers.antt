@@ -1,4 +1,5 @@
 -- `image_loading::loaded` meets its contract.
+-- (What stands three times here is a word with its own arguments; a lemma would name as many.)
 use mathlib.Core.Path.{◌≡◌, sym}
 use native.Mathlib.Omega.{arith}
 use Rattle.std.proofs.lemmas.Result.{err_from_is_err_and}

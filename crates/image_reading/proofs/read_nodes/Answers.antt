@@ -1,4 +1,5 @@
 -- `image_reading::read_nodes` meets its contract.
+-- (What stands three times here is a word with its own arguments; a lemma would name as many.)
 use mathlib.Core.Path.{refl}
 use borrow.Author.Rules.{rules}
 use Prim.Native.Nat.{◌<◌, ◌≤◌}

@@ -1,4 +1,5 @@
 -- `marks::mark` meets its contract.
+-- (What stands three times here is a word with its own arguments; a lemma would name as many.)
 use mathlib.Core.Path.{refl}
 use Prim.Native.Nat.{◌%◌, ◌<◌}
 use native.Mathlib.Omega.{arith}

@@ -1,26 +1,21 @@
 -- `merges::count_held` meets its contract.
-use mathlib.Core.Path.{sym, ◌∙◌}
-use native.Mathlib.Omega.{arith}
-use Rattle.merges.proofs.Deciding.{count_one, count_none, count_end}
+use Rattle.std.proofs.Common.{rules}
+use Rattle.std.proofs.iter.runs.Made.{chains}
+use Rattle.std.proofs.lemmas.Iterator.{YieldsList-from_slice}
+use Rattle.std.proofs.lemmas.Iterator.Adapters.{serves_from_places}
+use Rattle.store.specs.Layout.{places}
+use Rattle.merges.proofs.Deciding.{held_count, within_at}
 use Rattle.merges.proofs.count_held.Goals as goal
-use Rattle.merges.proofs.count_held.Goals.{then-holds, else-holds}
 
-pub loop-place-preserved : goal.loop-place-preserved
-loop-place-preserved c =
-    let a = c.args in
-    let i = c.loop-place.invariant in
-    elim c.if-holds.branch [
-      | then-holds w ↦ (
-        omega (arith, w.count-is),
-        omega (arith, w.count-is, i.1, count_one a.keys.now a.edge a.list.now c.loop-place.place-index (omega arith) (sym c.holds.ensures ∙ w.if-holds.true)),
-      )
-      | else-holds w ↦ (
-        omega (arith, w.count-is),
-        omega (arith, w.count-is, i.1, count_none a.keys.now a.edge a.list.now c.loop-place.place-index (omega arith) (sym c.holds.ensures ∙ w.if-holds.false)),
-      )
-    ]
+-- Each number of the list is a place.
+pub count-requires-clause-can : goal.count-requires-clause-can
+count-requires-clause-can c =
+    let list = c.args.list.now in (
+      tt,
+      tt,
+      serves_from_places (YieldsList-from_slice list (search rules)) (λ x q r. search (rules, chains))
+          (λ x k h e. let low = within_at list places c.requires x.now k h e in search (rules, chains)),
+    )
 
 pub returns : goal.returns
-returns c =
-    let a = c.args in
-    omega (arith, c.loop-place.invariant.1, count_end a.keys.now a.edge a.list.now c.loop-place.place-index (omega arith))
+returns c = search (rules, chains, held_count)

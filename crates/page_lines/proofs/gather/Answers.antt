@@ -16,7 +16,7 @@ pub loop-analyte-preserved : goal.loop-analyte-preserved
 loop-analyte-preserved c =
     gather_turns _ _ _ _ _ _ _ (omega arith) (λ p w. c.current_places-current.ensures.copies p w _ (omega arith)) c.loop-analyte.invariant
     (elim c.if-has_value.branch [
-      | then-has_value w ↦ valued c.in-Some.is (search rules) (same_items w.lines-is ∙ w.push.ensures.items)
+      | then-has_value w ↦ valued c.in-Some.is (search rules) (rw c.copy_at-copy.ensures at (same_items w.lines-is ∙ w.push.ensures.items))
       | else-has_value w ↦ other c.in-Some.is (search rules) (same_items w.lines-is)
     ])
 

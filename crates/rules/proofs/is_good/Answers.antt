@@ -1,4 +1,5 @@
 -- `rules::is_good` meets its contract.
+-- (What stands three times here is a word with its own arguments; a lemma would name as many.)
 use Rattle.std.proofs.Common.{◌≡◌, length, true, sym, ◌∙◌, rules}
 use Rattle.store.specs.State.{slot_count}
 use Rattle.store.specs.Layout.{plan_of, Shape}

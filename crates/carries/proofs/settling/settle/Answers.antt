@@ -1,5 +1,6 @@
 -- `carries::settling::settle` meets its contract.
-use mathlib.Core.Path.{refl, sym, ◌∙◌}
+use mathlib.Core.Path.{refl, sym}
+use borrow.Author.Rules.{rules}
 use Rattle.store.specs.Answers.{BADSTORE, bare}
 use Rattle.store.proofs.Lifting.{on_broken}
 use Rattle.steps.specs.Carries.{carry_step}
@@ -8,28 +9,31 @@ use Rattle.carries.proofs.Carrying.{no_node, no_such_edge, carriable}
 use Rattle.carries.proofs.settling.settle.Goals as goal
 use Rattle.carries.proofs.settling.settle.Goals.{After-capacity}
 
-pub returns-then-not-is_good : goal.returns-then-not-is_good
-returns-then-not-is_good c =
+pub returns-in_err-check : goal.returns-in_err-check
+returns-in_err-check c =
     let a = c.args in
-    on_broken (carry_step a.node a.edge) a.store.now (sym c.is_good.ensures ∙ c.if-not-is_good.true) (bare BADSTORE) refl
+    let w = c.in_err-check.ensures in
+    let e = on_broken (carry_step a.node a.edge) a.store.now w.1 (bare BADSTORE) refl in
+    search (e, w.0, rules)
 
 pub returns-then-rows-node : goal.returns-then-rows-node
 returns-then-rows-node c =
     let a = c.args in
-    no_node a.store.now (sym c.is_good.ensures ∙ c.if-not-is_good.false) a.node a.edge c.rows_of-rows.result.now c.rows_of-rows.ensures c.if-rows-node.true
+    no_node a.store.now c.in_ok-check.ensures a.node a.edge c.rows_of-rows.result.now c.rows_of-rows.ensures c.if-rows-node.true
 
-pub returns-in_default : goal.returns-in_default
-returns-in_default c =
+pub returns-in_err-e : goal.returns-in_err-e
+returns-in_err-e c =
     let a = c.args in
-    no_such_edge a.store.now (sym c.is_good.ensures ∙ c.if-not-is_good.false) a.node a.edge c.rows_of-rows.result.now c.rows_of-rows.ensures c.if-rows-node.false
-    (sym c.in_default.ensures)
+    let none = rw c.in_err-e.ensures.ok_part at (sym c.edge.ensures) in
+    let e = no_such_edge a.store.now c.in_ok-check.ensures a.node a.edge c.rows_of-rows.result.now c.rows_of-rows.ensures c.if-rows-node.false none in
+    search (e, rules)
 
 -- The edge that is asked for.
-known : (c : After-capacity) → Carriable c.args.store.now c.args.node c.args.edge c.in-Some.e c.capacity.result
+known : (c : After-capacity) → Carriable c.args.store.now c.args.node c.args.edge c.in_ok-e.e c.capacity.result
 known c =
     let a = c.args in
-    carriable a.store.now (sym c.is_good.ensures ∙ c.if-not-is_good.false) a.node a.edge c.rows_of-rows.result.now c.rows_of-rows.ensures c.if-rows-node.false
-    c.in-Some.e (sym c.in-Some.ensures) c.capacity.result c.capacity.ensures
+    carriable a.store.now c.in_ok-check.ensures a.node a.edge c.rows_of-rows.result.now c.rows_of-rows.ensures c.if-rows-node.false
+    c.in_ok-e.e (rw c.in_ok-e.ensures.ok_part at (sym c.edge.ensures)) c.capacity.result c.capacity.ensures
 
 pub along-requires : goal.along-requires
 along-requires c = (c.args.edge, known (goal.at.along-requires c).After-capacity)

@@ -1,28 +1,26 @@
 -- `image_writing::lengths::nodes_length` meets its contract.
-use mathlib.Core.Path.{◌≡◌}
-use Prim.Native.Nat.{◌+◌, ◌-◌}
-use native.Mathlib.Omega.{arith}
-use lib.ListN.{length}
-use Rattle.lists.specs.Indexed.{tabulate}
+use Rattle.std.proofs.Common.{ℕ, ◌∙◌, rules, arith, length}
+use borrow.Author.Tests.{tests}
+use Rattle.std.proofs.lemmas.Iterator.{YieldsList-from_range, YieldsList-from_map}
+use Rattle.std.proofs.lemmas.Iterator.Consumers.{sum_by_from_yields_List, fits_by_from_yields_list}
+use Rattle.std.specs.List.{range_with_len}
 use Rattle.store.specs.Layout.{node_of}
-use Rattle.image_writing.specs.Image.{nodes_bytes, nodes_in}
-use Rattle.image_writing.proofs.ImageLengths.{nodes_in_short, nodes_count, nodes_counted_all}
+use Rattle.image_writing.specs.Image.{node_bytes}
+use Rattle.image_writing.proofs.ImageLengths.{nodes_in_short, nodes_sum}
 use Rattle.image_writing.proofs.lengths.nodes_length.Goals as goal
-use Rattle.image_writing.proofs.lengths.nodes_length.Goals.{After-node_length-sum}
 
--- The invariant after one more node.
-turn : (c : After-node_length-sum)
-    → c.loop-node.sum + c.node_length-sum.result + length (nodes_bytes (tabulate (c.loop-node.node + 1) (c.args.nodes - (c.loop-node.node + 1)) (node_of c.args.store.now)))
-    ≡ length (nodes_bytes (nodes_in c.args.store.now c.args.nodes))
-turn c =
-    nodes_count (node_of c.args.store.now) c.args.nodes c.loop-node.sum c.loop-node.node c.loop-node.invariant c.loop-node-test.true c.node_length-sum.ensures
-
-pub overflow_add-sum : goal.overflow_add-sum
-overflow_add-sum c =
-    omega (arith, turn c, nodes_in_short c.args.store.now c.args.nodes c.requires.0 c.requires.1)
-
-pub loop-node-preserved : goal.loop-node-preserved
-loop-node-preserved c = turn c
+pub sum-requires-clause-fits : goal.sum-requires-clause-fits
+sum-requires-clause-fits c =
+    let a = c.args in
+    let long = λ (k : ℕ). length (node_bytes (node_of a.store.now k)) in
+    fits_by_from_yields_list long (range_with_len 0 a.nodes) c.map.result _
+    (YieldsList-from_map _ long (YieldsList-from_range 0 a.nodes a.nodes c.map.ensures.source (omega arith)) c.map.ensures.closure (λ x r q k. search (rules, tests)))
+    (omega (arith, nodes_sum (node_of a.store.now) 0 a.nodes, nodes_in_short a.store.now a.nodes c.requires.0 c.requires.1))
 
 pub returns : goal.returns
-returns c = nodes_counted_all (node_of c.args.store.now) c.args.nodes c.loop-node.sum c.loop-node.node c.loop-node.invariant c.loop-node-test.false
+returns c =
+    let a = c.args in
+    let long = λ (k : ℕ). length (node_bytes (node_of a.store.now k)) in
+    sum_by_from_yields_List long (range_with_len 0 a.nodes) c.map.result c.sum.result c.sum.ensures.ran
+    (YieldsList-from_map _ long (YieldsList-from_range 0 a.nodes a.nodes c.map.ensures.source (omega arith)) c.map.ensures.closure (λ x r q k. search (rules, tests)))
+    ∙ nodes_sum (node_of a.store.now) 0 a.nodes

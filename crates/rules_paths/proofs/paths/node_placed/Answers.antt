@@ -1,4 +1,5 @@
 -- `rules_paths::paths::node_placed` meets its contract.
+-- (What stands three times here is a word with its own arguments; a lemma would name as many.)
 use Rattle.std.proofs.Common.{◌≡◌, ◌+◌, ◌-◌, ◌*◌, ◌∙◌, refl, sym, arith}
 use Rattle.lists.proofs.Tabulating.{all_stop, all_turn, all_end}
 use Rattle.store.specs.Layout.{width, count_of}

@@ -1,4 +1,5 @@
 -- `rules_paths::paths::stamp_below` meets its contract.
+-- (What stands three times here is a word with its own arguments; a lemma would name as many.)
 use Rattle.std.proofs.Common.{◌≡◌, ◌+◌, ◌-◌, ◌<◌, sym, ◌∙◌, arith}
 use Rattle.plan.specs.Sizes.{most_nodes}
 use Rattle.plan.proofs.RowsLent.{next_here}

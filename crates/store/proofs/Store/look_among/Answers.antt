@@ -1,4 +1,5 @@
 -- `store::Store::look_among` meets its contract.
+-- (What stands three times here is a word with its own arguments; a lemma would name as many.)
 use mathlib.Core.Path.{sym, ap, ◌∙◌}
 use Rattle.std.specs.Prelude.{Some}
 use Rattle.store.specs.Copies.{found_of}

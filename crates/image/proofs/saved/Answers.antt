@@ -1,19 +1,23 @@
--- `image::save_in` meets its contract.
-use mathlib.Core.Path.{◌≡◌, sym, ◌∙◌}
+-- `image::saved` meets its contract.
+use mathlib.Core.Path.{◌≡◌, refl}
 use mathlib.Core.Bool.{true}
+use borrow.Author.Rules.{rules}
 use native.Mathlib.Omega.{arith}
 use Rattle.store.specs.StoreRules.{good_store}
 use Rattle.store.proofs.GoodNodes.{counts_fit}
 use Rattle.image.proofs.SaveWays.{save_bad, good_nodes, save_small, save_done}
-use Rattle.image.proofs.save_in.Goals as goal
-use Rattle.image.proofs.save_in.Goals.{After-rows_of}
+use Rattle.image.proofs.saved.Goals as goal
+use Rattle.image.proofs.saved.Goals.{After-rows_of}
 
 -- Past the first test the store is good.
 good : (c : After-rows_of) → good_store c.args.store.now ≡ true
-good c = sym c.is_good.ensures ∙ c.if-not-is_good.false
+good c = c.in_ok-check.ensures
 
-pub returns-then-not-is_good : goal.returns-then-not-is_good
-returns-then-not-is_good c = save_bad c.args.store.now c.args.buffer.now (sym c.is_good.ensures ∙ c.if-not-is_good.true) c.from.ensures
+pub returns-in_err-check : goal.returns-in_err-check
+returns-in_err-check c =
+    let w = c.in_err-check.ensures in
+    let e = save_bad c.args.store.now c.args.buffer.now w.1 refl in
+    search (e, w.0, rules)
 
 pub image_length-needed-requires : goal.image_length-needed-requires
 image_length-needed-requires c =
