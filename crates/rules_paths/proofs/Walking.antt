@@ -7,7 +7,8 @@ use borrow.Author.Tests.{eq-eqb, ne_eqb}
 use Rattle.plan.specs.Plan.{Hop}
 use Rattle.std.specs.Prelude.{Some, None}
 use Rattle.plan.specs.Plan.{Plan, size, next, walk, path_from, path}
-use Rattle.rules_paths.specs.Workers.{place_from}
+use Rattle.plan.specs.PlanRules.{PlanRules}
+use Rattle.rules_paths.specs.Workers.{place_from, nodes_above}
 
 -- A path is a walk from the root, of at most as many nodes as the plan has.
 pub path-walk : (p : Plan) (k left : ℕ) → left ≡ size p → path p k ≡ walk p k left (Some 0)
@@ -54,3 +55,14 @@ module _ (p : Plan) (k left : ℕ) (hop : Hop) where
         → place_from over node (walk p k left hop) ≡ place_from (suc over) node (walk p k (left - 1) (next p n k))
     unfolding place_from
     place_later n l e h = rw (walk_goes n l e, ne_eqb node n h)
+
+-- The root is the first node of each path: its place is 0, and any other node's is among the nodes after it, counted from 1 on.
+module _ (p : Plan) (rules : PlanRules p) (k node : ℕ) where
+  some_node : 0 < size p
+  some_node = let within = rules.nodes_within in omega arith
+
+  pub root_here : node ≡ 0 → nodes_above node (path p k) ≡ Some 0
+  root_here h = rw (path-walk p k (size p) refl) (place_here p k (size p) (Some 0) node 0 0 some_node refl h)
+
+  pub root_later : (node ≡ 0 → ⊥) → nodes_above node (path p k) ≡ place_from 1 node (walk p k (size p - 1) (next p 0 k))
+  root_later h = rw (path-walk p k (size p) refl) (place_later p k (size p) (Some 0) node 0 0 some_node refl h)

@@ -11,12 +11,16 @@ ghost use Rattle.rules_paths.specs.Workers.{Walkable, nodes_above, stamp_below, 
 use plan::rows::Rows;
 use store::Store;
 
-// How many nodes of the key's path stand above the node, if it stands on the path.
+// How many nodes of the key's path stand above the node, if it stands on the path. (The root stands on each path, and is asked first: the compiler
+// then reads its edges once for all copies.)
 pub fn nodes_above(rows: &Rows, key: u32, node: u32) -> Option<u32>
     ensures { OfEachPlan rows.now (λ p. result ≡ nodes_above node (path p key)) }
 {
-    let mut at = 0;
-    for above in 0..rows.nodes {
+    if node == 0 {
+        return Some(0);
+    }
+    let mut at = rows.next(0, key)?;
+    for above in 1..rows.nodes {
         if node == at {
             return Some(above);
         }
@@ -30,15 +34,15 @@ fn stamp_below(store: &Store, rows: &Rows, node: u32, key: u32) -> u32
     requires { Walkable rows.now store.now }
     ensures { OfEachPlan rows.now (λ p. result ≡ stamp_below p store.now node key) }
 {
-    let mut at = node;
+    let mut next = rows.next(node, key);
     for _ in 0..rows.nodes {
-        let Some(next) = rows.next(at, key) else {
+        let Some(at) = next else {
             return 0;
         };
-        if let Some(copy) = store.look_in(next, key) {
+        if let Some(copy) = store.look_in(at, key) {
             return copy.stamp;
         }
-        at = next;
+        next = rows.next(at, key);
     }
     0
 }

@@ -1,15 +1,14 @@
 -- The test that a part of a column is all zero, by the bits of its places laid together.
-use mathlib.Core.Path.{◌≡◌, ap, ◌∙◌}
+use mathlib.Core.Path.{◌≡◌}
 use mathlib.Core.Bool.{true, ◌&&◌, and_assoc}
 use mathlib.Core.List.{List}
-use Prim.Native.Nat.{ℕ, zero, suc, ◌+◌, ◌-◌, ◌<◌, ◌≤◌}
+use Prim.Native.Nat.{ℕ, zero, suc, ◌+◌, ◌<◌, ◌≤◌}
 use native.Mathlib.Numerals.{add-one}
 use native.Mathlib.Omega.{arith}
 use lib.Bits.{bit_or, or_zero_l, or_add_and, and_le_r}
 use lib.Dec.{eqb}
-use lib.ListN.{length, take, drop, get_or, drop_of_length-le}
-use lib.Seq.{slice, drop-cons}
-use Rattle.std.proofs.lemmas.List.{drop-take}
+use lib.ListN.{length, take, get_or, length-take, drop_of_length-le}
+use lib.Seq.{slice, slice-cons}
 use borrow.Author.Tests.{ne_eqb}
 use Rattle.store.specs.StoreRules.{all_zero}
 
@@ -24,20 +23,16 @@ or_none (suc x) y =
     let some : bit_or (suc x) y ≡ 0 → ⊥ = λ h. omega (arith, none_left (suc x) y h) in
     rw (ne_eqb _ _ some, ne_eqb (suc x) 0 (λ h. omega (arith, h)))
 
-module _ (l : List ℕ) (i : ℕ) where
-  pub zero_turn : (seen : ℕ) → i < length l
-      → (eqb (bit_or seen (get_or l i 0)) 0 && all_zero (drop (i + 1) l)) ≡ (eqb seen 0 && all_zero (drop i l))
+module _ (l : List ℕ) (i end : ℕ) where
+  pub zero_turn : (seen : ℕ) → i < end → end ≤ length l
+      → (eqb (bit_or seen (get_or l i 0)) 0 && all_zero (slice (i + 1) end l)) ≡ (eqb seen 0 && all_zero (slice i end l))
   unfolding all_zero
-  zero_turn seen p =
-      rw (drop-cons l i 0 p, add-one, or_none seen (get_or l i 0))
-      (and_assoc (eqb seen 0) (eqb (get_or l i 0) 0) (all_zero (drop (suc i) l)))
+  zero_turn seen p q =
+      rw (slice-cons i end l 0, add-one, or_none seen (get_or l i 0))
+      (and_assoc (eqb seen 0) (eqb (get_or l i 0) 0) (all_zero (slice (suc i) end l)))
 
-  pub zero_end : length l ≤ i → all_zero (drop i l) ≡ true
+  pub zero_end : end ≤ i → all_zero (slice i end l) ≡ true
   unfolding all_zero
-  zero_end p = rw (drop_of_length-le l p)
-
--- A part of a column, taken from its first place on.
-pub part_is : (from end : ℕ) (l : List ℕ) → from ≤ end → slice from end l ≡ take (end - from) (drop from l)
-part_is from end l o =
-    let e : end ≡ from + (end - from) = omega arith in
-    ap (λ (n : ℕ). drop from (take n l)) e ∙ drop-take from (end - from) l
+  zero_end p =
+      let z : length (take end l) ≤ i = simp length-take (omega arith) in
+      rw (drop_of_length-le (take end l) z)

@@ -85,14 +85,15 @@ pub fn open(column: &mut [u32; Store::PLACES], at: usize, end: usize, number: u3
     column[at] = number;
 }
 
-// The places from..end of the column are all zero: their bits are laid together, with no way out before the end.
+// The places from..end of the column are all zero: their bits are laid together, with no way out before the end. (By index: of a slice's items the
+// compiler does not see that they are few, and the check of a fresh store then takes a quarter longer.)
 pub fn all_zero(column: &[u32; Store::PLACES], from: usize, end: usize) -> bool
     requires { (from ≤ end) × (end ≤ places) }
     ensures { result ≡ all_zero (slice from end column.now) }
 {
     let mut seen = 0;
-    for number in &column[from..end] {
-        seen |= *number;
+    for i in from..end {
+        seen |= column[i];
     }
     seen == 0
 }

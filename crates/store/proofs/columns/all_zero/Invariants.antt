@@ -2,10 +2,10 @@
 use mathlib.Core.Path.{◌≡◌}
 use mathlib.Core.Bool.{◌&&◌}
 use lib.Dec.{eqb}
-use lib.ListN.{drop}
+use lib.Seq.{slice}
 use Rattle.store.specs.StoreRules.{all_zero}
 use Rattle.store.proofs.columns.all_zero.Given as goal
 
 -- What was seen and what is still to see decide.
-abbrev pub invariant-loop-number : goal.invariant-loop-number
-invariant-loop-number l = (eqb l.seen 0 && all_zero (drop l.number-index l.number-items)) ≡ all_zero l.number-items
+abbrev pub invariant-loop-i : goal.invariant-loop-i
+invariant-loop-i l = (eqb l.seen 0 && all_zero (slice l.i l.end l.column)) ≡ all_zero (slice l.from l.end l.column)
