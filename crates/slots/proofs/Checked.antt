@@ -8,8 +8,8 @@ use native.Mathlib.Omega.{arith}
 use lib.ListN.{get_or}
 use Rattle.std.specs.Prelude.{Result, Err}
 use Rattle.plan.specs.declared.rows.Rows.{Rows}
-use Rattle.plan.specs.Plan.{Plan, size}
-use Rattle.plan.specs.PlanArrays.{RowsOf, RowsOfPlan, rows_of}
+use Rattle.plan.specs.Plan.{Plan}
+use Rattle.plan.specs.PlanArrays.{rows_of}
 use Rattle.plan.proofs.PathLaws.{path_within}
 use Rattle.plan_table.specs.PlanTable.{plan_numbered}
 use Rattle.store.specs.declared.Answer.{Answer}
@@ -27,6 +27,7 @@ use Rattle.store.proofs.Lifting.{plan_good, state_good, good_ordered, good_back,
 use Rattle.steps.specs.Searches.{step_step}
 use Rattle.steps.proofs.LineSteps.{Still, step_still}
 use Rattle.steps.proofs.OnPaths.{on_path_in_plan}
+use Rattle.looks.proofs.Descending.{own_count}
 use Rattle.slots.specs.Workers.{with_slots, outcome_of, Moved, moved, moved_by, ChangesBy, Steppable, SearchesIn, StepsBy}
 
 -- A bad store is refused.
@@ -83,21 +84,10 @@ module _ (z : Store) (good : good_store z ≡ true) where
   changes_out f still r after d = moved_out f still r after (d (plan_of z) (state_of z).clock (state_of z).nodes)
 
   -- and a step by the rows of the store's plan.
-  own_rows : (rows : Rows) → RowsOfPlan (plan_of z) rows → RowsOf (plan_of z) (size (plan_of z)) rows.counts rows.lows rows.highs rows.targets
-  own_rows rows has =
-      record {
-        rules = has.rules;
-        nodes_are = refl;
-        edges_are = has.edges_are;
-        lows_are = has.lows_are;
-        highs_are = has.highs_are;
-        targets_are = has.targets_are;
-      }
-
   pub steps_out : (i : ℕ) (rows : Rows) → rows ≡ rows_of (plan_numbered z.plan) → (r : Result Answer Refusal) (after : Store)
       → StepsBy rows z i r after → outcome_of r after ≡ on_store (step_step i) z
   unfolding state_of
   steps_out i rows e r after d =
       ap (outcome_of r) d.slots_alone
       ∙ moved_out (step_step i) (step_still i (plan_of z) (state_of z)) r after.slots
-      (d.does (plan_of z) z.clock (own_rows rows (rows_here z (plan_good z good) rows e)) good_searches)
+      (d.does (plan_of z) z.clock (own_count (rows_here z (plan_good z good) rows e)) good_searches)
