@@ -50,7 +50,7 @@ fn loaded(into: &mut Store, bytes: &[u8], head: Head, at: usize) -> Result<u64, 
 }
 
 // A refused load: its number and offset, and a fresh store of plan 1 in place of what was read.
-fn refuse(into: &mut Store, fault: Fault) -> Answer
+pub fn refuse(into: &mut Store, fault: Fault) -> Answer
     ensures { record { answer = result; store = into.new } ≡ refused_load (refusal_number fault.why) fault.at }
 {
     *into = Store::refused();
