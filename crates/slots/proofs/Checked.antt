@@ -11,6 +11,7 @@ use Rattle.plan.specs.declared.rows.Rows.{Rows}
 use Rattle.plan.specs.Plan.{Plan, size}
 use Rattle.plan.specs.PlanArrays.{RowsOf, RowsOfPlan, rows_of}
 use Rattle.plan.proofs.PathLaws.{path_within}
+use Rattle.plan.proofs.RowsLent.{own_count}
 use Rattle.plan_table.specs.PlanTable.{plan_numbered}
 use Rattle.store.specs.declared.Answer.{Answer}
 use Rattle.store.specs.declared.Slot.{Slot}
@@ -84,15 +85,7 @@ module _ (z : Store) (good : good_store z ≡ true) where
 
   -- and a step by the rows of the store's plan.
   own_rows : (rows : Rows) → RowsOfPlan (plan_of z) rows → RowsOf (plan_of z) (size (plan_of z)) rows.counts rows.lows rows.highs rows.targets
-  own_rows rows has =
-      record {
-        rules = has.rules;
-        nodes_are = refl;
-        edges_are = has.edges_are;
-        lows_are = has.lows_are;
-        highs_are = has.highs_are;
-        targets_are = has.targets_are;
-      }
+  own_rows rows has = own_count has
 
   pub steps_out : (i : ℕ) (rows : Rows) → rows ≡ rows_of (plan_numbered z.plan) → (r : Result Answer Refusal) (after : Store)
       → StepsBy rows z i r after → outcome_of r after ≡ on_store (step_step i) z

@@ -11,17 +11,33 @@ use Rattle.number.specs.Number.{Bytes}
 use Rattle.store.specs.declared.Answer.{Answer}
 use Rattle.store.specs.Answers.{DONE, answer}
 use Rattle.store.specs.Promises.{fresh_outcome}
-use Rattle.wire.specs.Reading.{got, fault}
+use Rattle.wire.specs.Reading.{Got, got, fault}
 use Rattle.wire.proofs.Buffers.{done_buffer, done_wrote, wrote_end}
 use Rattle.lines.specs.Text.{answer_text, most_text}
 use Rattle.lines.specs.Promises.{Prints}
 use Rattle.schedule.specs.declared.Step.{Step}
-use Rattle.schedule.specs.Schedule.{most_steps, Schedule, schedule_at, decode_answer, decode_list}
+use Rattle.schedule.specs.Schedule.{most_steps, Schedule, schedule_at, schedule_answer, records_of, decode_answer, decode_list}
+use Rattle.schedule.specs.Running.{no_steps}
 use Rattle.schedule.specs.Workers.{decoded_into}
-use Rattle.schedule.proofs.ScheduleLaws.{schedule_refused}
+use Rattle.schedule.proofs.ScheduleLaws.{schedule_few, schedule_refused}
 use Rattle.transcript.specs.Transcript.{steps_text, decoded_text, schedule_text, most_transcript}
 use Rattle.transcript.specs.Promises.{Transcribes}
 use Rattle.transcript.proofs.TextWriting.{front_text}
+
+-- ---- an accepted schedule has at most 256 steps
+
+answer_few : (s : List ℕ) → Bytes s → (schedule_answer (schedule_at s)).number ≡ DONE → (schedule_answer (schedule_at s)).a ≤ most_steps
+answer_few s bytes = go (schedule_at s) refl (schedule_few s)
+  where
+    go : (g : Got Schedule) → schedule_at s ≡ g → length (records_of g) ≤ most_steps → (schedule_answer g).number ≡ DONE → (schedule_answer g).a ≤ most_steps
+    go (got d end) e few h = few
+    go (fault number at) e few h = let k = (schedule_refused s bytes e).refusal in absurd (omega (arith, h))
+
+pub decode_few : (s : List ℕ) → Bytes s → {r : Answer} → r ≡ decode_answer s no_steps → r.number ≡ DONE → r.a ≤ most_steps
+unfolding decode_answer
+decode_few s bytes {r} e h =
+    let q : r ≡ schedule_answer (schedule_at s) = e in
+    rw q (answer_few s bytes (rw q at h))
 
 -- ---- the text
 
