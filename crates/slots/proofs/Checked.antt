@@ -42,7 +42,7 @@ module _ (z : Store) (good : good_store z ≡ true) where
   unfolding state_of
   on_its_path i h runs = ((state_good z good).running_searches_on_their_paths i h runs).1
 
-  good_searches : SearchesIn (plan_of z) z.slots
+  pub good_searches : SearchesIn (plan_of z) z.slots
   good_searches i h runs =
       let q = get_or z.slots i idle in
       on_path_in_plan (plan_of z) (plan_good z good) q.key q.node q.visits (on_its_path i h runs)
