@@ -269,8 +269,8 @@ module _ (z : Store) (good : good_store z ≡ true) (n i : ℕ) (d : IsEdge (pla
             outcome = carry_is a left a-is left_is;
           }
 
--- The same by what is known of the edge.
-module _ {z : Store} {n i : ℕ} {e : Edge} {capacity : ℕ} (w : Carriable z n i e capacity) where
+-- The same by the counts and the keys of a store, and an edge of its plan.
+module _ {s z : Store} {n i : ℕ} {e : Edge} {capacity : ℕ} (w : Carriable s n i e capacity z) where
   -- The node and the target are nodes of a store,
   pub source_few : n < most_nodes
   source_few = node_few z w.good n i w.is_edge e w.edge_is
@@ -279,30 +279,35 @@ module _ {z : Store} {n i : ℕ} {e : Edge} {capacity : ℕ} (w : Carriable z n 
   goal_few = target_few z w.good n i w.is_edge e w.edge_is
 
   -- hold no more copies than a node has places,
-  pub fits : (m : ℕ) → m < most_nodes → count_of z m ≤ width
-  fits m h = counts_fit z w.good m h
+  pub fits : (m : ℕ) → m < most_nodes → count_of s m ≤ width
+  fits m h = rw (← w.counts_are) (counts_fit z w.good m h)
 
   -- and can be merged.
-  pub ready : Ready z.keys capacity (copies_at z n) (copies_at z e.target)
-  ready = store_ready z w.good n i w.is_edge e w.edge_is capacity w.capacity_is
+  pub ready : Ready s.keys capacity (copies_at s n) (copies_at s e.target)
+  ready = rw (← w.counts_are, ← w.keys_are) (store_ready z w.good n i w.is_edge e w.edge_is capacity w.capacity_is)
 
-  module _ {lists : Lists} (decided : Decided (places_merged z.keys capacity e (copies_at z n) (copies_at z e.target)) lists) where
+  module _ {lists : Lists} (decided : Decided (places_merged s.keys capacity e (copies_at s n) (copies_at s e.target)) lists) where
+    its_decided : Decided (places_merged z.keys capacity e (copies_at z n) (copies_at z e.target)) lists
+    its_decided = rw (w.counts_are, w.keys_are) decided
+
     -- The node's count falls, the target's rises, by no more.
     pub counts_move : let kept = length lists.stay.items in let got = length lists.target.items in
-        (kept ≤ count_of z n) × (count_of z e.target ≤ got) × (got - count_of z e.target ≤ count_of z n - kept)
-    counts_move = counts_go z w.good n i w.is_edge e w.edge_is capacity w.capacity_is decided
+        (kept ≤ count_of s n) × (count_of s e.target ≤ got) × (got - count_of s e.target ≤ count_of s n - kept)
+    counts_move = rw (← w.counts_are) (counts_go z w.good n i w.is_edge e w.edge_is capacity w.capacity_is its_decided)
 
     -- What stays is in the column.
     pub stay_there : Within lists.stay.items places
-    stay_there = stays_within z w.good n i w.is_edge e w.edge_is capacity w.capacity_is decided
+    stay_there = stays_within z w.good n i w.is_edge e w.edge_is capacity w.capacity_is its_decided
 
     -- What is settled along the edge.
     pub settled_along : (a : Answer) (left : ℕ)
         → (let kept = length lists.stay.items in let got = length lists.target.items in
-        a ≡ answer DONE (count_of z n - kept) (count_of z n - kept - (got - count_of z e.target)) left 0)
-        → left ≡ count_held (number_in z.keys) e lists.stay.items
-        → Settles z n i lists (record { answer = a; node = n; copies = copies_at z n; target = e.target; start = width * e.target })
-    settled_along = store_settled z w.good n i w.is_edge e w.edge_is capacity w.capacity_is decided
+        a ≡ answer DONE (count_of s n - kept) (count_of s n - kept - (got - count_of s e.target)) left 0)
+        → left ≡ count_held (number_in s.keys) e lists.stay.items
+        → Settles z n i lists (record { answer = a; node = n; copies = copies_at s n; target = e.target; start = width * e.target })
+    settled_along a left a-is left_is =
+        rw (← w.counts_are)
+        (store_settled z w.good n i w.is_edge e w.edge_is capacity w.capacity_is its_decided a left (rw w.counts_are a-is) (rw w.keys_are left_is))
 
 -- An edge by its number, if the rows have it, is the one there; and if they don't, there are not so many.
 numbered_some : (r : Rows) (n i : ℕ) (e : Edge) → edge_numbered (row_edges r n) i ≡ Some e
@@ -350,11 +355,13 @@ module _ (z : Store) (good : good_store z ≡ true) (n i : ℕ) (r : Rows) (r-is
 
     -- and the edge and its target's capacity, as the rows have them.
     pub carriable : (e : Edge) → edge_numbered (row_edges r n) i ≡ Some e → (capacity : ℕ) → capacity ≡ at_node r.capacities e.target
-        → Carriable z n i e capacity
+        → Carriable z n i e capacity z
     carriable e e-is capacity capacity_is =
         let found = numbered_some r n i e e-is in
         record {
           good = good;
+          counts_are = refl;
+          keys_are = refl;
           is_edge = record { node = omega (arith, its_nodes); edge = omega (arith, found.0, count_is) };
           edge_is = edge_here rows n i e found.1;
           capacity_is = capacity_is ∙ capacity_of_lem (plan_of z) (plan_good z good) r.capacities (capacities_here z r r-is) e.target;

@@ -38,7 +38,7 @@ settled_store lists r z =
       slots = z.slots;
     }
 
--- What is settled can be written in place, and is the carry's outcome.
+-- What is settled can be written in place, and is the carry's outcome, of any store.
 pub record Settles (z : Store) (n i : ℕ) (lists : Lists) (r : Settled) : Type 0 where
   pub nodes : (r.node < most_nodes) × (r.target < most_nodes)
   pub counted : (length lists.stay.items ≤ width) × (length lists.target.items ≤ width)
@@ -50,17 +50,19 @@ abbrev pub SettlesOr : Store → ℕ → ℕ → Lists → Result Settled Refusa
 SettlesOr z n i lists r =
     MatchResult r (λ s. Settles z n i lists s) (λ why. record { answer = bare (refusal_number why); store = z } ≡ carry_outcome z n i)
 
--- A good store in whose plan this is the edge i of node n, to a target of this capacity.
-pub record Carriable (z : Store) (n i : ℕ) (e : Edge) (capacity : ℕ) : Type 0 where
+-- A good store that has the counts and the keys of s, and in whose plan this is the edge i of node n, to a target of this capacity.
+pub record Carriable (s : Store) (n i : ℕ) (e : Edge) (capacity : ℕ) (z : Store) : Type 0 where
   pub good : good_store z ≡ true
+  pub counts_are : z.counts ≡ s.counts
+  pub keys_are : z.keys ≡ s.keys
   pub is_edge : IsEdge (plan_of z) n i
   pub edge_is : e ≡ edge_of (plan_of z) n i
   pub capacity_is : capacity ≡ capacity_of (plan_of z) e.target
 
--- It is one of the node's edges.
-abbrev pub HasEdge : Store → ℕ → Edge → ℕ → Type 0
-HasEdge z n e capacity = (i : ℕ) × Carriable z n i e capacity
+-- There is such a store.
+abbrev pub OfGood : Store → ℕ → Edge → ℕ → Type 0
+OfGood s n e capacity = (z : Store) × (i : ℕ) × Carriable s n i e capacity z
 
--- What is settled along it.
-abbrev pub SettlesAlong : Store → ℕ → Edge → ℕ → Lists → Settled → Type 0
-SettlesAlong z n e capacity lists r = (i : ℕ) → Carriable z n i e capacity → Settles z n i lists r
+-- What is settled for every such store.
+abbrev pub SettlesIn : Store → ℕ → Edge → ℕ → Lists → Settled → Type 0
+SettlesIn s n e capacity lists r = (z : Store) (i : ℕ) → Carriable s n i e capacity z → Settles z n i lists r

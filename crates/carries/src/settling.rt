@@ -3,7 +3,7 @@ ghost use Rattle.std.specs.Prelude.{◌≡◌, ◌-◌, ◌≤◌, ◌<◌, leng
 ghost use Rattle.plan.specs.Sizes.{most_nodes};
 ghost use Rattle.store.specs.Answers.{DONE, answer};
 ghost use Rattle.store.specs.Layout.{count_of, width};
-ghost use Rattle.carries.specs.Settlings.{copies_at, HasEdge, SettlesAlong, SettlesOr};
+ghost use Rattle.carries.specs.Settlings.{copies_at, OfGood, SettlesIn, SettlesOr};
 
 use merges::{Lists, count_held, decide};
 use moves::Span;
@@ -49,10 +49,11 @@ fn tally(had: usize, kept: usize, held: usize, got: usize, left: usize) -> Answe
     )
 }
 
-// Along an edge of a node of a good store, to a target of this capacity: what stays and what the target gets.
+// Along an edge of a node of a good store, to a target of this capacity: what stays and what the target gets. By the counts and the keys alone: it is
+// right for every good store that has these, and this edge.
 fn along(store: &Store, node: u32, edge: Edge, capacity: u32, lists: &mut Lists) -> Settled
-    requires { HasEdge store.now node edge capacity }
-    ensures { SettlesAlong store.now node edge capacity lists.new result }
+    requires { OfGood store.now node edge capacity }
+    ensures { SettlesIn store.now node edge capacity lists.new result }
 {
     let copies = copies_at(store, node);
     let held = copies_at(store, edge.target);

@@ -36,7 +36,7 @@ use Rattle.steps.specs.Entries.{put, room, refused, entered, entry}
 use Rattle.steps.specs.Promises.{Enters}
 use Rattle.steps.proofs.NodeLists.{room_has, room_free, room_none}
 use Rattle.steps.proofs.Putting.{put-replaced, put_added}
-use Rattle.entries.specs.Decisions.{Enterable, acceptance, Decides}
+use Rattle.entries.specs.Decisions.{Enterable, acceptance, DecidesFor}
 use Rattle.entries.proofs.Shifting.{copy-opened}
 
 -- Opened for one place alone, a column is stored into.
@@ -177,50 +177,69 @@ module _ (z : Store) (good : good_store z ≡ true) where
             (no_room kind k v p s early (room_none key_of (capacity_of p 0) root k missing (omega (arith, root_count))))
 
 -- The root's capacity is within a node's places.
-pub capacity_few : {z : Store} {capacity : ℕ} → Enterable z capacity → capacity ≤ width
+pub capacity_few : {s z : Store} {capacity : ℕ} → Enterable s capacity z → capacity ≤ width
 capacity_few {z = z} w =
     omega (arith, w.capacity_is, (plan_good z w.good).capacity_within 0 (root_there z w.good))
 
 -- A good store past the check of its clock, and its root's capacity by the rows of its plan.
 pub enterable : (z : Store) → good_store z ≡ true → z.clock < last_clock → (r : Rows) → r ≡ rows_of (plan_numbered z.plan) → (capacity : ℕ)
-    → capacity ≡ at_node r.capacities 0 → Enterable z capacity
+    → capacity ≡ at_node r.capacities 0 → Enterable z capacity z
 enterable z good early r r-is capacity capacity-is =
     record {
       good = good;
       early = early;
+      counts_are = refl;
+      keys_are = refl;
       capacity_is = capacity-is ∙ capacity_of_lem (plan_of z) (plan_good z good) r.capacities (capacities_here z r r-is) 0;
     }
 
 -- Its root is in order.
-pub root_ordered : {z : Store} {capacity : ℕ} → Enterable z capacity → Ordered z.counts z.keys 0
+pub root_ordered : {s z : Store} {capacity : ℕ} → Enterable s capacity z → Ordered z.counts z.keys 0
 root_ordered {z = z} w = good_ordered z w.good 0 (omega arith)
 
--- The decision for a store: its three ways.
-module _ {z : Store} {capacity : ℕ} (w : Enterable z capacity) (k at : ℕ) (place : at ≡ place_in z.keys 0 (count_of z 0) k) where
-  -- "A root copy of that key is replaced",
-  pub decides_replaced : at < count_of z 0 → get_or z.keys at 0 ≡ k → Decides z k (Some (record { at = at; end = at; count = count_of z 0 }))
-  decides_replaced held same =
-      record {
-        in_root = (omega arith, omega (arith, root_fits z w.good));
-        outcome = λ kind v. entry-replaced z w.good k at place kind v w.early held same;
-      }
+-- The decision by the counts and the keys of a store: its three ways.
+module _ {s z : Store} {capacity : ℕ} (w : Enterable s capacity z) (k at : ℕ) (place : at ≡ place_in s.keys 0 (count_of s 0) k) where
+  -- The store's own place of the key, its count and its keys are these.
+  its_place : at ≡ place_in z.keys 0 (count_of z 0) k
+  its_place = rw (w.counts_are, w.keys_are) place
 
-  module _ (lacks : at < count_of z 0 → get_or z.keys at 0 ≡ k → ⊥) where
+  its_count_lem : count_of z 0 ≡ count_of s 0
+  its_count_lem = ap (λ (l : List ℕ). get_or l 0 0) w.counts_are
+
+  there : (i : ℕ) → get_or z.keys i 0 ≡ get_or s.keys i 0
+  there i = ap (λ (l : List ℕ). get_or l i 0) w.keys_are
+
+  -- "A root copy of that key is replaced",
+  pub decides_replaced : at < count_of s 0 → get_or s.keys at 0 ≡ k → DecidesFor z k (Some (record { at = at; end = at; count = count_of s 0 }))
+  decides_replaced held same =
+      rw (← its_count_lem)
+      (record {
+        in_root = (omega arith, omega (arith, root_fits z w.good, its_count_lem));
+        outcome = λ kind v. entry-replaced z w.good k at its_place kind v w.early (omega (arith, its_count_lem)) (there at ∙ same);
+      })
+
+  module _ (lacks : at < count_of s 0 → get_or s.keys at 0 ≡ k → ⊥) where
+    its_lacks : at < count_of z 0 → get_or z.keys at 0 ≡ k → ⊥
+    its_lacks h e = lacks (omega (arith, its_count_lem)) (sym (there at) ∙ e)
+
     -- "otherwise one is added if the root has a free place".
-    pub decides_added : count_of z 0 < capacity → Decides z k (Some (record { at = at; end = count_of z 0; count = count_of z 0 + 1 }))
+    pub decides_added : count_of s 0 < capacity → DecidesFor z k (Some (record { at = at; end = count_of s 0; count = count_of s 0 + 1 }))
     decides_added h =
+        let n = its_count_lem in
         let c = w.capacity_is in
         let few = capacity_few w in
-        record {
-          in_root = (at_most z w.good k at place, omega arith);
-          outcome = λ kind v. entry_added z w.good k at place kind v w.early lacks (omega arith) (omega arith);
-        }
+        rw (← its_count_lem)
+        (record {
+          in_root = (at_most z w.good k at its_place, omega arith);
+          outcome = λ kind v. entry_added z w.good k at its_place kind v w.early its_lacks (omega arith) (omega arith);
+        })
 
     -- "FULL: root full and lacks the key"
-    pub decides_full : capacity ≤ count_of z 0 → Decides z k None
+    pub decides_full : capacity ≤ count_of s 0 → DecidesFor z k None
     decides_full h =
+        let n = its_count_lem in
         let c = w.capacity_is in
-        record { in_root = tt; outcome = λ kind v. entry_full z w.good k at place kind v w.early lacks (omega arith) }
+        record { in_root = tt; outcome = λ kind v. entry_full z w.good k at its_place kind v w.early its_lacks (omega arith) }
 
 -- An entry of a result holds the value given.
 pub enters_held : (z : Store) (k v held : ℕ) {r : Outcome} → held ≡ v → r ≡ on_store (entry RESULT k held) z → Enters z k v r

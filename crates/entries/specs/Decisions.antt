@@ -14,10 +14,12 @@ use Rattle.store.specs.Workers.{opened}
 use Rattle.steps.specs.Promises.{entry_numbered}
 use Rattle.entries.specs.declared.decision.Place.{Place}
 
--- A good store with a root of this capacity and a clock that can still go up.
-pub record Enterable (z : Store) (capacity : ℕ) : Type 0 where
+-- A good store that has the counts and the keys of s, a root of this capacity, and a clock that can still go up.
+pub record Enterable (s : Store) (capacity : ℕ) (z : Store) : Type 0 where
   pub good : good_store z ≡ true
   pub early : z.clock < last_clock
+  pub counts_are : z.counts ≡ s.counts
+  pub keys_are : z.keys ≡ s.keys
   pub capacity_is : capacity ≡ capacity_of (plan_of z) 0
 
 -- The outcome of an accepted entry by its place: the stamp is the clock, which goes up by 1.
@@ -43,9 +45,13 @@ decided_outcome (Some d) z kind key value = acceptance d z kind key value
 decided_outcome None z kind key value = record { answer = bare FULL; store = z }
 
 -- The decision for a key is right for a store: the entry is accepted at places of the root, or FULL, whatever its kind and its value.
-pub record Decides (z : Store) (key : ℕ) (o : Option Place) : Type 0 where
+pub record DecidesFor (z : Store) (key : ℕ) (o : Option Place) : Type 0 where
   pub in_root : IfSome o (λ d. (d.at ≤ d.end) × (d.end < width))
   pub outcome : (kind value : ℕ) → decided_outcome o z kind key value ≡ entry_numbered kind z key value
+
+-- It is right for every store that has the counts and the keys of s.
+abbrev pub Decides : Store → ℕ → ℕ → Option Place → Type 0
+Decides s capacity key o = (z : Store) → Enterable s capacity z → DecidesFor z key o
 
 -- The answer of a call that is done or refused.
 abbrev pub answered : Result Answer Refusal → Answer

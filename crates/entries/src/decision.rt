@@ -2,7 +2,7 @@
 ghost use Rattle.std.specs.Prelude.{◌≤◌};
 ghost use Rattle.store.specs.Layout.{width};
 ghost use Rattle.store.specs.Workers.{Ordered};
-ghost use Rattle.entries.specs.Decisions.{Enterable, Decides};
+ghost use Rattle.entries.specs.Decisions.{Decides};
 
 use store::{Store, columns};
 
@@ -16,10 +16,11 @@ pub struct Place {
 }
 
 // "A root copy of that key is replaced; otherwise one is added if the root has a free place." Where a copy is replaced none moves up, and the
-// count stays. Nothing where the entry is refused.
+// count stays. Nothing where the entry is refused. By the counts and the keys alone: it is right for every good store that has these, and a root
+// of this capacity.
 pub fn decide(store: &Store, capacity: u32, key: u32) -> Option<Place>
     requires { Ordered store.now.counts store.now.keys 0 × (capacity ≤ width) }
-    ensures { Enterable store.now capacity → Decides store.now key result }
+    ensures { Decides store.now capacity key result }
 {
     let count = store.counts[0];
     let end = count as usize;

@@ -8,7 +8,7 @@ use Rattle.store.specs.Answers.{BADSTORE, bare}
 use Rattle.store.specs.Layout.{places}
 use Rattle.store.proofs.Lifting.{on_broken}
 use Rattle.steps.specs.Entries.{entry}
-use Rattle.entries.specs.Decisions.{Enterable, Decides}
+use Rattle.entries.specs.Decisions.{Enterable, DecidesFor}
 use Rattle.entries.proofs.Entering.{capacity_few, clock_out, enterable, root_ordered}
 use Rattle.entries.proofs.entry_in.Goals as goal
 use Rattle.entries.proofs.entry_in.Goals.{After-capacity-capacity, After-decide, In_ok-place}
@@ -26,7 +26,7 @@ returns-then-store-ge-LAST_CLOCK-clause-outcome c =
     clock_out a.store.now c.in_ok-check.ensures a.kind a.key a.value (omega arith)
 
 -- Past the checks of the rules and of the clock, an entry can be decided.
-ready : (c : After-capacity-capacity) → Enterable c.args.store.now c.capacity-capacity.result
+ready : (c : After-capacity-capacity) → Enterable c.args.store.now c.capacity-capacity.result c.args.store.now
 ready c =
     enterable c.args.store.now c.in_ok-check.ensures (omega arith) c.rows_of.result.now c.rows_of.ensures
     c.capacity-capacity.result c.capacity-capacity.ensures
@@ -34,8 +34,8 @@ ready c =
 pub decide-requires : goal.decide-requires
 decide-requires c = (root_ordered (ready c), capacity_few (ready c))
 
-decided : (c : After-decide) → Decides c.args.store.now c.args.key c.decide.result
-decided c = c.decide.ensures (ready (goal.at.After-decide c).After-capacity-capacity)
+decided : (c : After-decide) → DecidesFor c.args.store.now c.args.key c.decide.result
+decided c = c.decide.ensures c.args.store.now (ready (goal.at.After-decide c).After-capacity-capacity)
 
 -- The place of an accepted entry is in the root.
 inside : (c : In_ok-place) → let d = c.in_ok-place.place in (d.at ≤ d.end) × (d.end < places)

@@ -29,14 +29,14 @@ returns-in_err-e c =
     search (e, rules)
 
 -- The edge that is asked for.
-known : (c : After-capacity) → Carriable c.args.store.now c.args.node c.args.edge c.in_ok-e.e c.capacity.result
+known : (c : After-capacity) → Carriable c.args.store.now c.args.node c.args.edge c.in_ok-e.e c.capacity.result c.args.store.now
 known c =
     let a = c.args in
     carriable a.store.now c.in_ok-check.ensures a.node a.edge c.rows_of-rows.result.now c.rows_of-rows.ensures c.if-rows-node.false
     c.in_ok-e.e (rw c.in_ok-e.ensures.ok_part at (sym c.edge.ensures)) c.capacity.result c.capacity.ensures
 
 pub along-requires : goal.along-requires
-along-requires c = (c.args.edge, known (goal.at.along-requires c).After-capacity)
+along-requires c = (c.args.store.now, c.args.edge, known (goal.at.along-requires c).After-capacity)
 
 pub returns : goal.returns
-returns c = c.along.ensures c.args.edge (known (goal.at.returns c).After-capacity)
+returns c = c.along.ensures c.args.store.now c.args.edge (known (goal.at.returns c).After-capacity)

@@ -25,14 +25,14 @@ bounds-store-at c = omega (arith, c.requires.0.fits)
 pub returns-then-store-at : goal.returns-then-store-at
 returns-then-store-at c =
     let s = c.seek-at in
-    λ w. decides_replaced w c.args.key s.result s.ensures c.if-at-end.true c.if-store-at.true
+    λ z w. decides_replaced w c.args.key s.result s.ensures c.if-at-end.true c.if-store-at.true
 
 pub returns-then-count-capacity : goal.returns-then-count-capacity
 returns-then-count-capacity c =
     let s = c.seek-at in
-    λ w. decides_added w c.args.key s.result s.ensures (lacks (goal.at.returns-then-count-capacity c).Joined-else-at-end) c.if-count-capacity.true
+    λ z w. decides_added w c.args.key s.result s.ensures (lacks (goal.at.returns-then-count-capacity c).Joined-else-at-end) c.if-count-capacity.true
 
 pub returns : goal.returns
 returns c =
     let s = c.seek-at in
-    λ w. decides_full w c.args.key s.result s.ensures (lacks (goal.at.returns c).Joined-else-at-end) c.if-count-capacity.false
+    λ z w. decides_full w c.args.key s.result s.ensures (lacks (goal.at.returns c).Joined-else-at-end) c.if-count-capacity.false
