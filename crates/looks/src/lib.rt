@@ -1,15 +1,12 @@
 // Look: a whole search at once, down one line's path. Document 01, "What each step does".
 #![tactic(auto)]
 
-ghost use Rattle.std.specs.Prelude.{◌≡◌, true, MatchResult};
-ghost use Rattle.plan.specs.PlanArrays.{RowsOfPlan};
+ghost use Rattle.std.specs.Prelude.{◌≡◌, MatchResult};
 ghost use Rattle.store.specs.Answers.{bare};
-ghost use Rattle.store.specs.Layout.{plan_of, state_of};
 ghost use Rattle.store.specs.Refusals.{refusal_number};
-ghost use Rattle.store.specs.StoreRules.{good_store};
 ghost use Rattle.steps.specs.Promises.{Looks};
-ghost use Rattle.steps.specs.Searches.{ended, look_answer};
-ghost use Rattle.looks.specs.Workers.{copy_found};
+ghost use Rattle.steps.specs.Searches.{ended};
+ghost use Rattle.looks.specs.Workers.{copy_found, Lookable, LooksDown};
 
 use plan::rows::Rows;
 use store::refusal::Refusal;
@@ -33,11 +30,10 @@ pub fn ended(found: Option<Copy>, visits: u32) -> Answer
 }
 
 // "A whole search at once": node by node, until one has a copy of the key, a withdrawn one included, or the path ends.
-// A node's answer is taken apart by `let .. else`, as document 01 asks; the loop counts no index.
+// A node's answer is taken apart by `let .. else`, as document 01 asks; the loop counts no index. By each plan that has the rows.
 fn look_down(store: &Store, rows: &Rows, key: u32) -> Answer
-    requires good { good_store store.now ≡ true }
-    requires its_rows { RowsOfPlan (plan_of store.now) rows.now }
-    ensures { result ≡ look_answer key (plan_of store.now) (state_of store.now) }
+    requires { Lookable rows.now store.now }
+    ensures { LooksDown rows.now store.now key result }
 {
     let mut node = 0;
     let mut visits = 0;

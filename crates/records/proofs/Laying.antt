@@ -11,9 +11,11 @@ use borrow.Author.Tests.{ltb-false}
 use Rattle.store.specs.Answers.{DONE, SMALL, answer}
 use Rattle.wire.specs.Reading.{got, fault}
 use Rattle.schedule.specs.declared.Step.{Step}
-use Rattle.schedule.specs.Schedule.{most_steps, Schedule, schedule_at, schedule_answer, records_of, decode_answer, decode_list}
-use Rattle.schedule.specs.Workers.{decoded_into}
+use Rattle.schedule.specs.Schedule.{most_steps, schedule_at, schedule_answer, records_of, decode_answer, decode_list}
+use Rattle.schedule.specs.declared.decoding.Decoded.{Decoded}
+use Rattle.schedule.specs.Workers.{laid_down, decoded_into}
 use Rattle.schedule.proofs.ScheduleLaws.{schedule_few}
+use Rattle.schedule.proofs.Laid.{schedule_in, laid_got, laid_fault}
 
 module _ (s : List ℕ) (before : List Step) where
   answer_into : schedule_answer (decoded_into s (length before)) ≡ decode_answer s before
@@ -43,26 +45,29 @@ module _ (s : List ℕ) (before : List Step) where
       go false e = omega (arith, schedule_few s, ltb-false (length before) most_steps e)
 
   -- A schedule has room, and its records are laid down.
-  module _ {d : Schedule} {end : ℕ} (e : got d end ≡ decoded_into s (length before)) where
-    pub laid_fits : length d.steps ≤ length before
-    laid_fits = rw (← e) at few_into
+  module _ {v : Decoded} {end : ℕ} (e : got v end ≡ laid_down (decoded_into s (length before))) where
+    read : got (schedule_in v) end ≡ decoded_into s (length before)
+    read = laid_got _ e
 
-    pub laid_front : length (take (length d.steps) before) ≡ length d.steps
-    laid_front = length-take-le (length d.steps) before laid_fits
+    pub laid_fits : length (take v.count v.steps) ≤ length before
+    laid_fits = rw (← read) at few_into
 
-    pub laid_answer : answer DONE (length d.steps) d.plan 0 0 ≡ decode_answer s before
-    laid_answer = rw (← e) at answer_into
+    pub laid_front : length (take (length (take v.count v.steps)) before) ≡ length (take v.count v.steps)
+    laid_front = length-take-le (length (take v.count v.steps)) before laid_fits
 
-    pub laid_list : d.steps ++ drop (length d.steps) before ≡ decode_list s before
-    laid_list = rw (← e) at list_into
+    pub laid_answer : answer DONE (length (take v.count v.steps)) v.plan 0 0 ≡ decode_answer s before
+    laid_answer = rw (← read) at answer_into
+
+    pub laid_list : take v.count v.steps ++ drop (length (take v.count v.steps)) before ≡ decode_list s before
+    laid_list = rw (← read) at list_into
 
   -- A fault leaves the list.
-  module _ {number at : ℕ} (e : fault number at ≡ decoded_into s (length before)) where
+  module _ {number at : ℕ} (e : fault number at ≡ laid_down (decoded_into s (length before))) where
     pub left_answer : answer number at 0 0 0 ≡ decode_answer s before
-    left_answer = rw (← e) at answer_into
+    left_answer = rw (← (laid_fault _ e)) at answer_into
 
     pub left_list : before ≡ decode_list s before
-    left_list = rw (← e) at list_into
+    left_list = rw (← (laid_fault _ e)) at list_into
 
 -- What a schedule and a fault say.
 pub ruleset laying_laws = (laid_fits, laid_front, laid_answer, laid_list, left_answer, left_list)

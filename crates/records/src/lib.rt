@@ -13,7 +13,7 @@ pub fn decode(bytes: &[u8], list: &mut [Step]) -> Answer
 {
     match decoding::decode_into(bytes, list.len()) {
         Ok(read) => {
-            let steps = read.value.steps.as_slice();
+            let steps = read.value.records();
             list[..steps.len()].copy_from_slice(steps);
             Answer::of(
                 Answer::DONE,

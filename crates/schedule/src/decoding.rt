@@ -1,8 +1,8 @@
 // Decoding: a schedule is read from the left, and the first fault wins.
-ghost use Rattle.std.specs.Prelude.{◌≡◌};
+ghost use Rattle.std.specs.Prelude.{◌≡◌, ◌≤◌, length, take, IfOk};
 ghost use Rattle.wire.specs.Reading.{got_of};
 ghost use Rattle.schedule.specs.Schedule.{known_step, has_two, second_at, step_at, steps_at, most_steps, schedule_at};
-ghost use Rattle.schedule.specs.Workers.{steps_of, schedule_of, decoded_into};
+ghost use Rattle.schedule.specs.Workers.{steps_of, decoded_of, laid_down, decoded_into};
 
 use crate::Step;
 use arrayvec::ArrayVec;
@@ -11,11 +11,22 @@ use store::Store;
 use store::refusal::Refusal;
 use wire::Fault;
 
-// A decoded schedule: its plan and its steps.
-#[derive(Drop)]
+// A decoded schedule: its plan, and its steps, so many records at the beginning of a list of zeros. (It may be copied, so its list is no ArrayVec.)
+#[derive(Clone, Copy)]
 pub struct Decoded {
     pub plan: u32,
-    pub steps: ArrayVec<Step, { Step::MOST }>,
+    pub count: usize,
+    pub steps: [Step; Step::MOST],
+}
+
+impl Decoded {
+    // Its steps, without the zeros behind them.
+    pub fn records(&self) -> &[Step]
+        requires { self.now.count ≤ most_steps }
+        ensures { result.now ≡ take self.now.count self.now.steps }
+    {
+        &self.steps[..self.count]
+    }
 }
 
 // A step number from the list.
@@ -87,30 +98,44 @@ fn read_steps(bytes: &[u8], from: usize) -> Result<Read<ArrayVec<Step, { Step::M
     })
 }
 
+// A schedule's steps laid down at the beginning of a list of zeros.
+#[tactic(auto, unfolding(crate::specs::Workers::decoded_of))]
+fn laid(plan: u32, steps: &[Step]) -> Decoded
+    requires { length steps.now ≤ most_steps }
+    ensures whole { result ≡ decoded_of (record { plan = plan; steps = steps.now }) }
+    ensures few { result.count ≤ most_steps }
+{
+    let mut list = [Step::default(); Step::MOST];
+    list[..steps.len()].copy_from_slice(steps);
+    Decoded {
+        plan,
+        count: steps.len(),
+        steps: list,
+    }
+}
+
 // A schedule: its plan, then its steps.
-#[tactic(auto, unfolding(crate::specs::Schedule::schedule_at, wire::specs::Reading::bind))]
+#[tactic(auto, unfolding(crate::specs::Schedule::schedule_at, crate::specs::Workers::laid_down, wire::specs::Reading::bind))]
 fn read_schedule(bytes: &[u8]) -> Result<Read<Decoded>, Fault>
-    ensures { schedule_of result ≡ schedule_at bytes.now }
+    ensures whole { got_of result ≡ laid_down (schedule_at bytes.now) }
+    ensures few { IfOk result (λ read. read.value.count ≤ most_steps) }
 {
     let plan = wire::read_number(bytes, 0)?;
     if !Store::is_plan(plan.value) {
         return Err(Fault::at(Refusal::Plan, 0));
     }
     let steps = read_steps(bytes, plan.next)?;
-    let decoded = Decoded {
-        plan: plan.value,
-        steps: steps.value,
-    };
     Ok(Read {
-        value: decoded,
+        value: laid(plan.value, steps.value.as_slice()),
         next: steps.next,
     })
 }
 
 // The same for a list of so many records: "fewer than 256 records answers SMALL, a 256, before a byte is read."
-#[tactic(auto, unfolding(crate::specs::Workers::decoded_into))]
+#[tactic(auto, unfolding(crate::specs::Workers::decoded_into, crate::specs::Workers::laid_down))]
 pub fn decode_into(bytes: &[u8], room: usize) -> Result<Read<Decoded>, Fault>
-    ensures { schedule_of result ≡ decoded_into bytes.now room }
+    ensures whole { got_of result ≡ laid_down (decoded_into bytes.now room) }
+    ensures few { IfOk result (λ read. read.value.count ≤ most_steps) }
 {
     if room < Step::MOST {
         return Err(Fault::at(Refusal::Small, Step::MOST));

@@ -8,8 +8,8 @@ use native.Mathlib.Omega.{arith}
 use lib.ListN.{get_or}
 use Rattle.std.specs.Prelude.{Result, Err}
 use Rattle.plan.specs.declared.rows.Rows.{Rows}
-use Rattle.plan.specs.Plan.{Plan, size}
-use Rattle.plan.specs.PlanArrays.{RowsOf, RowsOfPlan, rows_of}
+use Rattle.plan.specs.Plan.{Plan}
+use Rattle.plan.specs.PlanArrays.{rows_of}
 use Rattle.plan.proofs.PathLaws.{path_within}
 use Rattle.plan.proofs.RowsLent.{own_count}
 use Rattle.plan_table.specs.PlanTable.{plan_numbered}
@@ -84,13 +84,10 @@ module _ (z : Store) (good : good_store z ≡ true) where
   changes_out f still r after d = moved_out f still r after (d (plan_of z) (state_of z).clock (state_of z).nodes)
 
   -- and a step by the rows of the store's plan.
-  own_rows : (rows : Rows) → RowsOfPlan (plan_of z) rows → RowsOf (plan_of z) (size (plan_of z)) rows.counts rows.lows rows.highs rows.targets
-  own_rows rows has = own_count has
-
   pub steps_out : (i : ℕ) (rows : Rows) → rows ≡ rows_of (plan_numbered z.plan) → (r : Result Answer Refusal) (after : Store)
       → StepsBy rows z i r after → outcome_of r after ≡ on_store (step_step i) z
   unfolding state_of
   steps_out i rows e r after d =
       ap (outcome_of r) d.slots_alone
       ∙ moved_out (step_step i) (step_still i (plan_of z) (state_of z)) r after.slots
-      (d.does (plan_of z) z.clock (own_rows rows (rows_here z (plan_good z good) rows e)) good_searches)
+      (d.does (plan_of z) z.clock (own_count (rows_here z (plan_good z good) rows e)) good_searches)

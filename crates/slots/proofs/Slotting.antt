@@ -99,6 +99,7 @@ module _ (rows : Rows) (z : Store) (long : length z.slots ≡ slot_count) (i : �
       record {
         does = λ p clock has stand. sym (ap moved_by (rests _ i (at_clock p clock) long h));
         slots_alone = refl;
+        one_slot = λ a e. absurd cc;
         refused_stays = λ why e. refl;
       }
 
@@ -128,6 +129,7 @@ module _ (rows : Rows) (z : Store) (long : length z.slots ≡ slot_count) (i : �
                 wrote (step_step at) p (at_clock p clock) at d g
                 (runs _ at (at_clock p clock) long w.1 w.2 ∙ rw (line_here p clock stand (Some x) e, add-one));
             slots_alone = refl;
+            one_slot = λ a ok. (w.1, (_, refl));
             refused_stays = λ why e. absurd cc;
           })
 
@@ -148,6 +150,7 @@ module _ (rows : Rows) (z : Store) (long : length z.slots ≡ slot_count) (i : �
                   (runs _ at (at_clock p clock) long w.1 w.2
                   ∙ rw (line_here p clock stand None nothing, next_known p has None e, add-one));
               slots_alone = refl;
+              one_slot = λ a ok. (w.1, (_, refl));
               refused_stays = λ why e. absurd cc;
             })
 
@@ -163,5 +166,6 @@ module _ (rows : Rows) (z : Store) (long : length z.slots ≡ slot_count) (i : �
                   (runs _ at (at_clock p clock) long w.1 w.2
                   ∙ rw (line_here p clock stand None nothing, next_known p has (Some to) e, add-one));
               slots_alone = refl;
+              one_slot = λ a ok. (w.1, (_, refl));
               refused_stays = λ why e. absurd cc;
             })

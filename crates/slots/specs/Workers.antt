@@ -1,5 +1,5 @@
 -- What the workers on a store's slots promise and ask, and what a call on a store gives where it may be refused.
-use Rattle.std.specs.Prelude.{◌≡◌, ◌≢◌, ◌⊎◌, List, ℕ, ◌<◌, ◌≤◌, get_or, Result, Ok, Err}
+use Rattle.std.specs.Prelude.{◌≡◌, ◌≢◌, ◌⊎◌, List, ℕ, ◌<◌, ◌≤◌, get_or, set, Result, Ok, Err}
 use Rattle.plan.specs.Sizes.{most_nodes}
 use Rattle.plan.specs.declared.rows.Rows.{Rows}
 use Rattle.plan.specs.Plan.{Plan, size}
@@ -80,6 +80,8 @@ pub record StepsBy (rows : Rows) (z : Store) (slot : ℕ) (r : Result Answer Ref
   pub does : (p : Plan) (clock : ℕ) → RowsOf p (size p) rows.counts rows.lows rows.highs rows.targets → SearchesIn p z.slots
       → moved r after.slots ≡ moved_by (step_step slot p (state_in (size p) clock z.counts z.keys z.kinds z.values z.stamps z.slots))
   pub slots_alone : after ≡ with_slots after.slots z
+  -- And whatever the rows and wherever the searches stand: a step that is done writes its own slot, and no other.
+  pub one_slot : (a : Answer) → r ≡ Ok a → (slot < slot_count) × ((q : Slot) × (after.slots ≡ set z.slots slot q))
   pub refused_stays : (why : Refusal) → r ≡ Err why → after ≡ z
 
 -- A search runs in the slot, and this is its place;

@@ -3,7 +3,7 @@ use mathlib.Core.Path.{◌≡◌, refl, sym, ap₂, ◌∙◌}
 use mathlib.Core.List.{List, ◌++◌, append-nil}
 use Prim.Native.Nat.{ℕ, ◌+◌, ◌*◌, ◌≤◌}
 use native.Mathlib.Omega.{arith}
-use lib.ListN.{length, length-append}
+use lib.ListN.{length, take, length-append}
 use borrow.Author.Tests.{ne_eqb}
 use Rattle.lists.specs.Stands.{Wrote}
 use Rattle.lists.proofs.Standing.{wrote_join}
@@ -19,8 +19,10 @@ use Rattle.schedule.specs.declared.Step.{Step}
 use Rattle.schedule.specs.Schedule.{most_steps, Schedule, schedule_at, schedule_answer, records_of, decode_answer, decode_list}
 use Rattle.schedule.specs.Running.{no_steps}
 use Rattle.schedule.specs.Promises.{Decodes}
-use Rattle.schedule.specs.Workers.{decoded_into}
+use Rattle.schedule.specs.declared.decoding.Decoded.{Decoded}
+use Rattle.schedule.specs.Workers.{laid_down, decoded_into}
 use Rattle.schedule.proofs.ScheduleLaws.{schedule_few, schedule_refused}
+use Rattle.schedule.proofs.Laid.{laid_got, laid_fault}
 use Rattle.transcript.specs.Transcript.{steps_text, decoded_text, schedule_text, most_transcript}
 use Rattle.transcript.specs.Promises.{Transcribes}
 use Rattle.transcript.proofs.TextWriting.{front_text}
@@ -70,18 +72,18 @@ module _ (s : List ℕ) where
         let fits : length (schedule_text s) ≤ length before = omega (arith, wrote_end v) in
         (wrote_end v, done_wrote (schedule_text s) before fits v ∙ done_buffer (schedule_text s) before fits)
 
-    pub accepted_way : (d : Schedule) {end : ℕ} → got d end ≡ decoded_into s most_steps → {steps : List Step} → steps ≡ d.steps
+    pub accepted_way : (v : Decoded) {end : ℕ} → got v end ≡ laid_down (decoded_into s most_steps) → {steps : List Step} → steps ≡ take v.count v.steps
         → length steps ≤ most_steps → {x : Answer} → x ≡ answer DONE (length steps) 0 0 0 → {mid : ℕ} {out : List ℕ} → Prints before 0 0 x mid out
         → {n : ℕ} {after : List ℕ}
-        → Wrote out mid (steps_text steps (fresh_outcome d.plan).store 0 (length steps)) n after × (n ≤ mid + most_text * length steps)
+        → Wrote out mid (steps_text steps (fresh_outcome v.plan).store 0 (length steps)) n after × (n ≤ mid + most_text * length steps)
         → Transcribes s before n after
-    accepted_way d e same few x p w =
-        let t = accepted_text (sym decoded_whole ∙ sym e) in
+    accepted_way v e same few x p w =
+        let t = accepted_text (sym decoded_whole ∙ sym (laid_got _ e)) in
         text_transcribed (rw (← same) at t) (wrote_join (rw x at p.0) w.0) (omega (arith, p.1, w.1))
 
-    pub refused_way : Bytes s → {number at : ℕ} → fault number at ≡ decoded_into s most_steps → {x : Answer} → x ≡ answer number at 0 0 0
+    pub refused_way : Bytes s → {number at : ℕ} → fault number at ≡ laid_down (decoded_into s most_steps) → {x : Answer} → x ≡ answer number at 0 0 0
         → {n : ℕ} {after : List ℕ} → Prints before 0 0 x n after → Transcribes s before n after
-    refused_way bytes e x p = text_transcribed (refused_text bytes (sym decoded_whole ∙ sym e)) (rw x at p.0) (omega (arith, p.1))
+    refused_way bytes e x p = text_transcribed (refused_text bytes (sym decoded_whole ∙ sym (laid_fault _ e))) (rw x at p.0) (omega (arith, p.1))
 
 -- What decode answers and lays down, written, is the schedule's text.
 pub transcribed : (bytes before : List ℕ) {x : Answer} {steps : List Step} {n : ℕ} {after : List ℕ} → length before ≡ most_transcript

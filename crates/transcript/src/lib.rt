@@ -36,7 +36,7 @@ pub fn transcribe(bytes: &[u8], out: &mut [u8; ROOM]) -> usize
 {
     match decoding::decode_into(bytes, Step::MOST) {
         Ok(read) => {
-            let steps = read.value.steps.as_slice();
+            let steps = read.value.records();
             let count = Answer::of(Answer::DONE, steps.len() as u64, 0, 0, 0);
             let from = lines::print_into(out, 0, 0, count);
             write_steps(out, from, read.value.plan, steps)

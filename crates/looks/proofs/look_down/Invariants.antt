@@ -6,7 +6,7 @@ use Rattle.looks.proofs.Descending.{Looking}
 use Rattle.looks.proofs.look_down.Given as goal
 
 abbrev pub invariant-loop-copy : goal.invariant-loop-copy
-invariant-loop-copy l = (l.visits ≤ l.node) × Looking l.store l.key l.node l.visits
+invariant-loop-copy l = (l.visits ≤ l.node) × Looking l.rows l.store l.key l.node l.visits
 
 abbrev pub decreases-loop-copy : goal.decreases-loop-copy
 decreases-loop-copy l = most_nodes - l.node
