@@ -19,6 +19,7 @@ use Rattle.store.specs.Layout.{width, node_in, copy_of, count_of, node_of, state
 use Rattle.store.specs.State.{State}
 use Rattle.store.specs.Workers.{HasPlaces, WithinPlaces}
 use Rattle.store.proofs.Laying.{length-node}
+use Rattle.wire.proofs.Parts.{count_on, count_off}
 use Rattle.copies.specs.CopyBytes.{copy_bytes}
 use Rattle.copies.proofs.CopyLengths.{longest_copy, copy_short}
 use Rattle.image_writing.specs.Image.{format_number, copies_bytes, node_bytes, nodes_bytes, image_of, nodes_in, image_by}
@@ -127,3 +128,19 @@ copies_sum = sums copy_bytes copies_bytes no_copies more_copies
 
 pub nodes_sum : (f : ℕ → List Copy) (i n : ℕ) → sum_by (λ (k : ℕ). length (node_bytes (f k))) (range_with_len i n) ≡ length (nodes_bytes (tabulate i n f))
 nodes_sum = sums node_bytes nodes_bytes no_nodes more_nodes
+
+-- ---- a loop that counts the bytes of copies, and one of nodes
+
+module _ (f : ℕ → Copy) (end sum i : ℕ) {total : ℕ} (e : sum + length (copies_bytes (tabulate i (end - i) f)) ≡ total) where
+  pub copies_count : {r : ℕ} → i < end → r ≡ length (copy_bytes (f i)) → sum + r + length (copies_bytes (tabulate (i + 1) (end - (i + 1)) f)) ≡ total
+  copies_count h k = rw k (count_on copy_bytes copies_bytes no_copies more_copies f end sum i h e)
+
+  pub copies_counted_all : end ≤ i → sum ≡ total
+  copies_counted_all h = count_off copy_bytes copies_bytes no_copies more_copies f end sum i h e
+
+module _ (f : ℕ → List Copy) (end sum i : ℕ) {total : ℕ} (e : sum + length (nodes_bytes (tabulate i (end - i) f)) ≡ total) where
+  pub nodes_count : {r : ℕ} → i < end → r ≡ length (node_bytes (f i)) → sum + r + length (nodes_bytes (tabulate (i + 1) (end - (i + 1)) f)) ≡ total
+  nodes_count h k = rw k (count_on node_bytes nodes_bytes no_nodes more_nodes f end sum i h e)
+
+  pub nodes_counted_all : end ≤ i → sum ≡ total
+  nodes_counted_all h = count_off node_bytes nodes_bytes no_nodes more_nodes f end sum i h e

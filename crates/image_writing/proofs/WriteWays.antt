@@ -2,6 +2,7 @@
 use mathlib.Core.Path.{◌≡◌}
 use mathlib.Core.List.{List, ◌++◌}
 use Prim.Native.Nat.{ℕ, ◌+◌, ◌-◌, ◌*◌, ◌≤◌}
+use native.Mathlib.Nat.{sub-zero}
 use lib.ListN.{length}
 use Rattle.lists.specs.Indexed.{tabulate}
 use Rattle.lists.specs.Stands.{Wrote}
@@ -11,7 +12,7 @@ use Rattle.store.specs.declared.Copy.{Copy}
 use Rattle.store.specs.declared.Store.{Store}
 use Rattle.store.specs.Layout.{width, copy_of, count_of, node_of}
 use Rattle.store.proofs.Laying.{length-node}
-use Rattle.wire.proofs.Parts.{Writes}
+use Rattle.wire.proofs.Parts.{Writes, write_begins}
 use Rattle.copies.specs.CopyBytes.{copy_bytes}
 use Rattle.image_writing.specs.Image.{format_number, copies_bytes, node_bytes, nodes_bytes, image_of, nodes_in, image_by}
 use Rattle.image_writing.proofs.ImageLengths.{node_copies, no_copies, more_copies, no_nodes, more_nodes}
@@ -24,6 +25,14 @@ WritesCopies f end before start whole i at buffer = Writes copy_bytes copies_byt
 
 abbrev pub WritesNodes : (ℕ → List Copy) → ℕ → List ℕ → ℕ → List ℕ → ℕ → ℕ → List ℕ → Type 0
 WritesNodes f end before start whole i at buffer = Writes node_bytes nodes_bytes no_nodes more_nodes f end before start whole i at buffer
+
+pub copies_begin : (f : ℕ → Copy) (from end : ℕ) (before : List ℕ) (at : ℕ) → at + length (copies_bytes (tabulate from (end - from) f)) ≤ length before
+    → WritesCopies f end before at (copies_bytes (tabulate from (end - from) f)) from at before
+copies_begin f from end before at h = write_begins copy_bytes copies_bytes no_copies more_copies f end before from at h
+
+pub nodes_begin : (f : ℕ → List Copy) (end : ℕ) (before : List ℕ) (at : ℕ) → at + length (nodes_bytes (tabulate 0 end f)) ≤ length before
+    → WritesNodes f end before at (nodes_bytes (tabulate 0 end f)) 0 at before
+nodes_begin f end before at h = rw sub-zero at (write_begins node_bytes nodes_bytes no_nodes more_nodes f end before 0 at (rw sub-zero h))
 
 -- ---- write_node
 

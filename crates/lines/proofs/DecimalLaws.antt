@@ -1,11 +1,13 @@
--- Numbers in decimal: the last digit after the others, as the library prints them; and the digits spell the number.
+-- Numbers in decimal: the last digit after the others, as the library prints them, and at most 20 digits for 64 bits; and the digits spell the number.
 use mathlib.Core.Path.{◌≡◌, refl, sym, ap, ◌∙◌}
 use mathlib.Core.Bool.{true, false, cond}
 use mathlib.Core.List.{List, [], ◌∷◌, ◌++◌}
 use mathlib.Core.Logic.{◌⊎◌, inl, inr}
 use Prim.Native.Nat.{ℕ, zero, suc, ◌+◌, ◌*◌, ◌/◌, ◌-◌, ◌%◌, ◌^◌, ◌<◌, ◌≤◌}
 use native.Mathlib.Omega.{arith}
+use native.Mathlib.Nat.{pow-suc}
 use lib.Dec.{ltb}
+use lib.ListN.{length, length-append}
 use borrow.Author.Tests.{lt-ltb, le-ltb, ltb-true, ltb-false}
 use Rattle.std.specs.Fmt.{decimal as printed}
 use Rattle.std.proofs.lemmas.Fmt.{decimal_by_steps}
@@ -40,6 +42,18 @@ module _ (v : ℕ) where
   decimal_more h =
       digits_same v (suc v) v (omega arith) (omega arith) ∙ digits_more v v h
       ∙ ap (λ (l : List ℕ). l ++ digit (v % 10) ∷ []) (digits_same v (v / 10) (v / 10) (omega arith) (omega arith))
+
+-- As many digits as the powers of ten say.
+digits_few : (k v : ℕ) → v < 10 ^ suc k → length (decimal v) ≤ suc k
+digits_few zero v h = rw (decimal_one v h) (omega arith)
+digits_few (suc k) v h = go (bool? (ltb v 10)) (digits_few k (v / 10) (let p = pow-suc 10 (suc k) in omega arith))
+  where
+    go : (ltb v 10 ≡ true) ⊎ (ltb v 10 ≡ false) → length (decimal (v / 10)) ≤ suc k → length (decimal v) ≤ suc (suc k)
+    go (inl t) few = rw (decimal_one v (ltb-true v 10 t)) (omega arith)
+    go (inr t) few = rw (decimal_more v (ltb-false v 10 t), length-append) (omega arith)
+
+pub decimal_few : (v : ℕ) → v < 2 ^ 64 → length (decimal v) ≤ 20
+decimal_few v h = digits_few 19 v (omega arith)
 
 -- What the library prints of a number of 64 bits.
 pub decimal_printed : (v : ℕ) → v < 2 ^ 64 → printed v ≡ decimal v

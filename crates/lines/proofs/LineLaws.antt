@@ -8,7 +8,7 @@ use lib.Seq.{sets-eq, drop-drop, take-append_seam}
 use borrow.Rule.Slice.PartMut.{put_mid}
 use Rattle.std.proofs.lemmas.List.{take_more}
 use Rattle.lists.specs.Stands.{Stands, Wrote}
-use Rattle.lists.proofs.Standing.{wrote_nil, wrote_cons, wrote_join, wrote_stands}
+use Rattle.lists.proofs.Standing.{wrote_nil, wrote_cons, wrote_join, wrote_length, wrote_stands}
 use Rattle.store.specs.declared.Answer.{Answer}
 use Rattle.lines.specs.Text.{SPACE, FEED, decimal, printed_text, answer_text, most_digits, most_text}
 use Rattle.lines.specs.Promises.{Prints}
@@ -70,6 +70,11 @@ module _ {before out : List ℕ} {at first end : ℕ} where
         rw (printed_spaced first (x.number ∷ x.a ∷ x.b ∷ x.c ∷ x.d ∷ []), ← append_assoc) (wrote_join w (wrote_cons (wrote_nil _ _))),
         omega (arith, k.few),
       )
+
+-- A printed line lies within its buffer: for a program that passes it on.
+pub line_within : (first : ℕ) (x : Answer) {before after : List ℕ} {at next : ℕ} → Prints before at first x next after
+    → at + most_text ≤ length before → next ≤ length after
+line_within first x p fits = omega (arith, p.1, wrote_length p.0)
 
 -- ---- print
 

@@ -11,10 +11,10 @@ use Rattle.std.specs.Prelude.{Some, None}
 use Rattle.plan.specs.declared.rows.Rows.{Rows}
 use Rattle.plan.specs.Plan.{Plan, Hop, size, first_edge, next, path_from}
 use Rattle.plan.specs.PlanRules.{PlanRules}
-use Rattle.plan.specs.PlanArrays.{Grid, RowsOf, RowsOfPlan, row_edges}
+use Rattle.plan.specs.PlanArrays.{RowsOfPlan, row_edges}
 use Rattle.plan.proofs.NextLaws.{hop?, next_down}
 use Rattle.plan.proofs.PathLaws.{path_ends, path_goes}
-use Rattle.plan.proofs.RowsLent.{next_here}
+use Rattle.plan.proofs.RowsLent.{own_count, next_here}
 use Rattle.store.specs.declared.Answer.{Answer}
 use Rattle.store.specs.declared.Copy.{Copy}
 use Rattle.store.specs.declared.Slot.{Slot}
@@ -145,19 +145,6 @@ module _ {r : Rows} {z : Store} {k : ℕ} where
       -- further down.
       pub looking_down : (t : ℕ) → hop ≡ Some t → (p : Plan) → EdgesOfPlan p r → n < t
       looking_down t e p rows = (goes_on t e p rows).1
-
--- The node count taken is the plan's own.
-pub own_count : {p : Plan} {nodes : ℕ} {edges : List ℕ} {lows highs targets : Grid} → RowsOf p nodes edges lows highs targets
-    → RowsOf p (size p) edges lows highs targets
-own_count has =
-    record {
-      rules = has.rules;
-      nodes_are = refl;
-      edges_are = has.edges_are;
-      lows_are = has.lows_are;
-      highs_are = has.highs_are;
-      targets_are = has.targets_are;
-    }
 
 module _ (z : Store) where
   -- A good store has what a look asks for, with its plan's rows,

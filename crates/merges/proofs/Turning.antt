@@ -52,11 +52,11 @@ module _ (e : Edge) {keys : List ℕ} {capacity : ℕ} {lists : Lists} {w : Walk
   had_low i h = g.low i place h (omega arith) (omega arith)
 
   -- The target as it stands once it has got a place x, and its own next place: it stands as before.
-  stood : (x : ℕ) (node own : Span) → standing (record { stay = lists.stay; target = longer had x }) (record { node = node; own = own }) ≡ had ++ x ∷ places_in own
+  pub stood : (x : ℕ) (node own : Span) → standing (record { stay = lists.stay; target = longer had x }) (record { node = node; own = own }) ≡ had ++ x ∷ places_in own
   unfolding standing
   stood x node own = append_assoc had (x ∷ []) (places_in own)
 
-  own_stands : 0 < w.own.count → had ++ next ∷ places_in (passed w.own) ≡ stands
+  pub own_stands : 0 < w.own.count → had ++ next ∷ places_in (passed w.own) ≡ stands
   unfolding standing
   own_stands h = ap (λ (l : List ℕ). had ++ l) (sym (span_on next w.own.count h))
 

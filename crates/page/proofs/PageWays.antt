@@ -24,7 +24,8 @@ use Rattle.store.specs.declared.refusal.Refusal.{Refusal}
 use Rattle.store.specs.declared.refusal.Refusal.TheVariants.{BadStore, Sample}
 use Rattle.store.specs.Answers.{DONE, SMALL, answer, bare}
 use Rattle.store.specs.Refusals.{refusal_number}
-use Rattle.store.specs.Layout.{plan_of, state_of}
+use Rattle.store.specs.State.{in_reach}
+use Rattle.store.specs.Layout.{plan_of, state_in, state_of}
 use Rattle.store.specs.StoreRules.{good_store}
 use Rattle.store.proofs.WhichPlan.{rows_here}
 use Rattle.store.proofs.Lifting.{plan_good}
@@ -34,11 +35,12 @@ use Rattle.page_lines.specs.PageLine.{analytes, last_sample, page_lines}
 use Rattle.page_lines.specs.Workers.{Pageable, Gathers}
 use Rattle.page_lines.proofs.LineLaws.{lines_few}
 use Rattle.page_lines.proofs.NodeByNode.{good_on_paths, good_pageable}
-use Rattle.page.specs.PageBytes.{page_bytes, most_page_bytes, begins}
+use Rattle.page.specs.PageBytes.{page_bytes, most_page_bytes, page_of, begins}
 use Rattle.page.specs.Promises.{page_now, page_answer, page_buffer, Pages, still_true, served_length, ServesLength, Handed, served, Serves}
 use Rattle.page.specs.Workers.{has_page, Holds}
 use Rattle.page.proofs.PageLength.{page_length, page_some}
 use Rattle.page.proofs.PagesApart.{begins_rest}
+use Rattle.page.proofs.KeptLines.{same-page}
 use Rattle.page.proofs.Served.{still_true_is, serves_notice}
 
 -- ---- the scratch
@@ -81,6 +83,30 @@ module _ (z : Store) (good : good_store z ≡ true) (sample : ℕ) (r : Rows) (k
 
           held : Holds (page_bytes sample ls) n after
           held = record { long = wrote_end w; begin = front; room = omega (arith, wrote_end w, wrote_length w, fits) }
+
+-- A page reads neither clock nor slots,
+lent_page : (z : Store) (sample nodes : ℕ) → nodes ≡ size (plan_of z)
+    → page_of (plan_of z) (state_in nodes 0 z.counts z.keys z.kinds z.values z.stamps []) sample ≡ page_now z sample
+unfolding state_of in_reach
+lent_page z sample nodes e =
+    same-page (plan_of z) (plan_of z) (state_in nodes 0 z.counts z.keys z.kinds z.values z.stamps []) (state_of z) sample (λ a h ls. rw e)
+
+-- so one that was written by the columns alone, of any store, into a scratch with room for the longest, is held there as it is now.
+pub columns_held : (z : Store) (sample nodes : ℕ) {before : List ℕ} {n : ℕ} {after : List ℕ} → sample ≤ last_sample → most_page_bytes ≤ length before
+    → nodes ≡ size (plan_of z)
+    → Wrote before 0 (page_of (plan_of z) (state_in nodes 0 z.counts z.keys z.kinds z.values z.stamps []) sample) n after
+    → Holds (page_now z sample) n after
+columns_held z sample nodes {before} {n} {after} small room all wrote =
+    record { long = wrote_end w; begin = front; room = omega (arith, wrote_end w, wrote_length w, fits) }
+  where
+    w : Wrote before 0 (page_now z sample) n after
+    w = rw (lent_page z sample nodes all) at wrote
+
+    fits : length (page_now z sample) ≤ length before
+    fits = omega (arith, page_length (plan_of z) (state_of z) sample small)
+
+    front : take n after ≡ page_now z sample
+    front = rw (wrote_end w, done_wrote (page_now z sample) before fits w) (done_front (page_now z sample) before fits)
 
 -- ---- page
 
@@ -164,7 +190,7 @@ module _ (z : Store) (sample : ℕ) (kept : List ℕ) where
 -- ---- serve
 
 -- Bytes that begin with a page are at least as long.
-begins_long : (kept page : List ℕ) → begins kept page ≡ true → length page ≤ length kept
+pub begins_long : (kept page : List ℕ) → begins kept page ≡ true → length page ≤ length kept
 begins_long kept page t = let w = begins_rest kept page t in omega (arith, ap length w.1, length-append page w.0)
 
 module _ (z : Store) (sample : ℕ) (kept notice : Bor (List ℕ)) {n : ℕ} (told : ServesLength z sample kept.now n) where

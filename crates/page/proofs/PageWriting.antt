@@ -28,11 +28,15 @@ line_wrote l p q r = wrote_join p (wrote_join q r)
 
 -- ---- the lines
 
+-- The bytes of the lines from i on.
+abbrev pub bytes_from : List PageLine → ℕ → List ℕ
+bytes_from ls i = page_lines_bytes (drop i ls)
+
 -- The bytes of the lines from i on fit at an offset, and once they are written there, those of all lines were written at the first.
 pub record WritingLines (ls : List PageLine) (before : List ℕ) (at : ℕ) (buffer : List ℕ) (next i : ℕ) : Type 0 where
   pub kept : length buffer ≡ length before
-  pub fits : next + length (page_lines_bytes (drop i ls)) ≤ length buffer
-  pub joins : (end : ℕ) (after : List ℕ) → Wrote buffer next (page_lines_bytes (drop i ls)) end after
+  pub fits : next + length (bytes_from ls i) ≤ length buffer
+  pub joins : (end : ℕ) (after : List ℕ) → Wrote buffer next (bytes_from ls i) end after
       → Wrote before at (page_lines_bytes ls) end after
 
 module _ (ls : List PageLine) where
@@ -40,12 +44,12 @@ module _ (ls : List PageLine) where
   lines_start before at h = record { kept = refl; fits = h; joins = λ end after w. w }
 
   module _ (d : PageLine) (i : ℕ) (h : i < length ls) where
-    bytes_on : page_lines_bytes (drop i ls) ≡ page_line_bytes (get_or ls i d) ++ page_lines_bytes (drop (i + 1) ls)
+    bytes_on : bytes_from ls i ≡ page_line_bytes (get_or ls i d) ++ bytes_from ls (i + 1)
     unfolding page_lines_bytes
     bytes_on = rw (drop-cons ls i d h, add-one)
 
-    bytes_long : length (page_lines_bytes (drop i ls)) ≡ length (page_line_bytes (get_or ls i d)) + length (page_lines_bytes (drop (i + 1) ls))
-    bytes_long = ap length bytes_on ∙ length-append (page_line_bytes (get_or ls i d)) (page_lines_bytes (drop (i + 1) ls))
+    bytes_long : length (bytes_from ls i) ≡ length (page_line_bytes (get_or ls i d)) + length (bytes_from ls (i + 1))
+    bytes_long = ap length bytes_on ∙ length-append (page_line_bytes (get_or ls i d)) (bytes_from ls (i + 1))
 
     module _ {before : List ℕ} {at : ℕ} {buffer : List ℕ} {next : ℕ} (k : WritingLines ls before at buffer next i) where
       -- A turn writes one line.

@@ -62,6 +62,10 @@ module _ (nodes : ℕ) (z : Store) (sample : ℕ) where
     pub few : length ls ≤ analyte
     pub all : EachPlanOf nodes z (λ p. ls ++ page_lines_from p (state_up_to nodes z) sample analyte (analytes - analyte) ≡ page_lines p (state_up_to nodes z) sample)
 
+  -- Before the first analyte there is no line.
+  pub gather_starts : (ls : List PageLine) → ls ≡ [] → Gathered 0 ls
+  gather_starts ls e = record { few = omega (arith, ap length e); all = λ p w. rw e }
+
   -- A turn adds what is shown of its analyte,
   added : (analyte : ℕ) (ls : List PageLine) (place : Place) → analyte < analytes
       → EachPlanOf nodes z (λ p. copy_there z place ≡ current p (state_up_to nodes z) (key_for sample analyte))

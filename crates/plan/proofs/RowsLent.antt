@@ -1,11 +1,11 @@
 -- The rows of a plan, lent, say what the plan does.
-use mathlib.Core.Path.{◌≡◌, ap, ◌∙◌}
+use mathlib.Core.Path.{◌≡◌, refl, ap, ◌∙◌}
 use mathlib.Core.List.{List}
 use Prim.Native.Nat.{ℕ}
 use lib.ListN.{length, get_or}
 use Rattle.plan.specs.Plan.{Hop}
 use Rattle.plan.specs.declared.Edge.{Edge}
-use Rattle.plan.specs.Plan.{Plan, no_edge, capacity_of, edges_of, edge_of, first_edge, next}
+use Rattle.plan.specs.Plan.{Plan, no_edge, size, capacity_of, edges_of, edge_of, first_edge, next}
 use Rattle.plan.specs.PlanRules.{PlanRules}
 use Rattle.plan.specs.PlanArrays.{Grid, RowsOf, at_node, edge_count_in, edges_in, capacities_row, counts_row}
 use Rattle.plan.proofs.ArrayLaws.{capacities_back, count_back, edges_back}
@@ -19,6 +19,18 @@ module _ (p : Plan) (rules : PlanRules p) where
   count_of_lem cs e n = ap (λ (l : List ℕ). edge_count_in l n) e ∙ count_back p rules.nodes_within.1 rules.edges_within n
 
 module _ {p : Plan} {nodes : ℕ} {edges : List ℕ} {lows highs targets : Grid} (rows : RowsOf p nodes edges lows highs targets) where
+  -- The node count is the plan's own.
+  pub own_count : RowsOf p (size p) edges lows highs targets
+  own_count =
+      record {
+        rules = rows.rules;
+        nodes_are = refl;
+        edges_are = rows.edges_are;
+        lows_are = rows.lows_are;
+        highs_are = rows.highs_are;
+        targets_are = rows.targets_are;
+      }
+
   edges_of_lem : (n : ℕ) → edges_in edges lows highs targets n ≡ edges_of p n
   edges_of_lem n =
       rw (rows.edges_are, rows.lows_are, rows.highs_are, rows.targets_are)

@@ -32,6 +32,10 @@ nodes_above n path = place_from 0 n path
 abbrev pub state_by : Plan → Store → State
 state_by p z = state_in (size p) z.clock z.counts z.keys z.kinds z.values z.stamps z.slots
 
+-- The state of these columns. The rules of paths read neither clock nor kinds nor values, and of searches the slots alone.
+abbrev pub keyed : ℕ → List ℕ → List ℕ → List ℕ → State
+keyed nodes counts keys stamps = state_in nodes 0 counts keys [] [] stamps []
+
 -- The stamp of the key's first copy below a node, down its path.
 abbrev pub stamp_below : Plan → Store → ℕ → ℕ → ℕ
 stamp_below p z n k = stamp_of (in_reach p (state_by p z) k (next p n k))

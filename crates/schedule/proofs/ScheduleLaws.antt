@@ -2,25 +2,27 @@
 use mathlib.Core.Path.{◌≡◌, refl, ap, ◌∙◌}
 use mathlib.Core.Bool.{Bool, true, false, cond}
 use mathlib.Core.List.{List, [], ◌∷◌}
-use Prim.Native.Nat.{ℕ, zero, suc, ◌+◌, ◌*◌, ◌<◌, ◌≤◌}
+use mathlib.Core.Logic.{⊎_elim}
+use Prim.Native.Nat.{ℕ, zero, suc, ◌+◌, ◌*◌, ◌^◌, ◌<◌, ◌≤◌}
 use native.Mathlib.Omega.{arith}
 use native.Mathlib.Nat.{le_of_suc-le-suc, not-suc-le-zero}
-use lib.Dec.{leb}
+use lib.Dec.{leb, ltb, lit<}
 use lib.ListN.{length, get_or}
 use borrow.Author.Tests.{leb-true}
-use Rattle.lists.proofs.Truths.{not_both, both_le}
+use Rattle.lists.proofs.Truths.{bool?, not_both, both_le}
 use Rattle.lists.proofs.Standing.{stands_fits_some}
 use Rattle.number.specs.Number.{Reading, Value, Cut, Malformed, narrow, Bytes, form, read_at}
 use Rattle.number.proofs.Forms.{form_one, form_some, form-length}
 use Rattle.plan.specs.Sizes.{last_key}
 use Rattle.plan_table.specs.PlanTable.{plans}
 use Rattle.plan_table.proofs.TableLaws.{plans_few}
+use Rattle.store.specs.declared.Answer.{Answer}
 use Rattle.store.specs.Answers.{PLAN, OP, MANY}
 use Rattle.store.specs.StoreRules.{plan_number_test}
 use Rattle.wire.specs.Reading.{Got, got, fault, bind, numbered, number_at}
 use Rattle.wire.proofs.Chains.{got_or_fault, Gives, gives_got, gives_fault, gives_any, gives_cond, gives_check, gives_bind, number_gives}
 use Rattle.schedule.specs.declared.Step.{Step}
-use Rattle.schedule.specs.Schedule.{ENTER, CANCEL, most_steps, Schedule, known_step, has_two, second_at, step_at, steps_at, schedule_at, records_of}
+use Rattle.schedule.specs.Schedule.{ENTER, CANCEL, most_steps, Schedule, known_step, has_two, second_at, step_at, steps_at, schedule_at, schedule_answer, records_of, decode_answer}
 use Rattle.schedule.specs.Running.{no_step}
 
 -- ---- at most 256 steps, of any list
@@ -97,6 +99,31 @@ known_between number t = both_le ENTER number number CANCEL t
 pub plan_small : (plan : ℕ) → plan_number_test plan ≡ true → plan < 128
 unfolding plan_number_test
 plan_small plan t = let k = both_le 1 plan plan plans t in omega (arith, plans_few)
+
+plan_gives : (s : List ℕ) → Gives (λ d end. d.plan < 128) (schedule_at s)
+unfolding schedule_at
+plan_gives s =
+    gives_bind (number_at narrow s 0) _ (gives_any _) λ plan a u.
+    gives_check (plan_number_test plan) PLAN 0 _ λ t.
+    gives_bind (steps_at s most_steps a) _ (gives_any _) λ xs b h. gives_got (plan_small plan t)
+
+schedule_plan_small : (s : List ℕ) → (schedule_answer (schedule_at s)).b < 128
+schedule_plan_small s = go (schedule_at s) (plan_gives s)
+  where
+    go : (g : Got Schedule) → Gives (λ d end. d.plan < 128) g → (schedule_answer g).b < 128
+    go (got d end) h = h.each d end refl
+    go (fault number at) h = omega arith
+
+-- So decode's b is a number of 32 bits.
+pub decode_b_fits : (s : List ℕ) (before : List Step) {r : Answer} → r ≡ decode_answer s before → r.b < 2 ^ 32
+unfolding decode_answer
+decode_b_fits s before {r} e = ⊎_elim small large (bool? (ltb (length before) most_steps))
+  where
+    small : ltb (length before) most_steps ≡ true → r.b < 2 ^ 32
+    small t = rw (e, t) (lit< tt)
+
+    large : ltb (length before) most_steps ≡ false → r.b < 2 ^ 32
+    large t = let h = schedule_plan_small s in rw (e, t) (omega arith)
 
 module _ (s : List ℕ) where
   no_steps : (at : ℕ) → length s ≤ at → StepsGiven s at [] at

@@ -11,6 +11,7 @@ use Rattle.plan.specs.declared.rows.Rows.{Rows}
 use Rattle.plan.specs.Plan.{Plan}
 use Rattle.plan.specs.PlanArrays.{rows_of}
 use Rattle.plan.proofs.PathLaws.{path_within}
+use Rattle.plan.proofs.RowsLent.{own_count}
 use Rattle.plan_table.specs.PlanTable.{plan_numbered}
 use Rattle.store.specs.declared.Answer.{Answer}
 use Rattle.store.specs.declared.Slot.{Slot}
@@ -27,7 +28,6 @@ use Rattle.store.proofs.Lifting.{plan_good, state_good, good_ordered, good_back,
 use Rattle.steps.specs.Searches.{step_step}
 use Rattle.steps.proofs.LineSteps.{Still, step_still}
 use Rattle.steps.proofs.OnPaths.{on_path_in_plan}
-use Rattle.looks.proofs.Descending.{own_count}
 use Rattle.slots.specs.Workers.{with_slots, outcome_of, Moved, moved, moved_by, ChangesBy, Steppable, SearchesIn, StepsBy}
 
 -- A bad store is refused.
@@ -42,7 +42,7 @@ module _ (z : Store) (good : good_store z ≡ true) where
   unfolding state_of
   on_its_path i h runs = ((state_good z good).running_searches_on_their_paths i h runs).1
 
-  good_searches : SearchesIn (plan_of z) z.slots
+  pub good_searches : SearchesIn (plan_of z) z.slots
   good_searches i h runs =
       let q = get_or z.slots i idle in
       on_path_in_plan (plan_of z) (plan_good z good) q.key q.node q.visits (on_its_path i h runs)

@@ -1,11 +1,11 @@
 -- A list with one thing put in and those after it moved up: how it is made, and what it holds.
 use mathlib.Core.Path.{◌≡◌, sym, ap, ◌∙◌}
-use mathlib.Core.List.{List, ◌∷◌, ◌++◌}
+use mathlib.Core.List.{List, [], ◌∷◌, ◌++◌, append_assoc}
 use Prim.Native.Nat.{ℕ, suc, ◌+◌, ◌-◌, ◌≤◌, ◌<◌}
 use native.Mathlib.Omega.{arith}
 use native.Mathlib.Decide.{dec_lt}
 use lib.ListN.{length, get_or, take, drop, set, length-append, length-take, length-drop, length-set, get_or-append}
-use lib.Seq.{ext_get_or, slice, slice_empty, length-slice, set_at, split_at, get_or-take, get_or-drop, get_or-append-add, get_or_at, length-take-le}
+use lib.Seq.{ext_get_or, slice, slice-cons, slice_empty, length-slice, set_at, take-suc, split_at, get_or-take, get_or-drop, get_or-append-add, get_or_at, length-take-le}
 use Rattle.std.specs.List.{CopiedTo, SameBelow, SameFrom}
 use Rattle.std.proofs.lemmas.List.{get_or-set_same, get_or-set_other}
 use Rattle.lists.proofs.Orders.{Order, order?}
@@ -73,6 +73,20 @@ module _ {A : Type 0} (xs : List A) (end : ℕ) (d : A) (inside : end < length x
   pub opened-set : (at : ℕ) (x y : A) → at ≤ end → set (opened xs at end x) at y ≡ opened xs at end y
   unfolding opened
   opened-set at x y h = set_at (take at xs) x (slice at end xs ++ drop (suc end) xs) y at (length-take-le at xs (omega arith))
+
+  opened_down : (j at : ℕ) → at ≡ suc j → at ≤ end → opened xs at end (get_or xs j d) ≡ opened xs j end (get_or xs j d)
+  unfolding opened
+  opened_down j at q h =
+      let a : j < length xs = omega arith in
+      let b : j < end = omega arith in
+      let c : end ≤ length xs = omega arith in
+      rw (q, take-suc xs j d, slice-cons j end xs d) (append_assoc (take j xs) (get_or xs j d ∷ []) _)
+
+  pub opened_turn : (ys : List A) (at : ℕ) → 0 < at → at ≤ end → ys ≡ opened xs at end (get_or xs at d)
+      → set ys at (get_or ys (at - 1) d) ≡ opened xs (at - 1) end (get_or xs (at - 1) d)
+  opened_turn ys at z h q =
+      rw (q, opened_before at (get_or xs at d) (at - 1) h (omega arith), opened-set at (get_or xs at d) (get_or xs (at - 1) d) h)
+      (opened_down (at - 1) at (omega arith) h)
 
   -- So a list is opened whose part up to the end is copied one place up, and then the new thing stored.
   pub shifted : (ys : List A) (at : ℕ) (x : A) → at ≤ end → length ys ≡ length xs → SameBelow xs ys (at + 1) → CopiedTo xs ys at (at + 1) (end - at)

@@ -40,7 +40,7 @@ module _ (z : Store) where
   capacities_known capacities e = e ∙ ap capacities_row (sym (plan_numbered_lem z))
 
   -- and so are the node count and the rows.
-  rows_known : PlanRules (plan_of z) → (nodes : ℕ) (edges : List ℕ) (lows highs targets : Grid)
+  pub rows_known : PlanRules (plan_of z) → (nodes : ℕ) (edges : List ℕ) (lows highs targets : Grid)
       → nodes ≡ size (plan_numbered z.plan) → edges ≡ counts_row (plan_numbered z.plan)
       → lows ≡ grid_of (λ (e : Edge). e.lowest) (plan_numbered z.plan) → highs ≡ grid_of (λ (e : Edge). e.highest) (plan_numbered z.plan)
       → targets ≡ grid_of (λ (e : Edge). e.target) (plan_numbered z.plan) → RowsOf (plan_of z) nodes edges lows highs targets

@@ -1,5 +1,5 @@
 -- The text of a schedule that was decoded, transcribe's two ways out, and what its caller learns.
-use mathlib.Core.Path.{◌≡◌, refl, sym, ◌∙◌}
+use mathlib.Core.Path.{◌≡◌, refl, sym, ap₂, ◌∙◌}
 use mathlib.Core.List.{List, ◌++◌, append-nil}
 use Prim.Native.Nat.{ℕ, ◌+◌, ◌*◌, ◌≤◌}
 use native.Mathlib.Omega.{arith}
@@ -11,19 +11,36 @@ use Rattle.number.specs.Number.{Bytes}
 use Rattle.store.specs.declared.Answer.{Answer}
 use Rattle.store.specs.Answers.{DONE, answer}
 use Rattle.store.specs.Promises.{fresh_outcome}
-use Rattle.wire.specs.Reading.{got, fault}
+use Rattle.wire.specs.Reading.{Got, got, fault}
 use Rattle.wire.proofs.Buffers.{done_buffer, done_wrote, wrote_end}
 use Rattle.lines.specs.Text.{answer_text, most_text}
 use Rattle.lines.specs.Promises.{Prints}
 use Rattle.schedule.specs.declared.Step.{Step}
-use Rattle.schedule.specs.Schedule.{most_steps, Schedule, schedule_at, decode_answer, decode_list}
+use Rattle.schedule.specs.Schedule.{most_steps, Schedule, schedule_at, schedule_answer, records_of, decode_answer, decode_list}
+use Rattle.schedule.specs.Running.{no_steps}
+use Rattle.schedule.specs.Promises.{Decodes}
 use Rattle.schedule.specs.declared.decoding.Decoded.{Decoded}
 use Rattle.schedule.specs.Workers.{laid_down, decoded_into}
-use Rattle.schedule.proofs.ScheduleLaws.{schedule_refused}
+use Rattle.schedule.proofs.ScheduleLaws.{schedule_few, schedule_refused}
 use Rattle.schedule.proofs.Laid.{laid_got, laid_fault}
 use Rattle.transcript.specs.Transcript.{steps_text, decoded_text, schedule_text, most_transcript}
 use Rattle.transcript.specs.Promises.{Transcribes}
 use Rattle.transcript.proofs.TextWriting.{front_text}
+
+-- ---- an accepted schedule has at most 256 steps
+
+answer_few : (s : List ℕ) → Bytes s → (schedule_answer (schedule_at s)).number ≡ DONE → (schedule_answer (schedule_at s)).a ≤ most_steps
+answer_few s bytes = go (schedule_at s) refl (schedule_few s)
+  where
+    go : (g : Got Schedule) → schedule_at s ≡ g → length (records_of g) ≤ most_steps → (schedule_answer g).number ≡ DONE → (schedule_answer g).a ≤ most_steps
+    go (got d end) e few h = few
+    go (fault number at) e few h = let k = (schedule_refused s bytes e).refusal in absurd (omega (arith, h))
+
+pub decode_few : (s : List ℕ) → Bytes s → {r : Answer} → r ≡ decode_answer s no_steps → r.number ≡ DONE → r.a ≤ most_steps
+unfolding decode_answer
+decode_few s bytes {r} e h =
+    let q : r ≡ schedule_answer (schedule_at s) = e in
+    rw q (answer_few s bytes (rw q at h))
 
 -- ---- the text
 
@@ -48,9 +65,9 @@ module _ (s : List ℕ) where
   -- ---- the ways out
 
   module _ (before : List ℕ) (room : length before ≡ most_transcript) where
-    transcribed : {text : List ℕ} {n : ℕ} {after : List ℕ} → schedule_text s ≡ text → Wrote before 0 text n after → n ≤ most_transcript
+    text_transcribed : {text : List ℕ} {n : ℕ} {after : List ℕ} → schedule_text s ≡ text → Wrote before 0 text n after → n ≤ most_transcript
         → Transcribes s before n after
-    transcribed {text} {n} {after} t w few =
+    text_transcribed {text} {n} {after} t w few =
         let v : Wrote before 0 (schedule_text s) n after = rw t w in
         let fits : length (schedule_text s) ≤ length before = omega (arith, wrote_end v) in
         (wrote_end v, done_wrote (schedule_text s) before fits v ∙ done_buffer (schedule_text s) before fits)
@@ -62,11 +79,21 @@ module _ (s : List ℕ) where
         → Transcribes s before n after
     accepted_way v e same few x p w =
         let t = accepted_text (sym decoded_whole ∙ sym (laid_got _ e)) in
-        transcribed (rw (← same) at t) (wrote_join (rw x at p.0) w.0) (omega (arith, p.1, w.1))
+        text_transcribed (rw (← same) at t) (wrote_join (rw x at p.0) w.0) (omega (arith, p.1, w.1))
 
     pub refused_way : Bytes s → {number at : ℕ} → fault number at ≡ laid_down (decoded_into s most_steps) → {x : Answer} → x ≡ answer number at 0 0 0
         → {n : ℕ} {after : List ℕ} → Prints before 0 0 x n after → Transcribes s before n after
-    refused_way bytes e x p = transcribed (refused_text bytes (sym decoded_whole ∙ sym (laid_fault _ e))) (rw x at p.0) (omega (arith, p.1))
+    refused_way bytes e x p = text_transcribed (refused_text bytes (sym decoded_whole ∙ sym (laid_fault _ e))) (rw x at p.0) (omega (arith, p.1))
+
+-- What decode answers and lays down, written, is the schedule's text.
+pub transcribed : (bytes before : List ℕ) {x : Answer} {steps : List Step} {n : ℕ} {after : List ℕ} → length before ≡ most_transcript
+    → Decodes bytes no_steps x steps → Wrote before 0 (decoded_text x steps) n after × (n ≤ most_transcript) → Transcribes bytes before n after
+unfolding schedule_text
+transcribed bytes before {x} {steps} {n} {after} room d w =
+    let t : decoded_text x steps ≡ schedule_text bytes = ap₂ decoded_text d.0 d.1 in
+    let v : Wrote before 0 (schedule_text bytes) n after = rw t at w.0 in
+    let fits : length (schedule_text bytes) ≤ length before = omega (arith, wrote_end v, w.1) in
+    (wrote_end v, done_wrote (schedule_text bytes) before fits v ∙ done_buffer (schedule_text bytes) before fits)
 
 -- The text lies within its buffer: for a program that passes it on.
 pub text_within : (bytes before : List ℕ) {n : ℕ} {after : List ℕ} → Transcribes bytes before n after → n ≤ length after

@@ -1,19 +1,24 @@
 -- Printed lines written one after another: each turn and each way out.
 use mathlib.Core.Path.{◌≡◌, refl, ap, ap₂, ◌∙◌}
-use mathlib.Core.List.{List, [], ◌++◌}
+use mathlib.Core.List.{List, [], ◌++◌, append-nil}
 use Prim.Native.Nat.{ℕ, zero, suc, ◌+◌, ◌-◌, ◌*◌, ◌<◌, ◌≤◌}
 use native.Mathlib.Omega.{arith}
 use native.Mathlib.Numerals.{add-one}
 use lib.ListN.{length, get_or, get_or-append}
+use borrow.Author.Tests.{eq-eqb, ne_eqb}
 use Rattle.lists.specs.Stands.{Wrote}
 use Rattle.lists.proofs.Standing.{wrote_nil, wrote_join, wrote_length}
+use Rattle.store.specs.declared.Answer.{Answer}
 use Rattle.store.specs.declared.Outcome.{Outcome}
 use Rattle.store.specs.declared.Store.{Store}
+use Rattle.store.specs.Answers.{DONE, answer}
+use Rattle.store.specs.Promises.{fresh_outcome}
 use Rattle.lines.specs.Text.{answer_text, most_text}
 use Rattle.lines.specs.Promises.{Prints}
 use Rattle.schedule.specs.declared.Step.{Step}
+use Rattle.schedule.specs.Schedule.{most_steps}
 use Rattle.schedule.specs.Running.{no_step, record_outcome, run_outcome}
-use Rattle.transcript.specs.Transcript.{steps_text}
+use Rattle.transcript.specs.Transcript.{first_text, steps_text, decoded_text, most_transcript}
 
 -- The printed lines of so many steps were written, and once those of the others are, all were.
 pub record WritingSteps (steps : List Step) (n : ℕ) (first : Store) (before : List ℕ) (from : ℕ) (out : List ℕ) (at : ℕ) (z : Store) (place : ℕ)
@@ -25,6 +30,11 @@ pub record WritingSteps (steps : List Step) (n : ℕ) (first : Store) (before : 
       → Wrote before from (steps_text steps first 0 n) end after
 
 module _ (steps : List Step) (n : ℕ) where
+  pub steps_start : {o q : Outcome} (before : List ℕ) (from : ℕ) → o ≡ q → WritingSteps steps n q.store before from before from o.store 0
+  steps_start before from e =
+      let z : n - 0 ≡ n = omega arith in
+      record { within = omega arith; kept = refl; few = omega arith; joins = λ end after w. rw (z, e) at w }
+
   text_on : (z : Store) (place : ℕ) → place < n → {o : Outcome} → o ≡ record_outcome z (get_or steps place no_step) place
       → steps_text steps z place (n - place)
       ≡ answer_text (get_or steps place no_step).number o.answer ++ steps_text steps o.store (place + 1) (n - (place + 1))
@@ -37,6 +47,10 @@ module _ (steps : List Step) (n : ℕ) where
 
   module _ {first : Store} {before : List ℕ} {from : ℕ} {out : List ℕ} {at : ℕ} {z : Store} {place : ℕ}
       (k : WritingSteps steps n first before from out at z place) where
+    -- A turn has room for its printed line, and writes it.
+    pub step_fits : place < n → from + most_text * n ≤ length before → at + most_text ≤ length out
+    step_fits h room = omega (arith, k.kept, k.few)
+
     pub steps_turn : place < n → {o : Outcome} {next : ℕ} {after : List ℕ} → o ≡ record_outcome z (get_or steps place no_step) place
         → Prints out at (get_or steps place no_step).number o.answer next after
         → WritingSteps steps n first before from after next o.store (place + 1)
@@ -68,3 +82,26 @@ module _ (steps more : List Step) where
       let line = λ (r : Step) (o : Outcome). answer_text r.number o.answer ++ steps_text (steps ++ more) o.store (suc place) n in
       ap₂ line (front_step place (omega arith)) (front_run z place (omega arith))
       ∙ ap (λ (l : List ℕ). answer_text (get_or steps place no_step).number o.answer ++ l) (front_text o.store (suc place) n (omega arith))
+
+-- ---- after the first line
+
+-- After the first line, of a schedule that decode answered with x.
+module _ (x : Answer) (steps : List Step) {y : Answer} {before : List ℕ} {mid : ℕ} {out : List ℕ}
+    (e : y ≡ answer x.number x.a 0 0 0) (p : Prints before 0 0 y mid out) where
+  first_wrote : Wrote before 0 (first_text x) mid out
+  first_wrote = rw e at p.0
+
+  -- A refused one stops there.
+  pub refused_wrote : (x.number ≡ DONE → ⊥) → Wrote before 0 (decoded_text x steps) mid out × (mid ≤ most_transcript)
+  unfolding decoded_text
+  refused_wrote h = (rw (ne_eqb x.number DONE h, append-nil) first_wrote, omega (arith, p.1))
+
+  -- An accepted one has room for the printed lines of its steps, and goes on with them.
+  pub steps_room : x.a ≤ most_steps → most_transcript ≤ length before → mid + most_text * x.a ≤ length out
+  steps_room few room = omega (arith, p.1, wrote_length p.0)
+
+  pub accepted_wrote : x.number ≡ DONE → x.a ≤ most_steps → {next : ℕ} {after : List ℕ}
+      → Wrote out mid (steps_text steps (fresh_outcome x.b).store 0 x.a) next after × (next ≤ mid + most_text * x.a)
+      → Wrote before 0 (decoded_text x steps) next after × (next ≤ most_transcript)
+  unfolding decoded_text
+  accepted_wrote h few v = (rw (eq-eqb x.number DONE h) (wrote_join first_wrote v.0), omega (arith, p.1, v.1))

@@ -23,12 +23,23 @@ module _ {A : Type 0} (bytes : A → List ℕ) (all : List A → List ℕ) (none
   pub parts_off : (i : ℕ) → end ≤ i → parts_from i ≡ []
   parts_off i h = ap all (tabulate_off f i end h) ∙ none
 
+  -- ---- a loop that counts: the bytes counted so far and those of the parts from i on are all
+
+  pub count_on : {total : ℕ} (sum i : ℕ) → i < end → sum + length (parts_from i) ≡ total → sum + length (bytes (f i)) + length (parts_from (i + 1)) ≡ total
+  count_on sum i h e = omega (arith, ap length (parts_on i h), length-append (bytes (f i)) (parts_from (i + 1)))
+
+  pub count_off : {total : ℕ} (sum i : ℕ) → end ≤ i → sum + length (parts_from i) ≡ total → sum ≡ total
+  count_off sum i h e = omega (arith, ap length (parts_off i h))
+
   -- ---- a loop that writes: the parts from i on fit at `at`, and once they are written there, all parts were written
 
   pub record Writes (before : List ℕ) (start : ℕ) (whole : List ℕ) (i at : ℕ) (buffer : List ℕ) : Type 0 where
     pub fits : at + length (parts_from i) ≤ length buffer
     pub kept : length buffer ≡ length before
     pub joins : (next : ℕ) (after : List ℕ) → Wrote buffer at (parts_from i) next after → Wrote before start whole next after
+
+  pub write_begins : (before : List ℕ) (i at : ℕ) → at + length (parts_from i) ≤ length before → Writes before at (parts_from i) i at before
+  write_begins before i at h = record { fits = h; kept = refl; joins = λ next after w. w }
 
   module _ {before : List ℕ} {start : ℕ} {whole : List ℕ} {i at : ℕ} {buffer : List ℕ} (w : Writes before start whole i at buffer) where
     -- There is room for the next part.

@@ -2,10 +2,11 @@
 use mathlib.Core.Path.{refl}
 use borrow.Author.Rules.{rules}
 use Rattle.plan.specs.PlanArrays.{RowsOfPlan}
+use Rattle.plan.proofs.RowsLent.{own_count}
 use Rattle.store.specs.Layout.{plan_of}
 use Rattle.store.proofs.WhichPlan.{rows_here}
 use Rattle.store.proofs.Lifting.{plan_good}
-use Rattle.looks.proofs.Descending.{own_count, good_lookable, look_lent, look_refused}
+use Rattle.looks.proofs.Descending.{good_lookable, look_lent, look_refused}
 use Rattle.looks.proofs.looked.Goals as goal
 use Rattle.looks.proofs.looked.Goals.{After-rows_of}
 
