@@ -22,7 +22,7 @@ use Rattle.store.specs.Layout.{width, copy_in, count_of, node_in, state_in}
 use Rattle.store.specs.Workers.{number_in}
 use Rattle.store.proofs.Laying.{parts_node, parts_past}
 use Rattle.store.proofs.Seeking.{find-map}
-use Rattle.rules_paths.specs.Workers.{keyed, state_by, stamp_below, placed_test, paths_test}
+use Rattle.rules_paths.specs.Workers.{keyed, stamp_below, placed_test, paths_test}
 
 -- One copy.
 module _ (p : Plan) (z : Store) (n i : ℕ) where
