@@ -53,7 +53,6 @@ fn read_second(bytes: &[u8], number: u32, at: usize) -> Result<Read<u32>, Fault>
     wire::read_where(has_two(number), bytes, at)
 }
 
-// (Like read_schedule in its skeleton alone.)
 // A step: its number (OP if unknown), then its own numbers.
 #[tactic(auto, unfolding(crate::specs::Schedule::step_at, wire::specs::Reading::bind))]
 fn read_step(bytes: &[u8], at: usize) -> Result<Read<Step>, Fault>
